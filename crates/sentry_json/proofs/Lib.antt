@@ -1,0 +1,9 @@
+pub mod Options
+pub mod ReadBack
+pub mod Pieces
+pub mod Strings
+pub mod Bytes
+pub mod Texts
+pub mod Regular
+pub mod Sound
+pub mod Lines
