@@ -1,0 +1,17 @@
+pub mod Members
+pub mod Proper
+pub mod Refused
+pub mod Basic
+pub mod Nulls
+pub mod Normal
+pub mod Back
+pub mod Only
+pub mod Shown
+pub mod Sound
+pub mod Rewritten
+pub mod Decide
+pub mod Timeless
+pub mod Depth
+pub mod Laws
+pub mod Given
+pub mod Sample

@@ -1,0 +1,10 @@
+pub mod Basic
+pub mod Cell
+pub mod Fields
+pub mod Kind
+pub mod Lawful
+pub mod Laws
+pub mod Meets
+pub mod Norm
+pub mod Shows
+pub mod Written
