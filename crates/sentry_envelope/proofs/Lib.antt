@@ -1,0 +1,12 @@
+pub mod Machine
+pub mod Pieces
+pub mod Scan
+pub mod LineEnds
+pub mod Opening
+pub mod Tails
+pub mod Outcomes
+pub mod Verdicts
+pub mod TreeLines
+pub mod Faults
+pub mod Headers
+pub mod Written

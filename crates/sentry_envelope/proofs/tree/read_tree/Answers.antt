@@ -1,0 +1,23 @@
+use Rattle.std.proofs.Common.{◌≡◌, sym, ap, ◌∙◌, Result, Err, true≢false}
+use Rattle.serde_json.specs.View.{view}
+use Rattle.sentry_json.proofs.Lines.{tree_of_from}
+use Rattle.sentry_envelope.proofs.TreeLines.{tree_float, tree_none}
+use Rattle.sentry_envelope.proofs.tree.read_tree.Goals as goal
+
+err_same : {T E : Type 0} (r : Result T E) (a b : E) → r ≡ Err a → r ≡ Err b → a ≡ b
+err_same r a b e f = cc
+
+pub returns-in-Ok-clause-misfit : goal.returns-in-Ok-clause-misfit
+returns-in-Ok-clause-misfit c =
+    let ok = c.in-Ok.ensures.ok in
+    λ _. tree_float c.args.line.now (view c.in-Ok.tree) ok.0 ok.1 (sym c.has_float.ensures ∙ c.if-has_float.true)
+
+pub returns-in-Ok-2-clause-ok : goal.returns-in-Ok-2-clause-ok
+returns-in-Ok-2-clause-ok c =
+    let ok = c.in-Ok.ensures.ok in
+    tree_of_from c.args.line.now (view c.in-Ok.tree) ok.0 ok.1 (sym c.has_float.ensures ∙ c.if-has_float.false)
+
+pub returns-in-Err-2-clause-misfit : goal.returns-in-Err-2-clause-misfit
+returns-in-Err-2-clause-misfit c =
+    let same : c.in-Err-2.field-0 ≡ c.in-Err.error = err_same c.from_slice.result c.in-Err-2.field-0 c.in-Err.error c.in-Err-2.is c.in-Err.is in
+    λ _. tree_none c.args.line.now (c.in-Err-2.ensures.err (λ m. true≢false (sym (c.if-is_memory.ensures.1 (sym (ap (λ e. e.code) same) ∙ m)))))

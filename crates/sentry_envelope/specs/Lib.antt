@@ -1,0 +1,8 @@
+pub mod Counted
+pub mod Framing
+pub mod HeaderView
+pub mod ItemHeader
+pub mod ItemWords
+pub mod Unread
+pub mod View
+pub mod Writable

@@ -1,0 +1,47 @@
+// Why an envelope was refused, or not written.
+use thiserror::Error;
+
+/// Why bytes are no envelope.
+///
+/// The texts are those of Sentry's own crate `sentry-types`.
+#[derive(Debug, Drop, Error)]
+pub enum EnvelopeError {
+    /// Fewer bytes are left than an item needs.
+    #[error("unexpected end of file")]
+    UnexpectedEof,
+    /// Not answered by any call: an empty header line is an `InvalidHeader`.
+    #[error("missing envelope header")]
+    MissingHeader,
+    /// Not answered by any call: bytes that are no item header are an `InvalidItemHeader`.
+    #[error("missing item header")]
+    MissingItemHeader,
+    /// Something else than a line feed or the end follows an item header, or a payload of a stated length.
+    #[error("missing newline after header or payload")]
+    MissingNewline,
+    /// The first line isn't one JSON object without floats whose fields fit.
+    #[error("invalid envelope header")]
+    InvalidHeader,
+    /// No JSON object without floats whose fields fit stands where an item begins.
+    #[error("invalid item header")]
+    InvalidItemHeader,
+    /// The payload isn't one JSON text without floats that its type reads.
+    #[error("invalid item payload")]
+    InvalidItemPayload,
+    /// Memory was refused; the bytes may be an envelope.
+    #[error("out of memory")]
+    OutOfMemory,
+}
+
+/// Why an envelope was not written, or not in full.
+#[derive(Debug, Drop, Error)]
+pub enum EnvelopeWriteError {
+    /// The envelope can't be written as it stands. Nothing was written.
+    #[error("NotPlain")]
+    NotPlain,
+    /// Memory was refused. Nothing was written.
+    #[error("out of memory")]
+    Memory,
+    /// A write failed. A beginning of the text was written, and not the whole.
+    #[error("Io")]
+    Io,
+}
