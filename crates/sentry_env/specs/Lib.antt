@@ -1,0 +1,4 @@
+pub mod Kind
+pub mod Args
+pub mod Ending
+pub mod Reading

@@ -1,0 +1,57 @@
+//! Rewrites a Sentry envelope, and takes the items of some kinds out of it.
+//!
+//! `sentry_env [-k] [-f PATH] KIND..` reads an envelope from the file PATH, or from standard input
+//! without `-f`. A KIND is a word that names a type of items. With `-k` the headers stay when items
+//! are taken out. The exit status is 0 where an envelope was written, 1 where no item was left, 2
+//! where the bytes are no envelope or can't be read, 3 where the words are no call, and 4 where
+//! memory ran out or a write failed.
+#![tactic(auto)]
+
+mod args;
+mod ending;
+mod kind;
+mod laws;
+mod read_all;
+#[cfg(test)]
+mod tests;
+
+use args::{Args, program_args};
+use ending::{Outcome, RunError, ending, usage};
+use sentry_envelope::CountedReader;
+use std::fs;
+use std::io::Read;
+use std::process::ExitCode;
+
+// What the program does for a call.
+fn answer_call(rt: &HostRuntime, args: &Args) -> Result<Outcome, RunError> {
+    match &args.path {
+        Some(path) => match fs::open(rt, path.as_str()) {
+            Ok(file) => rewrite(rt, args, file),
+            Err(_) => Err(RunError::Read),
+        },
+        None => rewrite(rt, args, rt.stdin()),
+    }
+}
+
+// Rewrites what a source holds.
+fn rewrite<R: Read>(rt: &HostRuntime, _args: &Args, source: R) -> Result<Outcome, RunError>
+where
+    R: Drop,
+{
+    let mut reader = CountedReader::new(source);
+    // `run` takes this line's place.
+    let _bytes = read_all::read_all(rt.alloc(), &mut reader)?;
+    Ok(Outcome::Written)
+}
+
+fn main(rt: HostRuntime) -> ExitCode {
+    let (status, line) = match program_args(&rt) {
+        Ok(Some(args)) => ending(&answer_call(&rt, &args)),
+        Ok(None) => usage(),
+        Err(_) => ending(&Err(RunError::Memory)),
+    };
+    if !line.is_empty() {
+        let _ = rt.eprintln(line);
+    }
+    ExitCode::from(status)
+}
