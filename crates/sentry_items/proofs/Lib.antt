@@ -1,0 +1,2 @@
+pub mod HeaderTokens
+pub mod Sent

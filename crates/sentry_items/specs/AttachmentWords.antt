@@ -1,0 +1,42 @@
+-- The types of attachments: five known words, and any other text.
+use Rattle.std.specs.Prelude.{◌≡◌, ℕ, zero, suc, List, [], ◌∷◌, true, codes, cond, IsUtf8}
+use Rattle.sentry_tables.specs.Cell.{Cell, text, choice}
+use Rattle.sentry_tables.specs.Kind.{has_key}
+
+abbrev pub attachment_words : List (List ℕ)
+attachment_words =
+    codes "event.attachment" ∷ codes "event.minidump" ∷ codes "event.applecrashreport" ∷ codes "unreal.context" ∷ codes "unreal.logs" ∷ []
+
+-- a type is its word, as a known one or as a custom one
+abbrev pub known : List ℕ → Cell
+known word = choice 0 (text word)
+
+abbrev pub custom : List ℕ → Cell
+custom word = choice 1 (text word)
+
+-- the type that a text is read as: a known one where the text is its word
+abbrev pub attachment_type_of : List ℕ → Cell
+attachment_type_of word = cond (has_key word attachment_words) (known word) (custom word)
+
+abbrev pub word_in : Cell → List ℕ
+word_in (text word) = word
+word_in _ = []
+
+-- the text of a type
+abbrev pub attachment_type_text : Cell → List ℕ
+attachment_type_text (choice n c) = word_in c
+attachment_type_text _ = []
+
+abbrev pub IsUtf8Text : Cell → Type 0
+IsUtf8Text (text word) = IsUtf8 word
+IsUtf8Text _ = ⊥
+
+abbrev pub IsKnownWord : Cell → Type 0
+IsKnownWord (text word) = has_key word attachment_words ≡ true
+IsKnownWord _ = ⊥
+
+-- what Rust's type holds: a known type, or a text as a custom one
+abbrev pub IsAttachmentType : Cell → Type 0
+IsAttachmentType (choice zero c) = IsKnownWord c
+IsAttachmentType (choice (suc zero) c) = IsUtf8Text c
+IsAttachmentType _ = ⊥

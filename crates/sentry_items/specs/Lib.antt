@@ -1,0 +1,5 @@
+pub mod Attached
+pub mod AttachmentWords
+pub mod Counted
+pub mod HeaderTokens
+pub mod View

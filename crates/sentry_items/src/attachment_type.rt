@@ -1,0 +1,75 @@
+//! What an attachment is for.
+
+use std::alloc::{AllocError, Global};
+
+/// The type of an attachment.
+///
+/// Sentry treats the known types apart: <https://develop.sentry.dev/sdk/data-model/envelope-items/#attachment>.
+/// Two types are equal where they are the same variant, so that a custom type whose text is a known word isn't that known type.
+#[derive(Debug, Default, Drop, PartialEq, Eq)]
+pub enum AttachmentType {
+    /// A file without a special meaning: `event.attachment`.
+    #[default]
+    Attachment,
+    /// A minidump, from which Sentry makes an event: `event.minidump`.
+    Minidump,
+    /// An Apple crash report, from which Sentry makes an event: `event.applecrashreport`.
+    AppleCrashReport,
+    /// The context file of an Unreal Engine crash: `unreal.context`.
+    UnrealContext,
+    /// The log file of an Unreal Engine crash: `unreal.logs`.
+    UnrealLogs,
+    /// Any other type, by its text.
+    Custom(String),
+}
+
+impl AttachmentType {
+    ghost use Rattle.std.specs.Prelude.{◌≡◌, IfOk};
+    ghost use Rattle.sentry_items.specs.AttachmentWords.{attachment_type_of, attachment_type_text, IsAttachmentType};
+    ghost use Rattle.sentry_items.specs.View.{attachment_type_cell};
+
+    /// The text that stands for the type in an item header.
+    pub fn as_str(&self) -> &str
+        ensures text { result.now ≡ attachment_type_text (attachment_type_cell self.now) }
+        ensures stored { IsAttachmentType (attachment_type_cell self.now) }
+    {
+        match self {
+            AttachmentType::Attachment => "event.attachment",
+            AttachmentType::Minidump => "event.minidump",
+            AttachmentType::AppleCrashReport => "event.applecrashreport",
+            AttachmentType::UnrealContext => "unreal.context",
+            AttachmentType::UnrealLogs => "unreal.logs",
+            AttachmentType::Custom(text) => text.as_str(),
+        }
+    }
+
+    /// The type that a text stands for: a known one where the text is its word, and else a custom one.
+    ///
+    /// It fails where memory for a custom text is refused.
+    pub fn from_text(alloc: Global, text: &str) -> Result<AttachmentType, AllocError>
+        ensures { IfOk result (λ ty. attachment_type_cell ty ≡ attachment_type_of text.now) }
+    {
+        match text {
+            "event.attachment" => Ok(AttachmentType::Attachment),
+            "event.minidump" => Ok(AttachmentType::Minidump),
+            "event.applecrashreport" => Ok(AttachmentType::AppleCrashReport),
+            "unreal.context" => Ok(AttachmentType::UnrealContext),
+            "unreal.logs" => Ok(AttachmentType::UnrealLogs),
+            _ => Ok(AttachmentType::Custom(String::from_str(alloc, text)?)),
+        }
+    }
+
+    /// The same type. It fails where memory for a custom text is refused.
+    pub fn clone(&self) -> Result<AttachmentType, AllocError>
+        ensures { IfOk result (λ ty. attachment_type_cell ty ≡ attachment_type_cell self.now) }
+    {
+        match self {
+            AttachmentType::Attachment => Ok(AttachmentType::Attachment),
+            AttachmentType::Minidump => Ok(AttachmentType::Minidump),
+            AttachmentType::AppleCrashReport => Ok(AttachmentType::AppleCrashReport),
+            AttachmentType::UnrealContext => Ok(AttachmentType::UnrealContext),
+            AttachmentType::UnrealLogs => Ok(AttachmentType::UnrealLogs),
+            AttachmentType::Custom(text) => Ok(AttachmentType::Custom(text.clone()?)),
+        }
+    }
+}

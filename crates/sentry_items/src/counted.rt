@@ -1,0 +1,185 @@
+//! A writer and a reader that count their failures, and sending a whole text.
+ghost use Rattle.std.specs.Prelude.{◌≡◌, ◌+◌, ◌-◌, ◌^◌, ◌<◌, ◌++◌, OnOk, OnErr, if◌then◌else◌};
+ghost use Rattle.std.specs.Io.{ReadsAtMost, WritesAtMost};
+ghost use Rattle.std.specs.Io.KnownBytes.{Appends, ReadConsumes, WriteAppends};
+ghost use Rattle.sentry_items.specs.Counted.{reader_inside, reader_failures, writer_inside, writer_failures, write_fails, AppendsFront};
+
+use std::io;
+use std::io::{Read, Write};
+
+/// A write failed while a text was sent: a beginning of it was written, and not the whole.
+#[derive(Debug, Drop)]
+pub struct SendFailed;
+
+/// A writer that counts the writes that fail: by an error, or by taking none of one or more bytes.
+///
+/// An interrupted write is a failure like any other.
+#[derive(Drop)]
+pub struct CountedWriter<W> {
+    inner: W,
+    failures: u64,
+}
+
+impl<W> CountedWriter<W> {
+    /// A writer of which no write has failed yet.
+    pub fn new(inner: W) -> Self
+        ensures inside { writer_inside result ≡ inner }
+        ensures failures { writer_failures result ≡ 0 }
+    {
+        CountedWriter { inner, failures: 0 }
+    }
+
+    /// How many writes have failed.
+    pub fn failures(&self) -> u64
+        ensures { result ≡ writer_failures self.now }
+    {
+        self.failures
+    }
+
+    /// The writer inside.
+    pub fn into_inner(self) -> W
+        ensures { result ≡ writer_inside self }
+    {
+        let CountedWriter { inner, failures: _ } = self;
+        inner
+    }
+}
+
+impl<W: Write> CountedWriter<W> {
+    /// Writes as the writer inside does, and counts a failure.
+    pub fn write(&mut self, bytes: &[u8]) -> io::Result<usize>
+        requires { writer_failures self.old < 2 ^ 64 - 1 }
+        ensures bound { WritesAtMost result bytes.now }
+        ensures bytes { WriteAppends (W.contents (writer_inside self.old)) (W.contents (writer_inside self.new)) result bytes.now }
+        ensures failures { writer_failures self.new ≡ (if write_fails result bytes.now then writer_failures self.old + 1 else writer_failures self.old) }
+    {
+        write_counting(bytes, &mut self.inner, &mut self.failures)
+    }
+}
+
+/// A reader that counts the reads that answer an error.
+///
+/// An interrupted read is a failure like any other.
+#[derive(Drop)]
+pub struct CountedReader<R> {
+    inner: R,
+    failures: u64,
+}
+
+impl<R> CountedReader<R> {
+    /// A reader of which no read has failed yet.
+    pub fn new(inner: R) -> Self
+        ensures inside { reader_inside result ≡ inner }
+        ensures failures { reader_failures result ≡ 0 }
+    {
+        CountedReader { inner, failures: 0 }
+    }
+
+    /// How many reads have failed.
+    pub fn failures(&self) -> u64
+        ensures { result ≡ reader_failures self.now }
+    {
+        self.failures
+    }
+
+    /// The reader inside.
+    pub fn into_inner(self) -> R
+        ensures { result ≡ reader_inside self }
+    {
+        let CountedReader { inner, failures: _ } = self;
+        inner
+    }
+}
+
+impl<R: Read> CountedReader<R> {
+    ghost use Rattle.sentry_items.specs.Counted.{read_fails};
+
+    /// Reads as the reader inside does, and counts a failure.
+    pub fn read(&mut self, buffer: &mut [u8]) -> io::Result<usize>
+        requires { reader_failures self.old < 2 ^ 64 - 1 }
+        ensures bound { ReadsAtMost result buffer.new }
+        ensures bytes { ReadConsumes (R.remaining (reader_inside self.old)) (R.remaining (reader_inside self.new)) result buffer.new }
+        ensures failures { reader_failures self.new ≡ (if read_fails result then reader_failures self.old + 1 else reader_failures self.old) }
+    {
+        let result = self.inner.read(buffer);
+        if result.is_err() {
+            self.failures += 1;
+        }
+        result
+    }
+}
+
+/// Writes to a writer, and counts a failure.
+fn write_counting<W: Write>(bytes: &[u8], writer: &mut W, failures: &mut u64) -> io::Result<usize>
+    requires { failures.old < 2 ^ 64 - 1 }
+    ensures bound { WritesAtMost result bytes.now }
+    ensures bytes { WriteAppends (W.contents writer.old) (W.contents writer.new) result bytes.now }
+    ensures failures { failures.new ≡ (if write_fails result bytes.now then failures.old + 1 else failures.old) }
+{
+    let result = writer.write(bytes);
+    let failed = match &result {
+        Ok(count) => *count == 0 && !bytes.is_empty(),
+        Err(_) => true,
+    };
+    if failed {
+        *failures += 1;
+    }
+    result
+}
+
+/// Sends a text by as many writes as it takes, and counts a failure.
+fn send_counting<W: Write>(
+    text: &[u8],
+    writer: &mut W,
+    failures: &mut u64,
+) -> Result<(), SendFailed>
+    requires { failures.old < 2 ^ 64 - 1 }
+    ensures whole { OnOk result (Appends (W.contents writer.old) (W.contents writer.new) text.now) }
+    ensures front { OnErr result (AppendsFront (W.contents writer.old) (W.contents writer.new) text.now) }
+    ensures no_failure { OnOk result (failures.new ≡ failures.old) }
+    ensures one_failure { OnErr result (failures.new ≡ failures.old + 1) }
+{
+    let mut rest = text;
+    while !rest.is_empty() {
+        match write_counting(rest, writer, failures) {
+            Ok(count) if count > 0 => rest = &rest[count..],
+            _ => return Err(SendFailed),
+        }
+    }
+    Ok(())
+}
+
+/// Sends a text to a counted writer, by as many writes as it takes.
+///
+/// It fails at the first write that fails, is interrupted, or takes none of one or more bytes, and that write is counted.
+pub fn send<W: Write>(text: &[u8], writer: &mut CountedWriter<W>) -> Result<(), SendFailed>
+    requires { writer_failures writer.old < 2 ^ 64 - 1 }
+    ensures whole { OnOk result (Appends (W.contents (writer_inside writer.old)) (W.contents (writer_inside writer.new)) text.now) }
+    ensures front { OnErr result (AppendsFront (W.contents (writer_inside writer.old)) (W.contents (writer_inside writer.new)) text.now) }
+    ensures no_failure { OnOk result (writer_failures writer.new ≡ writer_failures writer.old) }
+    ensures one_failure { OnErr result (writer_failures writer.new ≡ writer_failures writer.old + 1) }
+{
+    send_counting(text, &mut writer.inner, &mut writer.failures)
+}
+
+/// Sends a text to a writer that counts nothing, by as many writes as it takes.
+///
+/// It fails at the first write that fails, is interrupted, or takes none of one or more bytes.
+pub fn send_plain<W: Write>(text: &[u8], writer: &mut W) -> Result<(), SendFailed>
+    ensures whole { OnOk result (Appends (W.contents writer.old) (W.contents writer.new) text.now) }
+    ensures front { OnErr result (AppendsFront (W.contents writer.old) (W.contents writer.new) text.now) }
+{
+    let mut failures = 0;
+    send_counting(text, writer, &mut failures)
+}
+
+/// Sends one text and then another, as if they were one, to a writer that counts nothing.
+///
+/// It fails at the first write that fails, is interrupted, or takes none of one or more bytes.
+pub fn send_both<W: Write>(first: &[u8], second: &[u8], writer: &mut W) -> Result<(), SendFailed>
+    ensures whole { OnOk result (Appends (W.contents writer.old) (W.contents writer.new) (first.now ++ second.now)) }
+    ensures front { OnErr result (AppendsFront (W.contents writer.old) (W.contents writer.new) (first.now ++ second.now)) }
+{
+    send_plain(first, writer)?;
+    send_plain(second, writer)
+}

@@ -1,0 +1,60 @@
+//! What an envelope holds.
+
+use crate::attachment::Attachment;
+use crate::replay_recording::ReplayRecording;
+use std::alloc::AllocError;
+
+/// One item of an envelope.
+///
+/// <https://develop.sentry.dev/sdk/data-model/envelope-items/>
+#[derive(Debug, Drop, PartialEq)]
+pub enum EnvelopeItem {
+    /// An attachment.
+    Attachment(Attachment),
+    /// The recording of a replay.
+    ReplayRecording(ReplayRecording),
+    /// Stands for a whole envelope of bytes that nothing read. The envelope keeps the bytes.
+    Raw,
+}
+
+impl EnvelopeItem {
+    ghost use Rattle.std.specs.Prelude.{◌≡◌, IfOk};
+    ghost use Rattle.sentry_items.specs.View.{item_view};
+
+    /// The same item. It fails where memory is refused.
+    pub fn clone(&self) -> Result<EnvelopeItem, AllocError>
+        ensures { IfOk result (λ item. item_view item ≡ item_view self.now) }
+    {
+        match self {
+            EnvelopeItem::Attachment(attachment) => Ok(EnvelopeItem::Attachment(
+                attachment.clone()?,
+            )),
+            EnvelopeItem::ReplayRecording(recording) => Ok(EnvelopeItem::ReplayRecording(
+                recording.clone()?,
+            )),
+            EnvelopeItem::Raw => Ok(EnvelopeItem::Raw),
+        }
+    }
+}
+
+impl From<Attachment> for EnvelopeItem {
+    ghost use Rattle.std.specs.Prelude.{◌≡◌};
+    ghost use Rattle.sentry_items.specs.declared.item.EnvelopeItem.TheVariants as variants;
+
+    ghost from_gives = { λ attachment item. item ≡ variants.Attachment attachment };
+
+    fn from(attachment: Attachment) -> EnvelopeItem {
+        EnvelopeItem::Attachment(attachment)
+    }
+}
+
+impl From<ReplayRecording> for EnvelopeItem {
+    ghost use Rattle.std.specs.Prelude.{◌≡◌};
+    ghost use Rattle.sentry_items.specs.declared.item.EnvelopeItem.TheVariants as variants;
+
+    ghost from_gives = { λ recording item. item ≡ variants.ReplayRecording recording };
+
+    fn from(recording: ReplayRecording) -> EnvelopeItem {
+        EnvelopeItem::ReplayRecording(recording)
+    }
+}

@@ -1,0 +1,34 @@
+//! Recordings of replays.
+
+use std::alloc::{AllocError, Global};
+
+/// The recording of a replay: bytes that nothing here reads.
+///
+/// <https://develop.sentry.dev/sdk/data-model/envelope-items/#replay-recording>
+#[derive(Debug, Drop, PartialEq)]
+pub struct ReplayRecording {
+    /// The bytes.
+    pub buffer: Vec<u8>,
+}
+
+impl ReplayRecording {
+    ghost use Rattle.std.specs.Prelude.{◌≡◌, [], IfOk};
+
+    /// A recording of no bytes.
+    pub fn default_in(alloc: Global) -> ReplayRecording
+        ensures { result.buffer.items ≡ [] }
+    {
+        ReplayRecording {
+            buffer: Vec::new(alloc),
+        }
+    }
+
+    /// The same recording. It fails where memory is refused.
+    pub fn clone(&self) -> Result<ReplayRecording, AllocError>
+        ensures { IfOk result (λ recording. recording.buffer.items ≡ self.now.buffer.items) }
+    {
+        Ok(ReplayRecording {
+            buffer: self.buffer.clone()?,
+        })
+    }
+}
