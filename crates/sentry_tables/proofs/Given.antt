@@ -59,7 +59,7 @@ put_later : (l k : List ℕ) (e d : Data) (rest : Members) → slice_cmp nat_cmp
 put_later l k e d rest is = rw is
 
 -- members of later keys are put after the first
-put_all_later : (k : List ℕ) (d : Data) (ms rest : Members) → AllAfter k ms → put_all ms (member k d rest) ≡ member k d (put_all ms rest)
+pub put_all_later : (k : List ℕ) (d : Data) (ms rest : Members) → AllAfter k ms → put_all ms (member k d rest) ≡ member k d (put_all ms rest)
 put_all_later k d no_members rest h = refl
 put_all_later k d (member l e ms) rest h =
     let above : slice_cmp nat_cmp l k ≡ Greater = nat_list_cmp_total.antisymm l k ∙ ap ordering_reverse h.0 in

@@ -1,0 +1,29 @@
+use Rattle.std.proofs.Common.{◌≡◌, Some, take, arith, rules}
+use Rattle.std.proofs.lemmas.List.{take_all}
+use Rattle.serde_json.specs.View.{view, items_view}
+use Rattle.serde_json.specs.Find.{as_array}
+use Rattle.sentry_words.specs.Reading.{Only, RefusedAt}
+use Rattle.sentry_tables.specs.Kind.{list}
+use Rattle.sentry_text.specs.Moments.{moment_cell}
+use Rattle.sentry_words.proofs.ListsShown.{not_array_at, list_fails_at, list_shown_at, each_more_at, shown_here}
+use Rattle.sentry_text.proofs.timed.VecFromTreeAt.from_tree.Goals as goal
+
+pub returns-in-None : goal.returns-in-None
+returns-in-None g c = not_array_at _ _ _ (search rules)
+
+pub returns-in_err-from_tree : goal.returns-in_err-from_tree
+returns-in_err-from_tree g c =
+    let vs = c.deref-item-items.result.now in
+    let is : as_array (view c.args.tree.now) ≡ Some (items_view vs) = search rules in
+    let h : Only c.in_err-from_tree.field-0.0 (RefusedAt (moment_cell c.args.now) (list g.T.Member.kind) (view c.args.tree.now)) = list_fails_at _ _ _ vs c.loop-item.item-index c.item-item.result _ is (omega arith) c.item-item.is c.in_err-from_tree.ensures in
+    search rules
+
+pub loop-item-preserved : goal.loop-item-preserved
+loop-item-preserved g c = each_more_at _ _ c.deref-item-items.result.now c.loop-item.item-index c.item-item.result _ _ _ (omega arith) c.item-item.is c.in_ok-push.ensures.items c.loop-item.invariant (shown_here _ _ _ _ c.in_ok-from_tree.ensures)
+
+pub returns : goal.returns
+returns g c =
+    let vs = c.deref-item-items.result.now in
+    let is : as_array (view c.args.tree.now) ≡ Some (items_view vs) = search rules in
+    let ends : take c.loop-item.item-index vs ≡ vs = take_all c.loop-item.item-index vs (omega arith) in
+    list_shown_at _ _ _ _ vs _ is (rw ends at c.loop-item.invariant)
