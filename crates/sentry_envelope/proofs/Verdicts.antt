@@ -21,7 +21,7 @@ opens_within body header after o =
     let some = header_some o.balanced in
     omega (arith, ap length o.parts, length-append o.space (header ++ after), length-append header after)
 
-frame_shorter : (reads : Reading) (body : List ℕ) (f : Frame) (rest : List ℕ) → IsFirstFrame reads body f rest → length rest < length body
+pub frame_shorter : (reads : Reading) (body : List ℕ) (f : Frame) (rest : List ℕ) → IsFirstFrame reads body f rest → length rest < length body
 frame_shorter reads body f rest h =
     let a = opens_within body f.header h.after h.opens in
     let b = follows_within h.after f.payload rest h.follows in

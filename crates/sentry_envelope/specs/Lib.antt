@@ -1,8 +1,14 @@
-pub mod Counted
+pub mod Envelope
+pub mod EnvelopeFault
+pub mod EnvelopeLaws
+pub mod EnvelopeView
 pub mod Framing
+pub mod HeaderFields
 pub mod HeaderView
 pub mod ItemHeader
 pub mod ItemWords
+pub mod ItemsLeft
+pub mod Profile
+pub mod SentryProfile
 pub mod Unread
 pub mod View
-pub mod Writable

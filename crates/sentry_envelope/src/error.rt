@@ -1,4 +1,5 @@
 // Why an envelope was refused, or not written.
+use std::alloc::{AllocError, AllocFailed};
 use thiserror::Error;
 
 /// Why bytes are no envelope.
@@ -30,6 +31,28 @@ pub enum EnvelopeError {
     /// Memory was refused; the bytes may be an envelope.
     #[error("out of memory")]
     OutOfMemory,
+}
+
+impl From<AllocError> for EnvelopeError {
+    ghost use Rattle.std.specs.Prelude.{◌≡◌};
+    ghost use Rattle.sentry_envelope.specs.declared.error.EnvelopeError.TheVariants.{OutOfMemory};
+
+    ghost from_gives = { λ _ e. e ≡ OutOfMemory };
+
+    fn from(_error: AllocError) -> EnvelopeError {
+        EnvelopeError::OutOfMemory
+    }
+}
+
+impl<T: Drop> From<AllocFailed<T>> for EnvelopeError {
+    ghost use Rattle.std.specs.Prelude.{◌≡◌};
+    ghost use Rattle.sentry_envelope.specs.declared.error.EnvelopeError.TheVariants.{OutOfMemory};
+
+    ghost from_gives = { λ _ e. e ≡ OutOfMemory };
+
+    fn from(_error: AllocFailed<T>) -> EnvelopeError {
+        EnvelopeError::OutOfMemory
+    }
 }
 
 /// Why an envelope was not written, or not in full.

@@ -1,12 +1,11 @@
 // What holds of the definitions alone.
 ghost use Rattle.std.specs.Prelude.{◌≡◌, ◌⊎◌, ◌++◌, [], List, ℕ, Option, Some};
-ghost use Rattle.std.specs.List.{AllByRecursion};
 ghost use Rattle.serde_json.specs.Data.{Data, Members, object};
 ghost use Rattle.serde_json.specs.Written.{compact_text};
 ghost use Rattle.sentry_json.specs.Balanced.{IsBalanced};
-ghost use Rattle.sentry_envelope.specs.Framing.{Reading, Frame, IsFirstFrame, IsFramed, HasOneVerdict, HasSize, IsLineAndBody, with_line};
-ghost use Rattle.sentry_envelope.specs.ItemHeader.{stated_length};
-ghost use Rattle.sentry_envelope.specs.Writable.{IsWritable, body_of};
+ghost use Rattle.sentry_envelope.specs.EnvelopeLaws.{HasOneAnswer, EnvelopesReadBack, EnvelopesAreStable, EnvelopesHaveOneForm, EnvelopesAreRewritten, RewritingTwiceIsOnce};
+ghost use Rattle.sentry_envelope.specs.SentryProfile.{profile};
+ghost use Rattle.sentry_envelope.specs.Framing.{Reading, Frame, IsFirstFrame, HasOneVerdict, HasSize, IsLineAndBody, with_line};
 
 /// No balanced piece is a proper beginning of another.
 pub fn no_piece_begins_another()
@@ -43,8 +42,32 @@ pub fn a_written_item_is_read()
         (record { header = compact_text (object members); payload = payload }) body }
 {}
 
-/// Written frames are framed as themselves.
-pub fn a_written_body_is_framed()
-    ensures { (words : List (List ℕ)) (frames : List Frame) → AllByRecursion (IsWritable words) frames →
-        IsFramed (stated_length words) (body_of frames) frames }
+/// For all bytes, at each moment, exactly one holds: some envelope is spelled, or one error is at fault.
+pub fn one_answer()
+    ensures { HasOneAnswer profile }
+{}
+
+/// At each moment the text of a stored, plain, readable and sized envelope spells its normal form, and nothing else.
+pub fn back()
+    ensures { EnvelopesReadBack profile }
+{}
+
+/// The normal form is its own normal form, is stored and plain, and is readable where the envelope is.
+pub fn stable()
+    ensures { EnvelopesAreStable profile }
+{}
+
+/// Two envelopes share the normal form exactly where their normal forms have one text.
+pub fn one_form()
+    ensures { EnvelopesHaveOneForm profile }
+{}
+
+/// What bytes spell is stored and plain, and is written as its normal form is.
+pub fn rewritten()
+    ensures { EnvelopesAreRewritten profile }
+{}
+
+/// Reading what is rewritten, and writing again, gives the same bytes.
+pub fn twice()
+    ensures { RewritingTwiceIsOnce profile }
 {}

@@ -1,19 +1,28 @@
-//! Envelopes: their framing, and counted reading and writing.
+//! Envelopes: their framing, reading and writing.
 #![tactic(auto)]
 
-mod counted;
-mod error;
-mod frames;
+pub mod envelope;
+pub mod error;
+mod file;
+pub mod frames;
 mod header;
+pub mod headers;
+pub mod items;
 mod kind;
 pub mod laws;
 mod lines;
 mod piece;
-mod tree;
+mod plain;
+mod read;
+mod write;
 
-pub use counted::{CountedReader, CountedWriter};
+pub use envelope::{AddRefused, Envelope};
 pub use error::{EnvelopeError, EnvelopeWriteError};
 pub use frames::{Frames, ItemFrame};
+pub use headers::EnvelopeHeaders;
+pub use items::{EnvelopeItemIter, IntoItems};
+pub use sentry_items::counted::{CountedReader, CountedWriter};
+pub use sentry_text::Moment;
 
 #[cfg(test)]
 mod tests;

@@ -14,6 +14,7 @@ pub mod Soundness
 pub mod TagsShown
 pub mod Texts
 pub mod Tokens
+pub mod UuidLaws
 pub mod UuidTexts
 pub mod UuidsWritten
 pub mod ValuesShown

@@ -42,9 +42,13 @@ put_all_past k (member l e es) ns rest h after =
 -- what is below the key was handed on, and the key goes before what is left
 pub way_cleared : (HandedOn : Members → Type 0) (k : List ℕ) (es before rest after : Members) → HandedOn es → AllBelow k es → before ≡ both es rest → ((d : Data) → put k d rest ≡ member k d after) → ClearsWay HandedOn k before after
 unfolding ClearsWay
-way_cleared HandedOn k es before rest after h below split first = (es, h, λ d ns follow.
-    ap (λ t. put_all ns (put k d t)) split ∙ ap (put_all ns) (put_past k d es rest below ∙ ap (both es) (first d)) ∙ put_all_past k es ns (member k d after) below follow
-    ∙ ap (both es) (put_all_later k d ns after follow))
+way_cleared HandedOn k es before rest after h below split first = (
+  es,
+  h,
+  λ d ns follow.
+      ap (λ t. put_all ns (put k d t)) split ∙ ap (put_all ns) (put_past k d es rest below ∙ ap (both es) (first d)) ∙ put_all_past k es ns (member k d after) below follow
+      ∙ ap (both es) (put_all_later k d ns after follow),
+)
 
 pub goes_before : (k l : List ℕ) (d e : Data) (ms : Members) → slice_cmp nat_cmp l k ≡ Greater → put k d (member l e ms) ≡ member k d (member l e ms)
 goes_before k l d e ms h = let less : slice_cmp nat_cmp k l ≡ Less = nat_list_cmp_total.antisymm k l ∙ ap ordering_reverse h in rw less refl

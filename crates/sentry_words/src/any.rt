@@ -15,6 +15,7 @@ use std::alloc::{AllocError, Global};
 
 impl Member for Value {
     ghost kind = { any_kind };
+
     ghost cell_of = { tree_cell };
 
     #[tactic(auto, unfolding(crate::specs::Written::written))]

@@ -156,7 +156,11 @@ impl<'s, L: Others, S: Sink> Sink for Beside<'s, L, S> {
 }
 
 /// Gives the rows of a table to a sink, with others among them. It fails where memory runs out.
-pub fn rows_beside<T: Table, L: Others, S: Sink>(value: &T, others: L, sink: &mut S) -> Result<(), AllocError>
+pub fn rows_beside<T: Table, L: Others, S: Sink>(
+    value: &T,
+    others: L,
+    sink: &mut S,
+) -> Result<(), AllocError>
     ensures { OnOk result (S.Adds sink.old sink.new
         (put_all (rows_given (rows_of T.lines) (cells_by T.lines value.now)) (L.left others))) }
 {
@@ -167,7 +171,12 @@ pub fn rows_beside<T: Table, L: Others, S: Sink>(value: &T, others: L, sink: &mu
 }
 
 /// Gives the rows of a case to a sink, with its tag and others among them. It fails where memory runs out.
-pub fn case_beside<T: Table, S: Sink>(value: &T, word: &str, others: &Map<String, Value>, sink: &mut S) -> Result<(), AllocError>
+pub fn case_beside<T: Table, S: Sink>(
+    value: &T,
+    word: &str,
+    others: &Map<String, Value>,
+    sink: &mut S,
+) -> Result<(), AllocError>
     ensures { OnOk result (S.Adds sink.old sink.new
         (put_all (rows_given (rows_of T.lines) (cells_by T.lines value.now))
         (put tag (string word.now) (members_view others.now.entries)))) }

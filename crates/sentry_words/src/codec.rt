@@ -17,6 +17,7 @@ use std::alloc::{AllocError, Global};
 /// A form of the values of `T` as trees.
 pub trait Codec<T> {
     ghost kind: { Kind };
+
     ghost cell_of: { T → Cell };
 
     /// The written tree. It fails where memory runs out.
@@ -42,6 +43,7 @@ pub struct Own;
 
 impl<T: Member> Codec<T> for Own {
     ghost kind = { T.kind };
+
     ghost cell_of = { T.cell_of };
 
     fn to_tree(value: &T, alloc: Global) -> Result<Value, AllocError> {

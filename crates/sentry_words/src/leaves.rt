@@ -13,6 +13,7 @@ use std::borrow::CowStr;
 
 impl Member for String {
     ghost kind = { text_kind };
+
     ghost cell_of = { text_cell };
 
     #[tactic(auto, unfolding(crate::specs::Written::written))]
@@ -37,6 +38,7 @@ impl Member for String {
 
 impl Member for bool {
     ghost kind = { truth_kind };
+
     ghost cell_of = { truth };
 
     #[tactic(auto, unfolding(crate::specs::Written::written))]
@@ -60,6 +62,7 @@ impl Member for bool {
 
 impl Member for u8 {
     ghost kind = { unsigned_kind (2 ^ 8) };
+
     ghost cell_of = { natural_cell };
 
     #[tactic(auto, unfolding(crate::specs::Written::written))]
@@ -84,6 +87,7 @@ impl Member for u8 {
 
 impl Member for u16 {
     ghost kind = { unsigned_kind (2 ^ 16) };
+
     ghost cell_of = { natural_cell };
 
     #[tactic(auto, unfolding(crate::specs::Written::written))]
@@ -108,6 +112,7 @@ impl Member for u16 {
 
 impl Member for u32 {
     ghost kind = { unsigned_kind (2 ^ 32) };
+
     ghost cell_of = { natural_cell };
 
     #[tactic(auto, unfolding(crate::specs::Written::written))]
@@ -132,6 +137,7 @@ impl Member for u32 {
 
 impl Member for u64 {
     ghost kind = { unsigned_kind (2 ^ 64) };
+
     ghost cell_of = { natural_cell };
 
     #[tactic(auto, unfolding(crate::specs::Written::written))]
@@ -156,6 +162,7 @@ impl Member for u64 {
 
 impl Member for i32 {
     ghost kind = { signed_kind (2 ^ 31) };
+
     ghost cell_of = { whole };
 
     #[tactic(auto, using(crate::proofs::Tokens::i32_tree))]
@@ -180,6 +187,7 @@ impl Member for i32 {
 
 impl Member for i64 {
     ghost kind = { signed_kind (2 ^ 63) };
+
     ghost cell_of = { whole };
 
     #[tactic(auto, using(crate::proofs::Tokens::i64_tree))]
@@ -204,6 +212,7 @@ impl Member for i64 {
 
 impl Member for (u64, u64) {
     ghost kind = { pair_kind };
+
     ghost cell_of = { pair_cell };
 
     #[tactic(auto, using(crate::proofs::Tokens::pair_tree_is))]
@@ -235,6 +244,7 @@ impl Member for (u64, u64) {
 
 impl<'a> Member for CowStr<'a> {
     ghost kind = { text_kind };
+
     ghost cell_of = { cow_cell };
 
     #[tactic(auto, unfolding(crate::specs::Written::written))]

@@ -12,6 +12,7 @@ use std::default::Emptied;
 
 impl<T: Member> Member for Vec<T> {
     ghost kind = { list_kind T.kind };
+
     ghost cell_of = { λ v. list_cell T.cell_of v.items };
 
     fn to_tree(&self, alloc: Global) -> Result<Value, AllocError> {
@@ -50,6 +51,7 @@ impl<T: Member> Member for Vec<T> {
 
 impl<T: Member> Member for Map<String, T> {
     ghost kind = { map_kind T.kind };
+
     ghost cell_of = { λ m. map_cell T.cell_of m.entries };
 
     fn to_tree(&self, alloc: Global) -> Result<Value, AllocError> {

@@ -17,6 +17,7 @@ use std::alloc::{AllocError, Global};
 /// A type with a form as a tree.
 pub trait Member: Sized + Drop {
     ghost kind: { Kind };
+
     ghost cell_of: { Self → Cell };
 
     /// The written tree. It fails where memory runs out.

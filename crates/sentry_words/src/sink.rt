@@ -55,7 +55,11 @@ pub trait Sink {
 
     /// A row that is left out where there is no value.
     #[tactic(auto, unfolding(crate::specs::Given::row_given))]
-    final fn optional_as<F: Codec<T>, T>(&mut self, key: &str, value: &Option<T>) -> Result<(), AllocError>
+    final fn optional_as<F: Codec<T>, T>(
+        &mut self,
+        key: &str,
+        value: &Option<T>,
+    ) -> Result<(), AllocError>
         ensures { OnOk result (Adds self.old self.new (row_given key.now may F.kind (option_cell F.cell_of value.now))) }
     {
         match value {
@@ -73,7 +77,11 @@ pub trait Sink {
 
     /// A row that is null where there is no value.
     #[tactic(auto, unfolding(crate::specs::Given::row_given))]
-    final fn optional_or_null_as<F: Codec<T>, T>(&mut self, key: &str, value: &Option<T>) -> Result<(), AllocError>
+    final fn optional_or_null_as<F: Codec<T>, T>(
+        &mut self,
+        key: &str,
+        value: &Option<T>,
+    ) -> Result<(), AllocError>
         ensures { OnOk result (Adds self.old self.new (row_given key.now may_null F.kind (option_cell F.cell_of value.now))) }
     {
         match value {
@@ -83,7 +91,11 @@ pub trait Sink {
     }
 
     /// A row that is null where there is no value.
-    final fn optional_or_null<T: Member>(&mut self, key: &str, value: &Option<T>) -> Result<(), AllocError>
+    final fn optional_or_null<T: Member>(
+        &mut self,
+        key: &str,
+        value: &Option<T>,
+    ) -> Result<(), AllocError>
         ensures { OnOk result (Adds self.old self.new (row_given key.now may_null T.kind (option_cell T.cell_of value.now))) }
     {
         self.optional_or_null_as::<Own, T>(key, value)
@@ -91,7 +103,11 @@ pub trait Sink {
 
     /// A row that is left out where there is no value, and may not be null.
     #[tactic(auto, unfolding(crate::specs::Given::row_given))]
-    final fn optional_strict_as<F: Codec<T>, T>(&mut self, key: &str, value: &Option<T>) -> Result<(), AllocError>
+    final fn optional_strict_as<F: Codec<T>, T>(
+        &mut self,
+        key: &str,
+        value: &Option<T>,
+    ) -> Result<(), AllocError>
         ensures { OnOk result (Adds self.old self.new (row_given key.now may_strict F.kind (option_cell F.cell_of value.now))) }
     {
         match value {
@@ -101,7 +117,11 @@ pub trait Sink {
     }
 
     /// A row that is left out where there is no value, and may not be null.
-    final fn optional_strict<T: Member>(&mut self, key: &str, value: &Option<T>) -> Result<(), AllocError>
+    final fn optional_strict<T: Member>(
+        &mut self,
+        key: &str,
+        value: &Option<T>,
+    ) -> Result<(), AllocError>
         ensures { OnOk result (Adds self.old self.new (row_given key.now may_strict T.kind (option_cell T.cell_of value.now))) }
     {
         self.optional_strict_as::<Own, T>(key, value)
@@ -195,7 +215,12 @@ pub trait Sink {
 
     /// A text that is left out where it is the usual one.
     #[tactic(auto, unfolding(crate::specs::Given::row_given, crate::specs::Written::written))]
-    final fn text_unless<T: AsStr>(&mut self, key: &str, value: &T, usual: &str) -> Result<(), AllocError>
+    final fn text_unless<T: AsStr>(
+        &mut self,
+        key: &str,
+        value: &T,
+        usual: &str,
+    ) -> Result<(), AllocError>
         ensures { OnOk result (Adds self.old self.new
             (row_given key.now (default (text_of usual.now)) text_kind (text_of (T.text value.now)))) }
     {
@@ -222,7 +247,11 @@ pub trait Sink {
 
     /// A value that is left out where it is the usual one of its form.
     #[tactic(auto, unfolding(crate::specs::Given::row_given))]
-    final fn unless_usual_as<F: DefaultedCodec<T>, T>(&mut self, key: &str, value: &T) -> Result<(), AllocError>
+    final fn unless_usual_as<F: DefaultedCodec<T>, T>(
+        &mut self,
+        key: &str,
+        value: &T,
+    ) -> Result<(), AllocError>
         ensures { OnOk result (Adds self.old self.new
             (row_given key.now (default F.usual) F.kind (F.cell_of value.now))) }
     {

@@ -47,7 +47,11 @@ pub fn write_table<T: Table>(value: &T, out: &mut Writer) -> Result<(), AllocErr
 }
 
 /// The written tree of a table's value that keeps other members. It fails where memory runs out.
-pub fn kept_tree<T: Table>(value: &T, others: &Map<String, Value>, alloc: Global) -> Result<Value, AllocError>
+pub fn kept_tree<T: Table>(
+    value: &T,
+    others: &Map<String, Value>,
+    alloc: Global,
+) -> Result<Value, AllocError>
     ensures { IfOk result (λ t. (o : Other) → view t ≡ written (table (rows_of T.lines) o)
         (fields (cells_by T.lines value.now) (members_view others.now.entries))) }
 {
@@ -57,7 +61,11 @@ pub fn kept_tree<T: Table>(value: &T, others: &Map<String, Value>, alloc: Global
 }
 
 /// Writes the text of that tree. It fails where memory runs out, with a part of the text written.
-pub fn write_kept<T: Table>(value: &T, others: &Map<String, Value>, out: &mut Writer) -> Result<(), AllocError>
+pub fn write_kept<T: Table>(
+    value: &T,
+    others: &Map<String, Value>,
+    out: &mut Writer,
+) -> Result<(), AllocError>
     ensures { OnOk result ((o : Other) → WritesTree (written (table (rows_of T.lines) o)
         (fields (cells_by T.lines value.now) (members_view others.now.entries))) out.old out.new) }
 {
@@ -87,7 +95,12 @@ pub fn write_case<T: Table>(value: &T, word: &str, out: &mut Writer) -> Result<(
 }
 
 /// The written tree of a case that keeps other members. It fails where memory runs out.
-pub fn kept_case_tree<T: Table>(value: &T, word: &str, others: &Map<String, Value>, alloc: Global) -> Result<Value, AllocError>
+pub fn kept_case_tree<T: Table>(
+    value: &T,
+    word: &str,
+    others: &Map<String, Value>,
+    alloc: Global,
+) -> Result<Value, AllocError>
     ensures { IfOk result (λ t. view t
         ≡ case_written word.now (rows_of T.lines) (cells_by T.lines value.now) (members_view others.now.entries)) }
 {
@@ -98,7 +111,12 @@ pub fn kept_case_tree<T: Table>(value: &T, word: &str, others: &Map<String, Valu
 }
 
 /// Writes the text of that tree. It fails where memory runs out, with a part of the text written.
-pub fn write_kept_case<T: Table>(value: &T, word: &str, others: &Map<String, Value>, out: &mut Writer) -> Result<(), AllocError>
+pub fn write_kept_case<T: Table>(
+    value: &T,
+    word: &str,
+    others: &Map<String, Value>,
+    out: &mut Writer,
+) -> Result<(), AllocError>
     ensures { OnOk result (WritesTree
         (case_written word.now (rows_of T.lines) (cells_by T.lines value.now) (members_view others.now.entries))
         out.old out.new) }

@@ -18,6 +18,7 @@ pub struct Values<T: Drop> {
 
 impl<T: Member> Member for Values<T> {
     ghost kind = { values_kind T.kind };
+
     ghost cell_of = { λ v. list_cell T.cell_of v.values.items };
 
     fn to_tree(&self, alloc: Global) -> Result<Value, AllocError> {

@@ -3,7 +3,7 @@ use Rattle.std.proofs.lemmas.Result.{err_from_is_err_and}
 use Rattle.sentry_envelope.specs.Framing.{IsFault}
 use Rattle.sentry_envelope.specs.ItemHeader.{stated_length}
 use Rattle.sentry_envelope.specs.ItemWords.{item_words}
-use Rattle.sentry_envelope.proofs.Headers.{states, states_none}
+use Rattle.sentry_envelope.proofs.StatedLengths.{states, states_none}
 use Rattle.sentry_envelope.proofs.Faults.{header_fault, short_fault, payload_fault, first_frame}
 use Rattle.sentry_envelope.proofs.Opening.{refused_header}
 use Rattle.sentry_envelope.proofs.frames.first_item.Goals as goal

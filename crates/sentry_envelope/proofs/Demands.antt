@@ -1,0 +1,37 @@
+-- An envelope meets a demand where its header and its items do.
+use Rattle.std.proofs.Common.{◌≡◌, ◌↔◌, Bool, true, false, List, sym, subst, ◌∙◌, IsTrue}
+use Rattle.std.proofs.lemmas.Bool.{false≢true}
+use Rattle.std.specs.Prelude.{map, Vec, IsSomeAnd}
+use Rattle.std.specs.declared.alloc.Global.{Global}
+use Rattle.sentry_tables.specs.Meets.{IsPlain, IsStored}
+use Rattle.sentry_items.specs.declared.item.EnvelopeItem.{EnvelopeItem}
+use Rattle.sentry_envelope.specs.Envelope.{ItemsMeet, IsEnvelopePlain, IsEnvelopeStored}
+use Rattle.sentry_envelope.specs.EnvelopeView.{item_view, header_of, structured, structured_by, held_in, plain_content, stored_content}
+use Rattle.sentry_envelope.specs.HeaderFields.{header_kind}
+use Rattle.sentry_envelope.specs.SentryProfile.{item_types, profile}
+use Rattle.sentry_envelope.specs.declared.envelope.Contents.{Contents}
+use Rattle.sentry_envelope.specs.declared.envelope.Contents.TheVariants as variants
+use Rattle.sentry_envelope.specs.declared.envelope.Envelope.{Envelope}
+
+module _ (e : Envelope) (r : Bool) (items : Vec EnvelopeItem Global) (is : e.contents ≡ variants.Items items) where
+  abbrev IsPlainIn : Contents → Type 0
+  IsPlainIn contents = IsSomeAnd (structured_by (header_of e) (held_in contents)) (IsEnvelopePlain profile)
+
+  abbrev IsStoredIn : Contents → Type 0
+  IsStoredIn contents = IsSomeAnd (structured_by (header_of e) (held_in contents)) (IsEnvelopeStored profile)
+
+  -- where the header is plain, the items decide
+  pub plain_by_items : (a : Bool) → a ≡ true → (IsTrue a ↔ IsPlain header_kind (header_of e)) → IsTrue r ↔ ItemsMeet plain_content item_types (map item_view items.items)
+      → IsTrue r ↔ IsSomeAnd (structured e) (IsEnvelopePlain profile)
+  unfolding profile IsEnvelopePlain
+  plain_by_items a so header meets = subst (λ x. IsTrue r ↔ IsPlainIn x) (sym is) ((λ t. (header.0 so, meets.0 t)), (λ p. meets.1 p.1))
+
+  pub stored_by_items : (a : Bool) → a ≡ true → (IsTrue a → IsStored header_kind (header_of e)) → (IsTrue r → ItemsMeet stored_content item_types (map item_view items.items))
+      → IsTrue r → IsSomeAnd (structured e) (IsEnvelopeStored profile)
+  unfolding profile IsEnvelopeStored
+  stored_by_items a so header meets t = subst IsStoredIn (sym is) (header so, meets t)
+
+  -- and where it isn't, the envelope isn't
+  pub not_plain_header : (a : Bool) → a ≡ false → (IsTrue a ↔ IsPlain header_kind (header_of e)) → r ≡ false → IsTrue r ↔ IsSomeAnd (structured e) (IsEnvelopePlain profile)
+  unfolding profile IsEnvelopePlain
+  not_plain_header a isnt header none = subst (λ x. IsTrue r ↔ IsPlainIn x) (sym is) ((λ t. absurd (false≢true (sym none ∙ t))), (λ p. absurd (false≢true (sym isnt ∙ header.1 p.0))))

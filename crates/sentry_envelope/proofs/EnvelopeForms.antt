@@ -1,0 +1,92 @@
+-- One text for each normal form, and what is spelled is written as its normal form is.
+use Rattle.std.proofs.Common.{◌≡◌, ℕ, List, [], ◌∷◌, Some, refl, sym, ap, ap₂, ◌∙◌, subst}
+use Rattle.serde_json.specs.Written.{compact_text}
+use Rattle.sentry_tables.specs.Cell.{Cell, absent}
+use Rattle.sentry_tables.specs.Norm.{norm}
+use Rattle.sentry_tables.specs.Written.{tree}
+use Rattle.sentry_tables.specs.Meets.{IsPlain, IsStored}
+use Rattle.sentry_tables.specs.Lawful.{IsMoment}
+use Rattle.sentry_tables.proofs.Laws.{has_laws}
+use Rattle.sentry_envelope.specs.Framing.{with_line}
+use Rattle.sentry_envelope.specs.ItemHeader.{Header}
+use Rattle.sentry_envelope.specs.Profile.{words, Profile, ProfileLaws}
+use Rattle.sentry_envelope.specs.Envelope.{Content, Item, item, raw, Envelope, Spells, ContentShowsAt, ItemsStand, first_id, frame_by, frame_at, frame_text, items_text, envelope_text, content_norm_at, items_norm, envelope_norm, ContentDemand, ContentMeets, ContentMeetsAt, ItemsMeet, IsEnvelopeStored, IsEnvelopePlain}
+use Rattle.sentry_envelope.specs.EnvelopeLaws.{IsFit, EnvelopesHaveOneForm, EnvelopesAreRewritten, RewritingTwiceIsOnce}
+use Rattle.sentry_envelope.proofs.EnvelopeTypes.{type_shown, shows_at, meets_at, frame_is, norm_is, lawful_at}
+use Rattle.sentry_envelope.proofs.EnvelopeWrittenHeaders.{AreTexts, header_texts}
+use Rattle.sentry_envelope.proofs.EnvelopeContents.{stored_content, plain_content, content_rewritten}
+use Rattle.sentry_envelope.proofs.EnvelopeIds.{ids_alike}
+use Rattle.sentry_envelope.proofs.EnvelopeBack.{back}
+use Rattle.sentry_envelope.proofs.EnvelopeNormal.{stable}
+
+-- ---- items
+
+-- items that are shown are stored and plain, and are written as their normal form is
+pub record AreItemsRewritten (P : Profile) (items : List Item) : Type 0 where
+  pub stored : ItemsMeet stored_content P.types items
+  pub plain : ItemsMeet plain_content P.types items
+  pub alike : items_text P items ≡ items_text P (items_norm P.types items)
+
+-- the same of the content of one item
+record IsRewrittenAt (P : Profile) (n : ℕ) (c : Content) : Type 0 where
+  stored : ContentMeetsAt stored_content P.types n c
+  plain : ContentMeetsAt plain_content P.types n c
+  alike : frame_at P.types n c ≡ frame_at P.types n (content_norm_at P.types n c)
+
+module _ (P : Profile) (laws : ProfileLaws P) where
+  item_rewritten : (n : ℕ) (c : Content) (h : Header) (payload : List ℕ) (now : Cell) → IsMoment now → AreTexts h → ContentShowsAt P.types n now h payload c → IsRewrittenAt P n c
+  item_rewritten n c h payload now moment texts shown =
+      let (t, at) = type_shown P.types n now h payload c shown in
+      let own = lawful_at at P.header P.fill laws.types in
+      let here = content_rewritten t.word t.form c h payload now own.form moment texts (subst (λ X. X) (shows_at at now h payload c) shown) in
+      let met = λ (G : ContentDemand) (m : ContentMeets G t.form c). subst (λ X. X) (sym (meets_at at G c)) m in
+      record {
+        stored = met stored_content here.stored;
+        plain = met plain_content here.plain;
+        alike = frame_is at c ∙ ap Some here.alike ∙ ap (λ x. Some (frame_by t x)) (sym (norm_is at c)) ∙ sym (frame_is at (content_norm_at P.types n c));
+      }
+
+  pub items_rewritten : (now : Cell) → IsMoment now → (items : List Item) (body : List ℕ) → ItemsStand P now body items [] → AreItemsRewritten P items
+  items_rewritten now moment [] body h = record { stored = tt; plain = tt; alike = refl }
+  items_rewritten now moment (item n c ∷ items) body (f, next, first, (h, read, kind, shown), more) =
+      let here = item_rewritten n c h f.payload now moment (header_texts (words P.types) f.header h read) shown in
+      let others = items_rewritten now moment items next more in
+      record { stored = (here.stored, others.stored); plain = (here.plain, others.plain); alike = ap₂ frame_text here.alike others.alike }
+  items_rewritten now moment (raw ∷ items) body (f, next, first, shown, more) = absurd shown
+
+  -- ---- envelopes
+
+  pub rewritten : EnvelopesAreRewritten P
+  unfolding envelope_text envelope_norm IsEnvelopeStored IsEnvelopePlain
+  rewritten bytes now e moment h =
+      let items = items_rewritten now moment e.items h.body h.items in
+      let (stored, plain, alike) = (has_laws P.header laws.header).text_rewritten h.line h.shown now moment h.line_shows in
+      let fills = (ids_alike P.header P.fill laws.unfilled P.types laws.types e.items items.stored items.plain).1 in
+      let id : Cell = first_id P.types e.items in
+      let normal : P.fill id (norm P.header e.header) ≡ P.fill id (norm P.header h.shown) =
+      ap (λ x. P.fill id (norm P.header x)) h.header ∙ ap (P.fill id) (fills.fill_norm h.shown stored plain) ∙ fills.fill_twice (norm P.header h.shown) in
+      let trees : tree P.header e.header ≡ tree P.header (P.fill id (norm P.header e.header)) =
+      ap (tree P.header) h.header ∙ fills.fill_tree h.shown stored plain alike ∙ ap (tree P.header) (sym normal) in (
+        (subst (IsStored P.header) (sym h.header) (fills.fill_stored h.shown stored), items.stored),
+        (subst (IsPlain P.header) (sym h.header) (fills.fill_plain h.shown plain), items.plain),
+        ap₂ (λ d body. with_line (compact_text d) body) trees items.alike,
+      )
+
+  -- envelopes whose normal forms have one text have one normal form
+  alike : (a b : Envelope) → IsFit P a → IsFit P b → envelope_text P (envelope_norm P a) ≡ envelope_text P (envelope_norm P b) → envelope_norm P a ≡ envelope_norm P b
+  alike a b p q e =
+      let s = stable P laws a p.stored p.plain in
+      let t = stable P laws b q.stored q.plain in
+      let m : Envelope = envelope_norm P a in
+      let n : Envelope = envelope_norm P b in
+      let spells = (back P laws n absent t.stored t.plain (t.readable q.readable) q.sized).0 in
+      let only = (back P laws m absent s.stored s.plain (s.readable p.readable) p.sized).1 in
+      sym s.again ∙ sym (only (envelope_norm P n) (subst (λ text. Spells P text absent (envelope_norm P n)) (sym e) spells)) ∙ t.again
+
+  pub one_form : EnvelopesHaveOneForm P
+  one_form a b p q = (λ e. ap (envelope_text P) e, alike a b p q)
+
+  pub twice : RewritingTwiceIsOnce P
+  twice bytes now later e f moment h readable sized again =
+      let (stored, plain, text) = rewritten bytes now e moment h in
+      ap (envelope_text P) ((back P laws e later stored plain readable sized).1 f again) ∙ sym text

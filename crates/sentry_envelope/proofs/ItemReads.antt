@@ -1,0 +1,59 @@
+-- What frames show, and what a reader of them has so far.
+use Rattle.std.proofs.Common.{◌≡◌, ◌≢◌, ◌<◌, ℕ, List, [], ◌∷◌, ◌++◌, length, refl, sym, ap, ◌∙◌, subst, inl, inr}
+use Rattle.std.specs.Prelude.{map, Some}
+use Rattle.std.proofs.lemmas.List.{map-append}
+use Rattle.sentry_tables.specs.Cell.{Cell, absent}
+use Rattle.sentry_items.specs.Attached.{Attached}
+use Rattle.sentry_items.specs.View.{attachment_view}
+use Rattle.sentry_items.specs.declared.attachment.Attachment.{Attachment}
+use Rattle.sentry_items.specs.declared.replay_recording.ReplayRecording.{ReplayRecording}
+use Rattle.sentry_items.specs.declared.item.EnvelopeItem.{EnvelopeItem}
+use Rattle.sentry_items.specs.declared.item.EnvelopeItem.TheVariants as variants
+use Rattle.sentry_envelope.specs.Framing.{Frame, IsFirstFrame, IsFault}
+use Rattle.sentry_envelope.specs.EnvelopeFault.{BodyIsAtFault, FrameIsRefused}
+use Rattle.sentry_envelope.specs.Envelope.{item, attached, opaque, reads, attached_by, ItemShows, ItemsStand, given_by, first_id}
+use Rattle.sentry_envelope.specs.EnvelopeView.{item_view}
+use Rattle.sentry_envelope.specs.HeaderView.{header_view}
+use Rattle.sentry_envelope.specs.ItemHeader.{read_header, stated_length}
+use Rattle.sentry_envelope.specs.ItemWords.{item_words, kind_place}
+use Rattle.sentry_envelope.specs.SentryProfile.{item_types, profile}
+use Rattle.sentry_envelope.specs.declared.error.EnvelopeError.{EnvelopeError}
+use Rattle.sentry_envelope.specs.declared.error.EnvelopeError.TheVariants.{InvalidItemPayload}
+use Rattle.sentry_envelope.specs.declared.header.ItemHeader.{ItemHeader}
+use Rattle.sentry_envelope.specs.declared.kind.ItemKind.TheVariants as kinds
+use Rattle.sentry_envelope.proofs.EnvelopeReading.{attachment_shows, opaque_shows, items_snoc, body_fault, framing_is_first, payload_is_first}
+use Rattle.sentry_envelope.proofs.SentryProfile.{profile_lawful}
+
+module _ (frame : Frame) (h : ItemHeader) (read : read_header item_words frame.header ≡ Some (header_view h)) (now : Cell) where
+  pub attachment_read : h.kind ≡ kinds.Attachment → (a : Attachment) → attachment_view a ≡ attached_by (header_view h) frame.payload → ItemShows profile now frame (item_view (variants.Attachment a))
+  unfolding profile
+  attachment_read is a same =
+      subst (λ (x : Attached). ItemShows profile now frame (item 0 (attached x))) (sym same) (attachment_shows profile frame (header_view h) 0 read (ap kind_place is) refl now)
+
+  pub recording_read : h.kind ≡ kinds.ReplayRecording → (x : ReplayRecording) → x.buffer.items ≡ frame.payload → ItemShows profile now frame (item_view (variants.ReplayRecording x))
+  unfolding profile
+  recording_read is x same =
+      subst (λ (b : List ℕ). ItemShows profile now frame (item 1 (opaque b))) (sym same) (opaque_shows profile frame (header_view h) 1 read (ap kind_place is) refl now)
+
+-- a frame by the words of the items is one of the profile
+pub first_of_profile : (body : List ℕ) (frame : Frame) (rest : List ℕ) → IsFirstFrame (stated_length item_words) body frame rest → IsFirstFrame (reads profile) body frame rest
+unfolding profile
+first_of_profile body frame rest h = h
+
+-- ---- after items that stand
+
+module _ (now : Cell) (body : List ℕ) (items : List EnvelopeItem) (rest : List ℕ) (stand : ItemsStand profile now body (map item_view items) rest) where
+  pub framing_at_fault : (x : EnvelopeError) → rest ≢ [] → IsFault (stated_length item_words) rest x → BodyIsAtFault profile body x
+  unfolding profile
+  framing_at_fault x remains fault = body_fault profile profile_lawful now body (map item_view items) rest x stand remains (framing_is_first profile rest x fault)
+
+  pub payload_at_fault : (frame : Frame) (next : List ℕ) → rest ≢ [] → IsFirstFrame (stated_length item_words) rest frame next → FrameIsRefused profile frame → BodyIsAtFault profile body InvalidItemPayload
+  unfolding profile
+  payload_at_fault frame next remains first refused =
+      body_fault profile profile_lawful now body (map item_view items) rest InvalidItemPayload stand remains (payload_is_first profile rest frame next first refused)
+
+  pub one_more : (frame : Frame) (next : List ℕ) (more : List EnvelopeItem) (i : EnvelopeItem) → IsFirstFrame (stated_length item_words) rest frame next → ItemShows profile now frame (item_view i) → more ≡ items ++ i ∷ []
+      → ItemsStand profile now body (map item_view more) next
+  unfolding profile
+  one_more frame next more i first shows is =
+      rw (is, map-append item_view items (i ∷ [])) (items_snoc profile now (map item_view items) body rest next frame (item_view i) stand first shows)

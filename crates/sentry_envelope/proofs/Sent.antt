@@ -1,0 +1,83 @@
+-- The text of an envelope, item by item, and demands on items, item by item.
+use Rattle.std.proofs.Common.{◌≡◌, ◌+◌, ◌<◌, ℕ, suc, length, get_or, drop, drop-cons, add-one, List, [], ◌∷◌, ◌++◌, Option, Some, None, Result, refl, sym, ap, ◌∙◌, subst, append_assoc}
+use Rattle.std.specs.Prelude.{codes, map, OnOk}
+use Rattle.std.proofs.lemmas.Result.{on_ok_weaker}
+use Rattle.serde_json.specs.Written.{compact_text}
+use Rattle.sentry_json.specs.Line.{newline}
+use Rattle.sentry_tables.specs.Cell.{Cell}
+use Rattle.sentry_tables.specs.Written.{tree}
+use Rattle.sentry_envelope.specs.Framing.{Frame, with_line}
+use Rattle.sentry_envelope.specs.EnvelopeView.{item_view}
+use Rattle.sentry_envelope.specs.SentryProfile.{without_id, profile}
+use Rattle.sentry_envelope.specs.HeaderFields.{header_kind}
+use Rattle.sentry_items.specs.Attached.{attachment_header, short_header}
+use Rattle.sentry_items.specs.HeaderTokens.{header_text}
+use Rattle.sentry_items.specs.View.{attachment_view}
+use Rattle.sentry_items.specs.declared.attachment.Attachment.{Attachment}
+use Rattle.sentry_items.specs.declared.replay_recording.ReplayRecording.{ReplayRecording}
+use Rattle.sentry_items.specs.declared.item.EnvelopeItem.{EnvelopeItem}
+use Rattle.sentry_items.specs.declared.item.EnvelopeItem.TheVariants as variants
+use Rattle.sentry_envelope.specs.Profile.{attachment_form, opaque_form, ItemType, Profile}
+use Rattle.sentry_envelope.specs.Envelope.{Item, item, raw, attached, opaque, frame_by, frame_text, frame_of_item, items_text, envelope_text, ContentDemand, ItemsMeet}
+
+-- a frame, and then what follows it
+pub frame_then : (f : Option Frame) (next : List ℕ) → frame_text f [] ++ next ≡ frame_text f next
+frame_then None next = refl
+frame_then (Some f) next =
+    append_assoc f.header (newline ∷ (f.payload ++ newline ∷ [])) next ∙ ap (λ s. f.header ++ newline ∷ s) (append_assoc f.payload (newline ∷ []) next)
+
+-- what is written, one item more, and then the others
+pub item_then : (P : Profile) (done : List ℕ) (i : Item) (is : List Item) → (done ++ frame_text (frame_of_item P i) []) ++ items_text P is ≡ done ++ items_text P (i ∷ is)
+item_then P done i is = append_assoc done (frame_text (frame_of_item P i) []) (items_text P is) ∙ ap (λ s. done ++ s) (frame_then (frame_of_item P i) (items_text P is))
+
+module _ (G : ContentDemand) (ts : List ItemType) where
+  -- the first item, and then the others
+  pub meet_first : (i : Item) (is : List Item) → ItemsMeet G ts (i ∷ is) → ItemsMeet G ts (i ∷ [])
+  meet_first (item n c) is h = (h.0, tt)
+  meet_first raw is h = tt
+
+  pub meet_rest : (i : Item) (is : List Item) → ItemsMeet G ts (i ∷ is) → ItemsMeet G ts is
+  meet_rest (item n c) is h = h.1
+  meet_rest raw is h = h
+
+  pub meet_both : (i : Item) (is : List Item) → ItemsMeet G ts (i ∷ []) → ItemsMeet G ts is → ItemsMeet G ts (i ∷ is)
+  meet_both (item n c) is h k = (h.0, k)
+  meet_both raw is h k = k
+
+-- ---- one item
+
+module _ {E : Type 0} (r : Result (Unit {0}) E) where
+  frame_sent : (old between new : List ℕ) (f : Frame) → between ≡ old ++ f.header → OnOk r (new ≡ between ++ newline ∷ (f.payload ++ newline ∷ [])) → OnOk r (new ≡ old ++ frame_text (Some f) [])
+  frame_sent old between new f headed sent =
+      on_ok_weaker r (λ e. e ∙ ap (λ s. s ++ newline ∷ (f.payload ++ newline ∷ [])) headed ∙ append_assoc old f.header (newline ∷ (f.payload ++ newline ∷ []))) sent
+
+  abbrev Sends : List ℕ → List ℕ → EnvelopeItem → Type 0
+  Sends old new i = OnOk r (new ≡ old ++ frame_text (frame_of_item profile (item_view i)) [])
+
+  pub attachment_sent : (i : EnvelopeItem) (old between new : List ℕ) (a : Attachment) → i ≡ variants.Attachment a
+      → between ≡ old ++ header_text (attachment_header (codes "attachment") (attachment_view a)) → OnOk r (new ≡ between ++ newline ∷ (a.buffer.items ++ newline ∷ [])) → Sends old new i
+  unfolding profile header_text
+  attachment_sent i old between new a is headed sent =
+      subst (Sends old new) (sym is) (frame_sent old between new (frame_by (without_id (codes "attachment") attachment_form) (attached (attachment_view a))) headed sent)
+
+  pub recording_sent : (i : EnvelopeItem) (old between new : List ℕ) (x : ReplayRecording) → i ≡ variants.ReplayRecording x
+      → between ≡ old ++ header_text (short_header (codes "replay_recording") x.buffer.items) → OnOk r (new ≡ between ++ newline ∷ (x.buffer.items ++ newline ∷ [])) → Sends old new i
+  unfolding profile header_text
+  recording_sent i old between new x is headed sent =
+      subst (Sends old new) (sym is) (frame_sent old between new (frame_by (without_id (codes "replay_recording") opaque_form) (opaque x.buffer.items)) headed sent)
+
+-- ---- an envelope
+
+-- the header line, and then the items
+pub envelope_begun : (h : Cell) (is : List Item) (line out : List ℕ) → line ≡ [] ++ compact_text (tree header_kind h) → out ≡ line ++ newline ∷ [] → out ++ items_text profile is ≡ envelope_text profile (record { header = h; items = is })
+unfolding profile envelope_text
+envelope_begun h is line out e f = ap (λ s. s ++ items_text profile is) (f ∙ ap (λ s. s ++ newline ∷ []) e) ∙ append_assoc (compact_text (tree header_kind h)) (newline ∷ []) (items_text profile is)
+
+-- one item more is written
+pub item_written : (items : List EnvelopeItem) (i : ℕ) (x : EnvelopeItem) (done new all : List ℕ) → i < length items → x ≡ get_or items i x
+    → new ≡ done ++ frame_text (frame_of_item profile (item_view x)) [] → done ++ items_text profile (map item_view (drop i items)) ≡ all
+    → new ++ items_text profile (map item_view (drop (i + 1) items)) ≡ all
+item_written items i x done new all within is sent so_far =
+    let others = drop (i + 1) items in
+    let first : drop i items ≡ x ∷ others = rw add-one (drop-cons items i x within ∙ ap (λ y. y ∷ drop (suc i) items) (sym is)) in
+    ap (λ s. s ++ items_text profile (map item_view others)) sent ∙ item_then profile done (item_view x) (map item_view others) ∙ ap (λ xs. done ++ items_text profile (map item_view xs)) (sym first) ∙ so_far

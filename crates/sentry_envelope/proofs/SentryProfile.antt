@@ -1,0 +1,35 @@
+-- The profile of Sentry's envelopes is lawful.
+use Rattle.std.proofs.Common.{◌≡◌, List, ℕ, refl}
+use Rattle.std.specs.Prelude.{codes, IsUtf8}
+use Rattle.sentry_tables.proofs.Sound.{ascii_text}
+use Rattle.sentry_tables.specs.Cell.{Cell}
+use Rattle.sentry_tables.specs.Kind.{scalar}
+use Rattle.sentry_tables.specs.Basic.{word_scalar}
+use Rattle.sentry_tables.specs.Lawful.{ScalarLaws, IsLawful}
+use Rattle.sentry_envelope.specs.Profile.{ProfileLaws, words}
+use Rattle.sentry_envelope.specs.HeaderFields.{header_kind}
+use Rattle.sentry_envelope.specs.ItemWords.{item_words}
+use Rattle.sentry_envelope.specs.SentryProfile.{item_types, profile}
+use Rattle.sentry_words.proofs.UuidLaws.{hyphenated_laws}
+
+-- the words of item headers are those of the types, in order
+pub same_words : item_words ≡ words item_types
+same_words = refl
+
+pub header_lawful : IsLawful header_kind
+unfolding header_kind
+header_lawful = (refl, tt, hyphenated_laws, tt, refl)
+
+pub profile_lawful : ProfileLaws profile
+unfolding profile
+profile_lawful = record {
+  header = header_lawful;
+  unfilled = λ h. refl;
+  types = (
+    ascii_text (codes "attachment") refl,
+    refl,
+    tt,
+    tt,
+    (ascii_text (codes "replay_recording") refl, refl, tt, tt, tt),
+  );
+}

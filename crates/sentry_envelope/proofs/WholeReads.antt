@@ -1,0 +1,58 @@
+-- What a whole reading knows: of the header line, and of the items.
+use Rattle.std.proofs.Common.{◌≡◌, ◌<◌, ◌≤◌, ◌^◌, ℕ, List, [], ◌∷◌, refl, sym, ap, ◌∙◌, inl, inr, arith}
+use Rattle.std.specs.Prelude.{map}
+use Rattle.sentry_tables.specs.Cell.{Cell, absent}
+use Rattle.sentry_tables.specs.Lawful.{IsMoment}
+use Rattle.sentry_items.specs.declared.item.EnvelopeItem.{EnvelopeItem}
+use Rattle.sentry_items.specs.declared.item.EnvelopeItem.TheVariants as variants
+use Rattle.sentry_envelope.specs.Framing.{IsLineAndBody}
+use Rattle.sentry_envelope.specs.Envelope.{Envelope, ItemsStand, Spells, given_by, or_else, first_id, IsEnvelopeStored, IsEnvelopePlain}
+use Rattle.sentry_envelope.specs.EnvelopeFault.{BodyIsAtFault, Fault}
+use Rattle.sentry_envelope.specs.EnvelopeView.{item_view}
+use Rattle.sentry_text.specs.Moments.{moment_cell}
+use Rattle.sentry_envelope.specs.HeaderFields.{header_kind, fill_id}
+use Rattle.sentry_words.specs.Reading.{TextShown, TextRefused}
+use Rattle.sentry_envelope.specs.SentryProfile.{item_types, profile}
+use Rattle.sentry_envelope.specs.declared.error.EnvelopeError.{EnvelopeError}
+use Rattle.sentry_envelope.specs.declared.error.EnvelopeError.TheVariants.{InvalidHeader}
+use Rattle.sentry_text.specs.declared.moment.Moment.{Moment}
+use Rattle.sentry_envelope.proofs.EnvelopeLaws.{envelope_laws}
+use Rattle.sentry_envelope.proofs.SentryProfile.{profile_lawful}
+
+-- no item gives an id
+pub gives_none : (i : EnvelopeItem) → given_by item_types (item_view i) ≡ absent
+gives_none (variants.Attachment a) = refl
+gives_none (variants.ReplayRecording r) = refl
+gives_none variants.Raw = refl
+
+none_of_them : (items : List EnvelopeItem) → first_id item_types (map item_view items) ≡ absent
+none_of_them [] = refl
+none_of_them (i ∷ items) = ap (λ c. or_else c (first_id item_types (map item_view items))) (gives_none i) ∙ none_of_them items
+
+module _ (bytes line body : List ℕ) (parts : IsLineAndBody bytes line body) where
+  pub line_at_fault : TextRefused header_kind line → Fault profile bytes InvalidHeader
+  unfolding profile TextRefused
+  line_at_fault refused = record { line = line; body = body; parts = parts; first = inl (refl, refused) }
+
+  pub body_at_fault : (c : Cell) (x : EnvelopeError) → TextShown header_kind line c → BodyIsAtFault profile body x → Fault profile bytes x
+  unfolding profile TextShown
+  body_at_fault c x shown fault = record { line = line; body = body; parts = parts; first = inr ((λ now. (c, shown now)), fault) }
+
+  pub whole_spelled : (now c : Cell) (items : List EnvelopeItem) → TextShown header_kind line c → ItemsStand profile now body (map item_view items) [] → Spells profile bytes now (record { header = c; items = map item_view items })
+  unfolding profile TextShown
+  whole_spelled now c items shown stand = record {
+    line = line;
+    body = body;
+    shown = c;
+    parts = parts;
+    line_shows = shown now;
+    header = sym (ap (λ id. fill_id id c) (none_of_them items));
+    items = stand;
+  }
+
+-- what bytes spell is stored and plain
+pub spelled_stored : (bytes : List ℕ) (now : Moment) (e : Envelope) → Spells profile bytes (moment_cell now) e → IsEnvelopeStored profile e × IsEnvelopePlain profile e
+spelled_stored bytes now e spells =
+    let real : IsMoment (moment_cell now) = (omega (arith, now.secs_in_range), now.nanos_in_range) in
+    let own = (envelope_laws profile profile_lawful).rewritten bytes (moment_cell now) e real spells in
+    (own.0, own.1)

@@ -1,0 +1,391 @@
+//! Envelopes.
+ghost use Rattle.std.specs.Prelude.{◌≡◌, map, IfOk};
+ghost use Rattle.sentry_envelope.specs.EnvelopeView.{item_view};
+
+use crate::error::{EnvelopeError, EnvelopeWriteError};
+use crate::file::read_file;
+use crate::frames::Frames;
+use crate::headers::{EnvelopeHeaders, read_header_line};
+use crate::items::{EnvelopeItemIter, IntoItems};
+use crate::plain::items_are_plain;
+use crate::read::read_items;
+use crate::write::write_envelope;
+use rand_core::Rng;
+use sentry_items::EnvelopeItem;
+use sentry_items::counted::{CountedWriter, send, send_plain};
+use sentry_text::{Member, Moment};
+use std::alloc::{AllocError, AllocFailed, Global};
+use std::io::Write;
+use std::rt::Files;
+use thiserror::Error;
+use uuid::Uuid;
+
+/// An envelope: a header, and items.
+///
+/// <https://develop.sentry.dev/sdk/data-model/envelopes/>
+///
+/// An envelope is structured, with its items in order, or raw: bytes that nothing read.
+#[derive(Debug, Drop, PartialEq)]
+pub struct Envelope {
+    headers: EnvelopeHeaders,
+    contents: Contents,
+}
+
+/// What an envelope holds.
+#[derive(Debug, Drop, PartialEq)]
+enum Contents {
+    Items(Vec<EnvelopeItem>),
+    Raw(Vec<u8>),
+}
+
+/// Why an item was not added. The item is handed back.
+#[derive(Debug, Drop, Error)]
+pub enum AddRefused {
+    /// The envelope is raw, and its items are not known.
+    #[error("RawEnvelope")]
+    RawEnvelope(EnvelopeItem),
+    /// Memory was refused.
+    #[error("out of memory")]
+    Memory(EnvelopeItem),
+}
+
+impl Envelope {
+    ghost use Rattle.std.specs.Prelude.{◌≡◌, ◌≢◌, ◌↔◌, ◌⊎◌, List, ℕ, ◌+◌, ◌-◌, ◌^◌, ◌<◌, Some, IfOk, IfErr, IsOkAnd, OnErr, OnOk, IsSome, IsSomeAnd, IsTrue, option_map};
+    ghost use Rattle.std.specs.Io.KnownBytes.{Appends, Keeps};
+    ghost use Rattle.sentry_items.specs.Counted.{writer_inside, writer_failures, AppendsFront};
+    ghost use Rattle.sentry_envelope.specs.Envelope.{Envelope as Model, IsEnvelopePlain, IsEnvelopeStored, Spells};
+    ghost use Rattle.sentry_envelope.specs.EnvelopeFault.{Fault};
+    ghost use Rattle.sentry_text.specs.Moments.{moment_cell};
+    ghost use Rattle.sentry_envelope.specs.EnvelopeView.{held, header_of, event_id_of, structured, raw_bytes, IsSame, item_view, items_of, with_item, empty, no_fields, refused_item, text_of, IsUnwritable};
+    ghost use Rattle.sentry_envelope.specs.HeaderFields.{headers_cell};
+    ghost use Rattle.sentry_envelope.specs.ItemsLeft.{items_left, owned_items_left};
+    ghost use Rattle.sentry_envelope.specs.SentryProfile.{profile};
+
+    /// A structured envelope without fields and items.
+    pub fn new(alloc: Global) -> Envelope
+        ensures { structured result ≡ Some empty }
+    {
+        Envelope {
+            headers: EnvelopeHeaders::new(),
+            contents: Contents::Items(Vec::new(alloc)),
+        }
+    }
+
+    /// A structured envelope without fields and items.
+    pub fn default_in(alloc: Global) -> Envelope
+        ensures { structured result ≡ Some empty }
+    {
+        Envelope::new(alloc)
+    }
+
+    /// A structured envelope of one item.
+    ///
+    /// It fails with `Memory` where memory is refused, and then hands the item back.
+    pub fn from_item(alloc: Global, item: EnvelopeItem) -> Result<Envelope, AddRefused>
+        ensures ok { IfOk result (λ e. structured e ≡ Some (with_item empty (item_view item))) }
+        ensures memory { IfErr result (λ refused. refused ≡ AddRefused.Memory item) }
+    {
+        let mut envelope = Envelope::new(alloc);
+        match envelope.add_item(item) {
+            Ok(()) => Ok(envelope),
+            Err(refused) => Err(refused),
+        }
+    }
+
+    /// A raw envelope of these bytes, which are not read. It is always `Ok`.
+    pub fn from_bytes_raw(bytes: Vec<u8>) -> Result<Envelope, EnvelopeError>
+        ensures kept { IsOkAnd result (λ e. raw_bytes e ≡ Some bytes.items) }
+        ensures header { IsOkAnd result (λ e. header_of e ≡ no_fields) }
+    {
+        Ok(Envelope {
+            headers: EnvelopeHeaders::new(),
+            contents: Contents::Raw(bytes),
+        })
+    }
+
+    /// The envelope that bytes spell.
+    ///
+    /// `now` stands for moments that are absent, and ids that are absent are drawn from `ids`.
+    ///
+    /// # Errors
+    ///
+    /// The first check of the bytes, in order, that fails:
+    ///
+    /// - `InvalidHeader`: the first line isn't one JSON object without floats whose `event_id` is absent, null, or a
+    ///   UUID's text in any of its forms. Other keys are ignored.
+    /// - `UnexpectedEof`, `InvalidItemHeader` and `MissingNewline`: a frame's framing, as `Frames::next_frame` says.
+    /// - `InvalidItemPayload`: a payload isn't read as its item's type.
+    /// - `OutOfMemory`: memory was refused.
+    pub fn from_slice<R: Rng>(
+        alloc: Global,
+        bytes: &[u8],
+        now: Moment,
+        _ids: &mut R,
+    ) -> Result<Envelope, EnvelopeError>
+        ensures spelled { IfOk result (λ e. IsSomeAnd (structured e) (Spells profile bytes.now (moment_cell now))) }
+        ensures stored { IfOk result (λ e. IsSomeAnd (structured e) (λ m. IsEnvelopeStored profile m × IsEnvelopePlain profile m)) }
+        ensures fault { IfErr result (λ x. x ≢ EnvelopeError.OutOfMemory → Fault profile bytes.now x) }
+    {
+        let mut frames = Frames::new(bytes);
+        let headers = read_header_line(alloc, frames.header_line())?;
+        let items = read_items(alloc, &mut frames, now)?;
+        Ok(Envelope {
+            headers,
+            contents: Contents::Items(items),
+        })
+    }
+
+    /// The envelope that a file spells, as `from_slice` reads it.
+    ///
+    /// # Errors
+    ///
+    /// - `UnexpectedEof`: the file can't be read; also as `from_slice`.
+    /// - `OutOfMemory`: memory was refused.
+    /// - any other: as `from_slice`.
+    pub fn from_path<F: Files + AllocGlobal, R: Rng>(
+        rt: &F,
+        path: &str,
+        now: Moment,
+        ids: &mut R,
+    ) -> Result<Envelope, EnvelopeError>
+        ensures spelled { IfOk result (λ e. (bytes : List ℕ) × IsSomeAnd (structured e) (Spells profile bytes (moment_cell now))) }
+        ensures stored { IfOk result (λ e. IsSomeAnd (structured e) (λ m. IsEnvelopeStored profile m × IsEnvelopePlain profile m)) }
+    {
+        let bytes = read_file(rt, path)?;
+        Envelope::from_slice(rt.alloc(), &bytes, now, ids)
+    }
+
+    /// A raw envelope of a file's bytes, which are not read as an envelope.
+    ///
+    /// # Errors
+    ///
+    /// - `UnexpectedEof`: the file can't be read.
+    /// - `OutOfMemory`: memory was refused.
+    pub fn from_path_raw<F: Files + AllocGlobal>(
+        rt: &F,
+        path: &str,
+    ) -> Result<Envelope, EnvelopeError>
+        ensures raw { IfOk result (λ e. IsSome (raw_bytes e)) }
+        ensures header { IfOk result (λ e. header_of e ≡ no_fields) }
+        ensures err { IfErr result (λ x. (x ≡ EnvelopeError.UnexpectedEof) ⊎ (x ≡ EnvelopeError.OutOfMemory)) }
+    {
+        let bytes = read_file(rt, path)?;
+        Envelope::from_bytes_raw(bytes)
+    }
+
+    /// Adds an item at the end.
+    ///
+    /// The first item that gives an id gives it to an envelope without one.
+    ///
+    /// # Errors
+    ///
+    /// The envelope is then unchanged, and the item is handed back:
+    ///
+    /// - `RawEnvelope`: the envelope is raw, and the item is not `Raw`. To a raw envelope a `Raw` item adds nothing.
+    /// - `Memory`: memory was refused.
+    pub fn add_item(&mut self, item: EnvelopeItem) -> Result<(), AddRefused>
+        ensures added { (old : Model) → structured self.old ≡ Some old → OnOk result (structured self.new ≡ Some (with_item old (item_view item))) }
+        ensures raw_envelope { (result ≡ Err (AddRefused.RawEnvelope item)) ↔ (IsSome (raw_bytes self.old) × (item ≢ EnvelopeItem.Raw)) }
+        ensures raw_same { IsSome (raw_bytes self.old) → IsSame self.new self.old }
+        ensures refused { OnErr result (IsSame self.new self.old) }
+        ensures handed_back { IfErr result (λ refused. refused_item refused ≡ item) }
+    {
+        match &mut self.contents {
+            Contents::Items(items) => match items.push(item) {
+                Ok(()) => Ok(()),
+                Err(AllocFailed { value }) => Err(AddRefused::Memory(value)),
+            },
+            Contents::Raw(_) => match item {
+                EnvelopeItem::Raw => Ok(()),
+                item => Err(AddRefused::RawEnvelope(item)),
+            },
+        }
+    }
+
+    /// The header.
+    pub fn headers(&self) -> &EnvelopeHeaders
+        ensures { headers_cell result.now ≡ header_of self.now }
+    {
+        &self.headers
+    }
+
+    /// The same envelope with this header in place of its own. A raw envelope stays raw.
+    pub fn with_headers(self, headers: EnvelopeHeaders) -> Envelope
+        ensures header { header_of result ≡ headers_cell headers }
+        ensures same { held result ≡ held self }
+    {
+        let Envelope {
+            headers: _,
+            contents,
+        } = self;
+        Envelope { headers, contents }
+    }
+
+    /// The event id in the header.
+    pub fn uuid(&self) -> Option<&Uuid>
+        ensures { option_map (λ id. id.now) result ≡ event_id_of self.now }
+    {
+        self.headers.event_id()
+    }
+
+    /// The items in order. Those of a raw envelope are not known, and none is given.
+    pub fn items(&self) -> EnvelopeItemIter<'_>
+        ensures { items_left result ≡ items_of self.now }
+    {
+        match &self.contents {
+            Contents::Items(items) => EnvelopeItemIter::new(items),
+            Contents::Raw(_) => EnvelopeItemIter::new(&[]),
+        }
+    }
+
+    /// The items in order, by value. Those of a raw envelope are not known, and none is given.
+    pub fn into_items(self) -> IntoItems
+        ensures { owned_items_left result ≡ items_of self }
+    {
+        let Envelope {
+            headers: _,
+            contents,
+        } = self;
+        match contents {
+            Contents::Items(items) => IntoItems::new(items),
+            Contents::Raw(bytes) => IntoItems::new(Vec::new(*bytes.allocator())),
+        }
+    }
+
+    /// Whether the envelope is structured and can be written and read back.
+    ///
+    /// An item of raw bytes isn't written, and nothing is asked of it.
+    pub fn is_plain(&self) -> bool
+        ensures plain { IsTrue result ↔ IsSomeAnd (structured self.now) (IsEnvelopePlain profile) }
+        ensures stored { IsTrue result → IsSomeAnd (structured self.now) (IsEnvelopeStored profile) }
+    {
+        match &self.contents {
+            Contents::Items(items) => self.headers.is_plain() && items_are_plain(items),
+            Contents::Raw(_) => false,
+        }
+    }
+
+    /// The text that is written: of a structured envelope its header line and then its items, and of a raw one its bytes.
+    pub(crate) fn write_text(&self, alloc: Global) -> Result<Vec<u8>, AllocError>
+        ensures { IfOk result (λ text. text.items ≡ text_of self.now) }
+    {
+        match &self.contents {
+            Contents::Items(items) => write_envelope(alloc, &self.headers, items),
+            Contents::Raw(bytes) => bytes.clone(),
+        }
+    }
+
+    /// Whether the envelope is structured, and can't be written.
+    fn is_unwritable(&self) -> bool
+        ensures { IsTrue result ↔ IsUnwritable self.now }
+    {
+        match &self.contents {
+            Contents::Items(_) => !self.is_plain(),
+            Contents::Raw(_) => false,
+        }
+    }
+
+    /// The text that is written, where the envelope can be.
+    fn text(&self, alloc: Global) -> Result<Vec<u8>, EnvelopeWriteError>
+        ensures ok { IfOk result (λ text. text.items ≡ text_of self.now) }
+        ensures not_plain { (result ≡ Err EnvelopeWriteError.NotPlain) ↔ IsUnwritable self.now }
+        ensures nothing_sent { IfErr result (λ e. e ≢ EnvelopeWriteError.Io) }
+    {
+        if self.is_unwritable() {
+            return Err(EnvelopeWriteError::NotPlain);
+        }
+        match self.write_text(alloc) {
+            Ok(text) => Ok(text),
+            Err(_) => Err(EnvelopeWriteError::Memory),
+        }
+    }
+
+    /// Writes the envelope: its header line and then each item's header and payload, or a raw envelope's bytes.
+    ///
+    /// # Errors
+    ///
+    /// - `NotPlain`: the envelope is structured and isn't plain. Nothing was written.
+    /// - `Memory`: memory was refused. Nothing was written.
+    /// - `Io`: a write failed, was interrupted, or took none of the bytes. A beginning of the text was written, and
+    ///   not the whole.
+    pub fn to_writer<W: Write>(
+        &self,
+        alloc: Global,
+        writer: &mut W,
+    ) -> Result<(), EnvelopeWriteError>
+        ensures whole { OnOk result (Appends (W.contents writer.old) (W.contents writer.new) (text_of self.now)) }
+        ensures not_plain { (result ≡ Err EnvelopeWriteError.NotPlain) ↔ IsUnwritable self.now }
+        ensures nothing { IfErr result (λ e. e ≢ EnvelopeWriteError.Io → Keeps (W.contents writer.old) (W.contents writer.new)) }
+        ensures front { result ≡ Err EnvelopeWriteError.Io → AppendsFront (W.contents writer.old) (W.contents writer.new) (text_of self.now) }
+    {
+        let text = self.text(alloc)?;
+        match send_plain(&text, writer) {
+            Ok(()) => Ok(()),
+            Err(_) => Err(EnvelopeWriteError::Io),
+        }
+    }
+
+    /// Writes the envelope as `to_writer` does, to a writer that counts its failures.
+    ///
+    /// # Errors
+    ///
+    /// - `NotPlain`: the envelope is structured and isn't plain. Nothing was written.
+    /// - `Memory`: memory was refused. Nothing was written.
+    /// - `Io`: a write failed, was interrupted, or took none of the bytes, and was counted. A beginning of the text
+    ///   was written, and not the whole.
+    pub fn write_counted<W: Write>(
+        &self,
+        alloc: Global,
+        writer: &mut CountedWriter<W>,
+    ) -> Result<(), EnvelopeWriteError>
+        requires { writer_failures writer.old < 2 ^ 64 - 1 }
+        ensures whole { OnOk result (Appends (W.contents (writer_inside writer.old)) (W.contents (writer_inside writer.new)) (text_of self.now)) }
+        ensures not_plain { (result ≡ Err EnvelopeWriteError.NotPlain) ↔ IsUnwritable self.now }
+        ensures nothing { IfErr result (λ e. e ≢ EnvelopeWriteError.Io → Keeps (W.contents (writer_inside writer.old)) (W.contents (writer_inside writer.new))) }
+        ensures front { result ≡ Err EnvelopeWriteError.Io → AppendsFront (W.contents (writer_inside writer.old)) (W.contents (writer_inside writer.new)) (text_of self.now) }
+        ensures one_failure { result ≡ Err EnvelopeWriteError.Io → writer_failures writer.new ≡ writer_failures writer.old + 1 }
+        ensures no_failure { result ≢ Err EnvelopeWriteError.Io → writer_failures writer.new ≡ writer_failures writer.old }
+    {
+        let text = self.text(alloc)?;
+        match send(&text, writer) {
+            Ok(()) => Ok(()),
+            Err(_) => Err(EnvelopeWriteError::Io),
+        }
+    }
+
+    /// The same envelope. It fails where memory is refused.
+    pub fn clone(&self) -> Result<Envelope, AllocError>
+        ensures { IfOk result (λ e. IsSame e self.now) }
+    {
+        Ok(Envelope {
+            headers: self.headers.clone()?,
+            contents: self.contents.clone()?,
+        })
+    }
+}
+
+impl Contents {
+    ghost use Rattle.std.specs.Prelude.{◌≡◌, IfOk};
+    ghost use Rattle.sentry_envelope.specs.EnvelopeView.{held_in};
+
+    /// The same contents.
+    fn clone(&self) -> Result<Contents, AllocError>
+        ensures { IfOk result (λ contents. held_in contents ≡ held_in self.now) }
+    {
+        match self {
+            Contents::Items(items) => Ok(Contents::Items(clone_items(items)?)),
+            Contents::Raw(bytes) => Ok(Contents::Raw(bytes.clone()?)),
+        }
+    }
+}
+
+/// The same items.
+fn clone_items(items: &Vec<EnvelopeItem>) -> Result<Vec<EnvelopeItem>, AllocError>
+    ensures { IfOk result (λ copies. map item_view copies.items ≡ map item_view items.now.items) }
+{
+    let mut copies = Vec::with_capacity(*items.allocator(), items.len())?;
+    for item in items {
+        copies.push(item.clone()?)?;
+    }
+    Ok(copies)
+}

@@ -1,0 +1,21 @@
+//! Files.
+ghost use Rattle.std.specs.Prelude.{◌≡◌, ◌⊎◌, IfErr};
+
+use crate::error::EnvelopeError;
+use std::fs;
+use std::io::ErrorKind;
+use std::rt::Files;
+
+/// The bytes of a file.
+pub(crate) fn read_file<F: Files + AllocGlobal>(
+    rt: &F,
+    path: &str,
+) -> Result<Vec<u8>, EnvelopeError>
+    ensures { IfErr result (λ x. (x ≡ EnvelopeError.UnexpectedEof) ⊎ (x ≡ EnvelopeError.OutOfMemory)) }
+{
+    match fs::read(rt, path) {
+        Ok(bytes) => Ok(bytes),
+        Err(error) if error.kind() == ErrorKind::OutOfMemory => Err(EnvelopeError::OutOfMemory),
+        Err(_) => Err(EnvelopeError::UnexpectedEof),
+    }
+}

@@ -1,0 +1,132 @@
+//! The header of an envelope.
+
+ghost use Rattle.std.specs.Prelude.{◌≡◌, ◌≢◌, ◌⊎◌, ◌↔◌, IfOk, IfErr, IsTrue, OnOk};
+ghost use Rattle.sentry_words.specs.Reading.{TextShown, TextRefused};
+ghost use Rattle.sentry_envelope.specs.HeaderFields.{header_kind, headers_cell};
+
+use crate::error::EnvelopeError;
+use json::Writer;
+use sentry_words::codec::is_plain_option_as;
+use sentry_words::rows::{object, optional_as};
+use sentry_words::table::{table_tree, write_table};
+use sentry_words::{FromTree, Hyphenated, Member, Sink, Table, TreeError, read_line};
+use serde_json::Value;
+use std::alloc::{AllocError, Global};
+use uuid::Uuid;
+
+/// The fields in the header line of an envelope.
+///
+/// <https://develop.sentry.dev/sdk/data-model/envelopes/#envelope-headers>
+#[derive(Debug, Drop, PartialEq)]
+pub struct EnvelopeHeaders {
+    event_id: Option<Uuid>,
+}
+
+impl EnvelopeHeaders {
+    ghost use Rattle.std.specs.Prelude.{◌≡◌, IfOk, option_map};
+    ghost use Rattle.sentry_envelope.specs.EnvelopeView.{no_fields};
+    ghost use Rattle.sentry_envelope.specs.HeaderFields.{headers_cell, put_id};
+
+    /// A header without fields.
+    pub fn new() -> EnvelopeHeaders
+        ensures { headers_cell result ≡ no_fields }
+    {
+        EnvelopeHeaders { event_id: None }
+    }
+
+    /// A header without fields.
+    pub fn default_in(_alloc: Global) -> EnvelopeHeaders
+        ensures { headers_cell result ≡ no_fields }
+    {
+        EnvelopeHeaders::new()
+    }
+
+    /// The same header with this event id.
+    pub fn with_event_id(self, event_id: Uuid) -> EnvelopeHeaders
+        ensures { headers_cell result ≡ put_id event_id (headers_cell self) }
+    {
+        let EnvelopeHeaders { event_id: _ } = self;
+        EnvelopeHeaders {
+            event_id: Some(event_id),
+        }
+    }
+
+    /// The event id.
+    pub(crate) fn event_id(&self) -> Option<&Uuid>
+        ensures { option_map (λ id. id.now) result ≡ self.now.event_id }
+    {
+        self.event_id.as_ref()
+    }
+
+    /// The same header. It fails where memory is refused.
+    pub fn clone(&self) -> Result<EnvelopeHeaders, AllocError>
+        ensures { IfOk result (λ headers. headers_cell headers ≡ headers_cell self.now) }
+    {
+        self.copy()
+    }
+}
+
+impl Table for EnvelopeHeaders {
+    ghost use Rattle.sentry_envelope.specs.HeaderFields.{header_fields, header_in_order};
+
+    ghost lines = { header_fields };
+
+    fn rows<S: Sink>(&self, sink: &mut S) -> Result<(), AllocError> {
+        sink.optional_as::<Hyphenated, Uuid>("event_id", &self.event_id)?;
+        Ok(())
+    }
+
+    ghost ordered = { header_in_order };
+}
+
+impl Member for EnvelopeHeaders {
+    ghost use Rattle.sentry_envelope.specs.HeaderFields.{header_kind, headers_cell};
+
+    ghost kind = { header_kind };
+
+    ghost cell_of = { headers_cell };
+
+    #[tactic(auto, unfolding(crate::specs::HeaderFields::header_kind))]
+    fn to_tree(&self, alloc: Global) -> Result<Value, AllocError> {
+        table_tree(self, alloc)
+    }
+
+    #[tactic(auto, unfolding(crate::specs::HeaderFields::header_kind))]
+    fn write(&self, out: &mut Writer) -> Result<(), AllocError> {
+        write_table(self, out)
+    }
+
+    fn copy(&self) -> Result<EnvelopeHeaders, AllocError> {
+        Ok(EnvelopeHeaders {
+            event_id: self.event_id,
+        })
+    }
+
+    #[tactic(auto, unfolding(crate::specs::HeaderFields::header_kind))]
+    fn is_plain(&self) -> bool {
+        is_plain_option_as::<Hyphenated, Uuid>(&self.event_id)
+    }
+}
+
+impl FromTree for EnvelopeHeaders {
+    #[tactic(auto, using(sentry_words::proofs::Answering::table_fails, sentry_words::proofs::Answering::not_object), unfolding(crate::specs::HeaderFields::header_kind))]
+    fn from_tree(alloc: Global, tree: &Value) -> Result<EnvelopeHeaders, TreeError> {
+        object(tree)?;
+        Ok(EnvelopeHeaders {
+            event_id: optional_as::<Hyphenated, Uuid>(alloc, tree, "event_id")?,
+        })
+    }
+}
+
+/// The header that a line shows.
+pub(crate) fn read_header_line(alloc: Global, line: &[u8]) -> Result<EnvelopeHeaders, EnvelopeError>
+    ensures ok { IfOk result (λ headers. TextShown header_kind line.now (headers_cell headers)) }
+    ensures err { IfErr result (λ e. (e ≡ EnvelopeError.OutOfMemory)
+        ⊎ ((e ≡ EnvelopeError.InvalidHeader) × TextRefused header_kind line.now)) }
+{
+    match read_line::<EnvelopeHeaders>(alloc, line) {
+        Ok(headers) => Ok(headers),
+        Err(TreeError::Misfit) => Err(EnvelopeError::InvalidHeader),
+        Err(TreeError::Memory) => Err(EnvelopeError::OutOfMemory),
+    }
+}

@@ -1,0 +1,32 @@
+//! Whether items can be written and read back.
+
+ghost use Rattle.std.specs.Prelude.{◌≡◌, ◌∷◌, [], ◌↔◌, IsTrue, map};
+ghost use Rattle.sentry_envelope.specs.Envelope.{ItemsMeet};
+ghost use Rattle.sentry_envelope.specs.EnvelopeView.{item_view, plain_content, stored_content};
+ghost use Rattle.sentry_envelope.specs.SentryProfile.{item_types};
+
+use sentry_items::EnvelopeItem;
+
+/// Whether all items can be written and read back.
+pub(crate) fn items_are_plain(items: &[EnvelopeItem]) -> bool
+    ensures plain { IsTrue result ↔ ItemsMeet plain_content item_types (map item_view items.now) }
+    ensures stored { IsTrue result → ItemsMeet stored_content item_types (map item_view items.now) }
+{
+    for item in items {
+        if !is_plain(item) {
+            return false;
+        }
+    }
+    true
+}
+
+/// Whether an item can be written and read back.
+fn is_plain(item: &EnvelopeItem) -> bool
+    ensures plain { IsTrue result ↔ ItemsMeet plain_content item_types (item_view item.now ∷ []) }
+    ensures stored { IsTrue result → ItemsMeet stored_content item_types (item_view item.now ∷ []) }
+{
+    match item {
+        EnvelopeItem::Attachment(attachment) => attachment.is_plain(),
+        EnvelopeItem::ReplayRecording(_) | EnvelopeItem::Raw => true,
+    }
+}

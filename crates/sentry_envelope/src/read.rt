@@ -1,0 +1,87 @@
+//! The items of an envelope, read.
+
+ghost use Rattle.std.specs.Prelude.{◌≡◌, ◌≢◌, ◌⊎◌, IfOk, IfErr, [], Some, map};
+ghost use Rattle.sentry_items.specs.View.{attachment_view};
+ghost use Rattle.sentry_envelope.specs.Envelope.{attached_by, ItemShows, ItemsStand};
+ghost use Rattle.sentry_envelope.specs.EnvelopeFault.{BodyIsAtFault, FrameIsRefused};
+ghost use Rattle.sentry_envelope.specs.EnvelopeView.{item_view};
+ghost use Rattle.sentry_envelope.specs.HeaderView.{header_view};
+ghost use Rattle.sentry_envelope.specs.ItemHeader.{read_header};
+ghost use Rattle.sentry_envelope.specs.ItemWords.{item_words};
+ghost use Rattle.sentry_text.specs.Moments.{moment_cell};
+ghost use Rattle.sentry_envelope.specs.SentryProfile.{profile};
+ghost use Rattle.sentry_envelope.specs.View.{frame_of};
+
+use crate::error::EnvelopeError;
+use crate::frames::{Frames, ItemFrame};
+use crate::header::ItemHeader;
+use crate::kind::ItemKind;
+use sentry_items::{Attachment, AttachmentType, EnvelopeItem, ReplayRecording};
+use sentry_text::Moment;
+use std::alloc::{AllocError, Global};
+
+/// The items of the body that is left, or the first check of it that fails.
+pub(crate) fn read_items(
+    alloc: Global,
+    frames: &mut Frames<'_>,
+    now: Moment,
+) -> Result<Vec<EnvelopeItem>, EnvelopeError>
+    ensures ok { IfOk result (λ items. ItemsStand profile (moment_cell now) frames.old.rest (map item_view items.items) []) }
+    ensures err { IfErr result (λ e. e ≢ EnvelopeError.OutOfMemory → BodyIsAtFault profile frames.old.rest e) }
+{
+    let mut items = Vec::new(alloc);
+    while let Some(answer) = frames.next_item(alloc) {
+        let (frame, header) = answer?;
+        items.push(read_item(alloc, &frame, header, now)?)?;
+    }
+    Ok(items)
+}
+
+/// The item that a frame shows, by what its header says.
+fn read_item(
+    alloc: Global,
+    frame: &ItemFrame<'_>,
+    header: ItemHeader,
+    now: Moment,
+) -> Result<EnvelopeItem, EnvelopeError>
+    requires { read_header item_words (frame_of frame.now).header ≡ Some (header_view header) }
+    ensures ok { IfOk result (λ item. ItemShows profile (moment_cell now) (frame_of frame.now) (item_view item)) }
+    ensures err { IfErr result (λ e. (e ≡ EnvelopeError.OutOfMemory)
+        ⊎ ((e ≡ EnvelopeError.InvalidItemPayload) × FrameIsRefused profile (frame_of frame.now))) }
+{
+    match header.kind {
+        ItemKind::Attachment => Ok(EnvelopeItem::Attachment(attachment(
+            alloc,
+            frame.payload,
+            header,
+        )?)),
+        ItemKind::ReplayRecording => Ok(EnvelopeItem::ReplayRecording(replay_recording(
+            alloc,
+            frame.payload,
+        )?)),
+    }
+}
+
+/// The attachment of these bytes, with the name and types that its item's header gives.
+fn attachment(alloc: Global, payload: &[u8], header: ItemHeader) -> Result<Attachment, AllocError>
+    ensures { IfOk result (λ a. attachment_view a ≡ attached_by (header_view header) payload.now) }
+{
+    Ok(Attachment {
+        buffer: payload.to_vec(alloc)?,
+        filename: header.filename.unwrap_or(String::new(alloc)),
+        content_type: header.content_type,
+        ty: match header.attachment_type {
+            Some(text) => Some(AttachmentType::from_text(alloc, &text)?),
+            None => None,
+        },
+    })
+}
+
+/// The recording of these bytes.
+fn replay_recording(alloc: Global, payload: &[u8]) -> Result<ReplayRecording, AllocError>
+    ensures { IfOk result (λ recording. recording.buffer.items ≡ payload.now) }
+{
+    Ok(ReplayRecording {
+        buffer: payload.to_vec(alloc)?,
+    })
+}
