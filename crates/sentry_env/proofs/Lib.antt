@@ -1,1 +1,5 @@
 pub mod CallLemmas
+pub mod SumLemmas
+pub mod LossLemmas
+pub mod RunLemmas
+pub mod PlainLemmas

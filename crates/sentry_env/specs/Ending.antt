@@ -1,5 +1,6 @@
 -- How the program ends: the status of each answer, and the line that standard error gets.
 use Rattle.std.specs.Prelude.{ℕ, List, [], Result, Ok, Err, codes}
+use Rattle.sentry_envelope.specs.declared.error.EnvelopeError.{EnvelopeError}
 use Rattle.sentry_envelope.specs.declared.error.EnvelopeError.TheVariants as fault
 use Rattle.sentry_env.specs.declared.read_all.ReadError.{ReadError}
 use Rattle.sentry_env.specs.declared.read_all.ReadError.TheVariants as reading
@@ -12,6 +13,11 @@ use Rattle.sentry_env.specs.declared.ending.RunError.TheVariants as error
 abbrev pub run_error_of : ReadError → RunError
 run_error_of reading.Read = error.Read
 run_error_of reading.Memory = error.Memory
+
+-- what a run answers where bytes are no envelope, or couldn't be read as one
+abbrev pub refusal_of : EnvelopeError → RunError
+refusal_of fault.OutOfMemory = error.Memory
+refusal_of x = error.Refused x
 
 -- a status, and a line without its newline; no line is the empty one
 pub record Ending : Type 0 where

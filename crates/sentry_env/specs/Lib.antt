@@ -1,4 +1,9 @@
-pub mod Kind
 pub mod Args
 pub mod Ending
+pub mod Kind
+pub mod Listed
+pub mod Losing
 pub mod Reading
+pub mod Run
+pub mod Sums
+pub mod Table

@@ -1,8 +1,10 @@
 ghost use Rattle.std.specs.Prelude.{◌≡◌};
-ghost use Rattle.sentry_env.specs.Ending.{ending_of, usage_ending, run_error_of};
+ghost use Rattle.sentry_env.specs.Ending.{ending_of, usage_ending, run_error_of, refusal_of};
 
 use crate::read_all::ReadError;
 use sentry_envelope::EnvelopeError;
+use sentry_items::counted::SendFailed;
+use std::alloc::AllocError;
 
 /// The line for words that are no call.
 pub const USAGE: &str = "usage: sentry_env [-k] [-f PATH] KIND..";
@@ -37,6 +39,37 @@ impl From<ReadError> for RunError {
             ReadError::Read => RunError::Read,
             ReadError::Memory => RunError::Memory,
         }
+    }
+}
+
+impl From<EnvelopeError> for RunError {
+    ghost from_gives = { λ error result. result ≡ refusal_of error };
+
+    fn from(error: EnvelopeError) -> RunError {
+        match error {
+            EnvelopeError::OutOfMemory => RunError::Memory,
+            fault => RunError::Refused(fault),
+        }
+    }
+}
+
+impl From<AllocError> for RunError {
+    ghost use Rattle.sentry_env.specs.declared.ending.RunError.TheVariants.{Memory};
+
+    ghost from_gives = { λ _ result. result ≡ Memory };
+
+    fn from(_: AllocError) -> RunError {
+        RunError::Memory
+    }
+}
+
+impl From<SendFailed> for RunError {
+    ghost use Rattle.sentry_env.specs.declared.ending.RunError.TheVariants.{Write};
+
+    ghost from_gives = { λ _ result. result ≡ Write };
+
+    fn from(_: SendFailed) -> RunError {
+        RunError::Write
     }
 }
 

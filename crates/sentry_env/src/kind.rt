@@ -1,5 +1,8 @@
 ghost use Rattle.std.specs.Prelude.{◌≡◌, Some};
 ghost use Rattle.sentry_env.specs.Kind.{kind_of_word};
+ghost use Rattle.sentry_env.specs.Listed.{kind_of_item};
+
+use sentry_items::EnvelopeItem;
 
 /// A type of envelope items, as a word of the command line names it.
 ///
@@ -57,6 +60,17 @@ impl Kind {
             "user_report" => Some(Kind::UserReport),
             "replay_recording" => Some(Kind::ReplayRecording),
             _ => None,
+        }
+    }
+
+    /// The kind of an item. `Raw` has none. Takes no memory.
+    pub fn of_item(item: &EnvelopeItem) -> Option<Kind>
+        ensures { result ≡ kind_of_item item.now }
+    {
+        match item {
+            EnvelopeItem::Attachment(_) => Some(Kind::Attachment),
+            EnvelopeItem::ReplayRecording(_) => Some(Kind::ReplayRecording),
+            EnvelopeItem::Raw => None,
         }
     }
 }

@@ -8,16 +8,26 @@
 #![tactic(auto)]
 
 mod args;
+mod clock;
 mod ending;
 mod kind;
 mod laws;
+mod loss_filter;
+mod losses;
 mod read_all;
+mod run;
+#[cfg(test)]
+mod run_tests;
 #[cfg(test)]
 mod tests;
 
 use args::{Args, program_args};
+use clock::{moment_after, seed_at, time_since_1970};
 use ending::{Outcome, RunError, ending, usage};
-use sentry_envelope::CountedReader;
+use rand_core::SeedableRng;
+use rand_pcg::Pcg32;
+use run::run;
+use sentry_envelope::{CountedReader, CountedWriter};
 use std::fs;
 use std::io::Read;
 use std::process::ExitCode;
@@ -33,15 +43,26 @@ fn answer_call(rt: &HostRuntime, args: &Args) -> Result<Outcome, RunError> {
     }
 }
 
-// Rewrites what a source holds.
-fn rewrite<R: Read>(rt: &HostRuntime, _args: &Args, source: R) -> Result<Outcome, RunError>
+// Rewrites what a source holds, to standard output, with the table on standard error.
+fn rewrite<R: Read>(rt: &HostRuntime, args: &Args, source: R) -> Result<Outcome, RunError>
 where
     R: Drop,
 {
+    let time = time_since_1970(rt);
+    let mut ids = Pcg32::seed_from_u64(seed_at(time));
     let mut reader = CountedReader::new(source);
-    // `run` takes this line's place.
-    let _bytes = read_all::read_all(rt.alloc(), &mut reader)?;
-    Ok(Outcome::Written)
+    let mut out = CountedWriter::new(rt.stdout());
+    let mut table = CountedWriter::new(rt.stderr());
+    run(
+        rt.alloc(),
+        &mut reader,
+        &args.kinds,
+        args.keep,
+        moment_after(time),
+        &mut ids,
+        &mut out,
+        &mut table,
+    )
 }
 
 fn main(rt: HostRuntime) -> ExitCode {

@@ -1,6 +1,6 @@
 ghost use Rattle.std.specs.Prelude.{◌≡◌, ◌+◌, ◌-◌, ◌^◌, ◌<◌, IfOk, IfErr, OnOk};
 ghost use Rattle.std.specs.Io.KnownBytes.{Consumes, IsAtEnd};
-ghost use Rattle.sentry_envelope.specs.Counted.{reader_inside, reader_failures};
+ghost use Rattle.sentry_items.specs.Counted.{reader_inside, reader_failures};
 ghost use Rattle.sentry_env.specs.Reading.{failed_reads};
 
 use sentry_envelope::CountedReader;

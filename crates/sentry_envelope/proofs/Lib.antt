@@ -32,3 +32,5 @@ pub mod EnvelopeLaws
 pub mod EnvelopeWriting
 pub mod EnvelopeFill
 pub mod EnvelopeSample
+pub mod ConservationLemmas
+pub mod FilterLemmas

@@ -30,7 +30,7 @@ abbrev pub fill_id : Cell → Cell → Cell
 fill_id (octets id) (fields (cell absent cs) other) = fields (cell (present (octets id)) cs) other
 fill_id id h = h
 
--- the header with this event id
-abbrev pub put_id : Uuid → Cell → Cell
-put_id id (fields (cell c cs) other) = fields (cell (present (octets id)) cs) other
+-- the header with this event id, or without one
+abbrev pub put_id : Option Uuid → Cell → Cell
+put_id id (fields (cell c cs) other) = fields (cell (id_cell id) cs) other
 put_id id h = h

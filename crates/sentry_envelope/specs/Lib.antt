@@ -1,7 +1,9 @@
+pub mod Callbacks
 pub mod Envelope
 pub mod EnvelopeFault
 pub mod EnvelopeLaws
 pub mod EnvelopeView
+pub mod Filter
 pub mod Framing
 pub mod HeaderFields
 pub mod HeaderView

@@ -27,13 +27,13 @@ use uuid::Uuid;
 /// An envelope is structured, with its items in order, or raw: bytes that nothing read.
 #[derive(Debug, Drop, PartialEq)]
 pub struct Envelope {
-    headers: EnvelopeHeaders,
-    contents: Contents,
+    pub(crate) headers: EnvelopeHeaders,
+    pub(crate) contents: Contents,
 }
 
 /// What an envelope holds.
 #[derive(Debug, Drop, PartialEq)]
-enum Contents {
+pub(crate) enum Contents {
     Items(Vec<EnvelopeItem>),
     Raw(Vec<u8>),
 }

@@ -23,7 +23,7 @@ pub struct EnvelopeHeaders {
 }
 
 impl EnvelopeHeaders {
-    ghost use Rattle.std.specs.Prelude.{◌≡◌, IfOk, option_map};
+    ghost use Rattle.std.specs.Prelude.{◌≡◌, Some, IfOk, option_map};
     ghost use Rattle.sentry_envelope.specs.EnvelopeView.{no_fields};
     ghost use Rattle.sentry_envelope.specs.HeaderFields.{headers_cell, put_id};
 
@@ -43,12 +43,20 @@ impl EnvelopeHeaders {
 
     /// The same header with this event id.
     pub fn with_event_id(self, event_id: Uuid) -> EnvelopeHeaders
-        ensures { headers_cell result ≡ put_id event_id (headers_cell self) }
+        ensures { headers_cell result ≡ put_id (Some event_id) (headers_cell self) }
     {
         let EnvelopeHeaders { event_id: _ } = self;
         EnvelopeHeaders {
             event_id: Some(event_id),
         }
+    }
+
+    /// The same header with this event id in place of its own, or without one.
+    pub(crate) fn with_id(self, event_id: Option<Uuid>) -> EnvelopeHeaders
+        ensures { headers_cell result ≡ put_id event_id (headers_cell self) }
+    {
+        let EnvelopeHeaders { event_id: _ } = self;
+        EnvelopeHeaders { event_id }
     }
 
     /// The event id.

@@ -1,6 +1,6 @@
 use Rattle.std.proofs.Common.{◌≡◌, ◌-◌, ◌^◌, vec_len}
 use Rattle.std.specs.Io.KnownBytes.{Consumes}
-use Rattle.sentry_envelope.specs.Counted.{reader_inside, reader_failures}
+use Rattle.sentry_items.specs.Counted.{reader_inside, reader_failures}
 use Rattle.sentry_env.proofs.read_all.read_all.Given as goal
 
 abbrev pub invariant-loop-count : goal.invariant-loop-count

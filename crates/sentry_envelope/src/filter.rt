@@ -1,0 +1,117 @@
+//! What is asked about the items of an envelope.
+
+use sentry_items::EnvelopeItem;
+
+/// What is asked about each item of an envelope, and given the items that go.
+///
+/// A closure `FnMut(&EnvelopeItem) -> bool` is a filter, and drops the items that go.
+/// [`EnvelopeFilterCallbacks`] is one of two closures.
+///
+/// The calls are those of Sentry's own crate `sentry-types`:
+/// <https://docs.rs/sentry-types/latest/sentry_types/protocol/v7/trait.EnvelopeFilter.html>
+pub trait EnvelopeFilter: Drop {
+    ghost use Rattle.std.specs.Prelude.{Bool};
+    ghost use Rattle.sentry_items.specs.declared.item.EnvelopeItem.{EnvelopeItem};
+
+    /// Holds of a filter that may be called with any item.
+    ghost can_filter: { Self → Type 0 };
+
+    /// A filter that is asked about an item, its answer, and the filter after it.
+    ghost ask: { Self → EnvelopeItem → Bool → Self → Type 0 };
+
+    /// A filter that is given an item, and the filter after it.
+    ghost hand: { Self → EnvelopeItem → Self → Type 0 };
+
+    /// Whether the item is to be kept. It isn't kept by a yes alone: an attachment goes where no
+    /// event and no transaction is kept.
+    fn filter(&mut self, item: &EnvelopeItem) -> bool
+        requires { can_filter self.old }
+        ensures { ask self.old item.now result self.new };
+
+    /// Takes an item that goes, also one that was answered yes.
+    fn on_filtered(&mut self, item: EnvelopeItem)
+        requires { can_filter self.old }
+        ensures { hand self.old item self.new };
+
+    /// A filter that was asked may be called again.
+    ghost ask_keeps: { (first : Self) (item : EnvelopeItem) (answer : Bool) (next : Self) → can_filter first → ask first item answer next → can_filter next };
+
+    /// A filter that was given an item may be called again.
+    ghost hand_keeps: { (first : Self) (item : EnvelopeItem) (next : Self) → can_filter first → hand first item next → can_filter next };
+}
+
+impl<F: FnMut(&EnvelopeItem) -> bool> EnvelopeFilter for F {
+    ghost use Rattle.std.specs.Prelude.{◌≡◌, refl};
+    ghost use Rattle.std.proofs.Common.{subst, sym};
+    ghost use Rattle.std.specs.Fn.{CalledAt, always_mut};
+    ghost use denote.Param.Always.{mut_next};
+
+    ghost can_filter = { λ f. F.IsAlwaysCallable f };
+
+    ghost ask = { λ f item answer next. CalledAt F.FnMut f item answer next };
+
+    ghost hand = { λ f item next. next ≡ f };
+
+    ghost ask_keeps = { λ first item answer next ready asked. mut_next F.FnMut first (asked.shown, tt) answer next next asked.called refl ready };
+
+    ghost hand_keeps = { λ first item next ready is. subst (always_mut F.FnMut) (sym is) ready };
+
+    fn filter(&mut self, item: &EnvelopeItem) -> bool {
+        self(item)
+    }
+
+    /// Drops the item.
+    fn on_filtered(&mut self, item: EnvelopeItem) {
+        drop(item);
+    }
+}
+
+/// Two closures: one that is asked, and one that is given the items that go.
+#[derive(Drop)]
+pub struct EnvelopeFilterCallbacks<F, P> {
+    filter: F,
+    on_filtered: P,
+}
+
+impl<F, P> EnvelopeFilterCallbacks<F, P> {
+    ghost use Rattle.std.specs.Prelude.{◌≡◌};
+    ghost use Rattle.sentry_envelope.specs.Callbacks.{asking, handing};
+
+    /// A filter that asks the first closure, and gives the second the items that go.
+    pub fn new(filter: F, on_filtered: P) -> Self
+        ensures asks { asking result ≡ filter }
+        ensures hands { handing result ≡ on_filtered }
+    {
+        EnvelopeFilterCallbacks {
+            filter,
+            on_filtered,
+        }
+    }
+}
+
+impl<F: FnMut(&EnvelopeItem) -> bool, P: FnMut(EnvelopeItem)> EnvelopeFilter
+    for EnvelopeFilterCallbacks<F, P> {
+    ghost use Rattle.std.specs.Prelude.{◌≡◌, refl};
+    ghost use Rattle.std.proofs.Common.{subst, sym};
+    ghost use Rattle.std.specs.Fn.{CalledAt, always_mut};
+    ghost use denote.Param.Always.{mut_next};
+    ghost use Rattle.sentry_envelope.specs.Callbacks.{asking, handing};
+
+    ghost can_filter = { λ f. F.IsAlwaysCallable (asking f) × P.IsAlwaysCallable (handing f) };
+
+    ghost ask = { λ f item answer next. CalledAt F.FnMut (asking f) item answer (asking next) × (handing next ≡ handing f) };
+
+    ghost hand = { λ f item next. P.step (handing f) item tt (handing next) × (asking next ≡ asking f) };
+
+    ghost ask_keeps = { λ first item answer next ready asked. (mut_next F.FnMut (asking first) (asked.0.shown, tt) answer (asking next) (asking next) asked.0.called refl ready.0, subst (always_mut P.FnMut) (sym asked.1) ready.1) };
+
+    ghost hand_keeps = { λ first item next ready given. (subst (always_mut F.FnMut) (sym given.1) ready.0, mut_next P.FnMut (handing first) (item, tt) tt (handing next) (handing next) given.0 refl ready.1) };
+
+    fn filter(&mut self, item: &EnvelopeItem) -> bool {
+        (self.filter)(item)
+    }
+
+    fn on_filtered(&mut self, item: EnvelopeItem) {
+        (self.on_filtered)(item);
+    }
+}
