@@ -15,7 +15,7 @@ use Rattle.sentry_words.specs.Reading.{TextShown, TextRefused}
 use Rattle.sentry_envelope.specs.SentryProfile.{item_types, profile}
 use Rattle.sentry_envelope.specs.declared.error.EnvelopeError.{EnvelopeError}
 use Rattle.sentry_envelope.specs.declared.error.EnvelopeError.TheVariants.{InvalidHeader}
-use Rattle.sentry_text.specs.declared.moment.Moment.{Moment}
+use Rattle.sentry_moments.specs.declared.moment.Moment.{Moment}
 use Rattle.sentry_envelope.proofs.EnvelopeLaws.{envelope_laws}
 use Rattle.sentry_envelope.proofs.SentryProfile.{profile_lawful}
 

@@ -1,4 +1,5 @@
 // Worked rows.
+mod beginnings;
 mod framing;
 mod reading;
 mod values;

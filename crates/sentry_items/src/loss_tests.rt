@@ -141,6 +141,7 @@ fn losses_of_items(rt: HostRuntime) -> Result<(), Fail> {
             ]
         )
     );
-    assert!(rt; gives_in_order(ItemLossIter::of_items(&items[2..4]), &[]));
+    let raw = [EnvelopeItem::Raw, EnvelopeItem::Raw];
+    assert!(rt; gives_in_order(ItemLossIter::of_items(&raw), &[]));
     Ok(())
 }

@@ -2,7 +2,7 @@
 use Rattle.std.proofs.Common.{arith}
 use Rattle.sentry_tables.specs.Lawful.{IsMoment}
 use Rattle.sentry_text.specs.Moments.{moment_cell}
-use Rattle.sentry_text.specs.declared.moment.Moment.{Moment}
+use Rattle.sentry_moments.specs.declared.moment.Moment.{Moment}
 
 pub moment_in_range : (m : Moment) → IsMoment (moment_cell m)
 moment_in_range m = (omega (arith, m.secs_in_range), m.nanos_in_range)

@@ -8,8 +8,8 @@ ghost use Rattle.sentry_words.specs.Cells.{option_cell, list_cell, map_cell, emp
 ghost use Rattle.sentry_words.specs.Reading.{ReadsAt, ReadsRowAt, ReadsTextAt};
 ghost use Rattle.sentry_text.specs.Moments.{moment_cell};
 
-use crate::moment::Moment;
 use rand_core::Rng;
+use sentry_moments::Moment;
 use sentry_words::line::read_tree;
 use sentry_words::{Member, ReadCodec, TreeError};
 use serde_json::{Map, Value};

@@ -1,0 +1,9 @@
+pub mod CrontabItems
+pub mod CrontabParts
+pub mod CrontabWords
+pub mod NumberTexts
+pub mod Addresses
+pub mod HexIds
+pub mod DebugIds
+pub mod Ips
+pub mod CodeIds

@@ -1,0 +1,38 @@
+use Rattle.std.proofs.Common.{◌≡◌, ◌≢◌, ℕ, List, ◌∷◌, get_or, sym, ap, ◌∙◌, arith, lit<, rules, Some}
+use Rattle.std.proofs.lemmas.Str.Parse.{without_leading_plus_none}
+use Rattle.std.proofs.lemmas.Str.Pattern.{starts_char}
+use Rattle.std.specs.Str.Parse.{IsNumeral, digits_value}
+use Rattle.sentry_identifiers.proofs.NumberTexts.{no_plus}
+use Rattle.sentry_identifiers.proofs.DebugIds.{Fits, no_tail, no_hyphen, digits_read, digits_refused, number_read, number_refused}
+use Rattle.std.proofs.lemmas.Bool.{true≢false}
+use Rattle.sentry_identifiers.proofs.debug_id.read_appendix.Goals as goal
+use Rattle.sentry_identifiers.proofs.debug_id.read_appendix.Goals.{then-digits-gt8-via-then-digits-gt8, then-digits-gt8-via-else-digits-gt8+then-starts_with}
+
+pub returns-then-is_empty : goal.returns-then-is_empty
+returns-then-is_empty c = no_tail c.args.tail.now (search rules)
+
+pub returns-else-is_empty : goal.returns-else-is_empty
+returns-else-is_empty c = no_hyphen c.args.tail.now (search rules) c.in_default.ensures.cases
+
+pub returns-then-digits-gt8 : goal.returns-then-digits-gt8
+returns-then-digits-gt8 c =
+    let h = c.in-Some.ensures.cases in
+    digits_refused c.args.tail.now c.in-Some.digits.now (h.1.1 ∙ ap (λ (t : List ℕ). 45 ∷ t) (sym h.2))
+    (elim c.then-digits-gt8.branch [
+      | then-digits-gt8-via-then-digits-gt8 w ↦ λ fits. omega (arith, fits.1, w.if-digits-gt8.true)
+      | then-digits-gt8-via-else-digits-gt8+then-starts_with w ↦ λ fits. no_plus 16 c.in-Some.digits.now (omega arith) fits.0 ((starts_char 43 c.in-Some.digits.now w.starts_with.result w.starts_with.ensures.cases (lit< tt) (lit< tt)).0 w.if-starts_with.true)
+    ])
+
+pub returns-in-Ok : goal.returns-in-Ok
+returns-in-Ok c =
+    let h = c.in-Some.ensures.cases in
+    let plain = starts_char 43 c.in-Some.digits.now c.starts_with.result c.starts_with.ensures.cases (lit< tt) (lit< tt) in
+    number_read c.args.tail.now c.in-Some.digits.now c.in-Ok.appendix (h.1.1 ∙ ap (λ (t : List ℕ). 45 ∷ t) (sym h.2)) (omega (arith, c.if-digits-gt8.false))
+    (λ e. true≢false (sym (plain.1 e) ∙ c.if-starts_with.false)) c.in-Ok.ensures.value
+
+pub returns-in-Err : goal.returns-in-Err
+returns-in-Err c =
+    let h = c.in-Some.ensures.cases in
+    let plain = starts_char 43 c.in-Some.digits.now c.starts_with.result c.starts_with.ensures.cases (lit< tt) (lit< tt) in
+    number_refused c.args.tail.now c.in-Some.digits.now (h.1.1 ∙ ap (λ (t : List ℕ). 45 ∷ t) (sym h.2)) (omega (arith, c.if-digits-gt8.false))
+    (λ e. true≢false (sym (plain.1 e) ∙ c.if-starts_with.false)) c.in-Err.ensures.value

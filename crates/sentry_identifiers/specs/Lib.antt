@@ -1,0 +1,9 @@
+pub mod Number
+pub mod Crontab
+pub mod Address
+pub mod HexId
+pub mod DebugId
+pub mod ProjectId
+pub mod Ip
+pub mod CodeDigits
+pub mod CodeId

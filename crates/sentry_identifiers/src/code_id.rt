@@ -1,0 +1,81 @@
+//! Code identifiers.
+
+ghost use Rattle.std.specs.Prelude.{◌≡◌, IfOk, IsTrue, string_bytes};
+ghost use Rattle.sentry_identifiers.specs.CodeDigits.{code_digits, are_code_digits};
+
+use std::alloc::{AllocError, Global};
+
+/// The identifier of a code file: hex digits in lower case.
+#[derive(Debug, Drop, PartialEq, Eq, PartialOrd, Ord, Hash)]
+pub struct CodeId {
+    digits: String,
+    // it has lower case hex digits alone
+    ghost lower: { IsTrue (are_code_digits (string_bytes digits)) },
+}
+
+impl CodeId {
+    ghost use Rattle.sentry_identifiers.specs.CodeId.{code_text};
+
+    /// The identifier of a text's ASCII hex digits, in lower case; other characters are left out.
+    ///
+    /// # Errors
+    ///
+    /// `AllocError` where there is no memory for the digits.
+    pub fn new(alloc: Global, text: &str) -> Result<CodeId, AllocError>
+        ensures { IfOk result (λ id. code_text id ≡ code_digits text.now) }
+    {
+        Ok(CodeId {
+            digits: hex_digits(alloc, text)?,
+        })
+    }
+
+    /// A copy of the identifier.
+    ///
+    /// # Errors
+    ///
+    /// `AllocError` where there is no memory for the digits.
+    pub fn clone(&self) -> Result<CodeId, AllocError>
+        ensures { IfOk result (λ id. code_text id ≡ code_text self.now) }
+    {
+        Ok(CodeId {
+            digits: self.digits.clone()?,
+        })
+    }
+
+    /// The digits.
+    pub fn as_str(&self) -> &str
+        ensures text { result.now ≡ code_text self.now }
+        ensures lower { IsTrue (are_code_digits result.now) }
+    {
+        self.digits.as_str()
+    }
+}
+
+// The hex digits of the text, in lower case.
+#[tactic(auto, using(crate::proofs::CodeIds::kept_are_digits))]
+fn hex_digits(alloc: Global, text: &str) -> Result<String, AllocError>
+    ensures digits { IfOk result (λ digits. string_bytes digits ≡ code_digits text.now) }
+    ensures lower { IfOk result (λ digits. IsTrue (are_code_digits (string_bytes digits))) }
+{
+    let mut digits = String::new(alloc);
+    for byte in text.as_bytes() {
+        if byte.is_ascii_hexdigit() {
+            digits.push(char::from(byte.to_ascii_lowercase()))?;
+        }
+    }
+    Ok(digits)
+}
+
+#[cfg(test)]
+mod tests {
+    use super::*;
+    use std::test::Fail;
+
+    #[test]
+    fn digits(rt: HostRuntime) -> Result<(), Fail> {
+        let id = CodeId::new(rt.alloc(), "AB-cd!g1")?;
+        assert_eq!(rt; id.as_str(), "abcd1");
+        assert!(rt; id.clone()? == id);
+        Ok(())
+    }
+}

@@ -1,0 +1,14 @@
+//! Bytes that are written as hex digits.
+
+ghost use Rattle.std.specs.Prelude.{◌≡◌};
+ghost use Rattle.std.specs.Result.{result_ok};
+ghost use Rattle.sentry_identifiers.specs.HexId.{hex_id_of};
+
+use hex::{FromHex, FromHexError};
+
+// Reads two digits for each byte, in any case.
+pub(crate) fn read_bytes<const N: usize>(text: &str) -> Result<[u8; N], FromHexError>
+    ensures { result_ok result ≡ hex_id_of N text.now }
+{
+    <[u8; N]>::from_hex(text)
+}

@@ -1,0 +1,189 @@
+//! Ids of projects and organizations.
+
+ghost use Rattle.std.specs.Prelude.{◌≡◌, ◌↔◌, [], IfOk, IsErrOf, Some, decimal};
+ghost use Rattle.sentry_identifiers.specs.Number.{ReadsAs, number_of};
+
+use crate::number::{ParseNumberError, parse_number};
+use std::alloc::{AllocError, Global};
+use std::fmt;
+use std::str::FromStr;
+use thiserror::Error;
+
+/// The id of a project: any text.
+#[derive(Debug, Drop, PartialEq, Eq, PartialOrd, Ord, Hash)]
+pub struct ProjectId {
+    text: String,
+}
+
+/// A text was refused as a [`ProjectId`].
+#[derive(Debug, Drop, PartialEq, Eq, PartialOrd, Ord, Error)]
+pub enum ParseProjectIdError {
+    /// The text is empty.
+    #[error("empty or missing project id")]
+    EmptyValue,
+    /// There was no memory for the text.
+    #[error("out of memory")]
+    Memory,
+}
+
+impl From<AllocError> for ParseProjectIdError {
+    ghost use Rattle.sentry_identifiers.specs.declared.project_id.ParseProjectIdError.TheVariants.{Memory};
+
+    ghost from_gives = { λ _ e. e ≡ Memory };
+
+    fn from(_error: AllocError) -> ParseProjectIdError {
+        ParseProjectIdError::Memory
+    }
+}
+
+impl ProjectId {
+    ghost use Rattle.sentry_identifiers.specs.ProjectId.{project_text};
+
+    /// The id of this text, whatever it is.
+    ///
+    /// # Errors
+    ///
+    /// `AllocError` where there is no memory for the text.
+    pub fn new(alloc: Global, text: &str) -> Result<ProjectId, AllocError>
+        ensures { IfOk result (λ id. project_text id ≡ text.now) }
+    {
+        Ok(ProjectId {
+            text: String::from_str(alloc, text)?,
+        })
+    }
+
+    /// The id of a text that is not empty.
+    ///
+    /// # Errors
+    ///
+    /// `EmptyValue` exactly where the text is empty, else `Memory` where there is none for the text.
+    pub fn from_str(alloc: Global, text: &str) -> Result<ProjectId, ParseProjectIdError>
+        ensures ok { IfOk result (λ id. project_text id ≡ text.now) }
+        ensures empty { IsErrOf result ParseProjectIdError.EmptyValue ↔ (text.now ≡ []) }
+    {
+        if text.is_empty() {
+            return Err(ParseProjectIdError::EmptyValue);
+        }
+        Ok(ProjectId::new(alloc, text)?)
+    }
+
+    /// The text of the id.
+    pub fn value(&self) -> &str
+        ensures { result.now ≡ project_text self.now }
+    {
+        self.text.as_str()
+    }
+
+    /// A copy of the id.
+    ///
+    /// # Errors
+    ///
+    /// `AllocError` where there is no memory for the text.
+    pub fn clone(&self) -> Result<ProjectId, AllocError>
+        ensures { IfOk result (λ id. project_text id ≡ project_text self.now) }
+    {
+        Ok(ProjectId {
+            text: self.text.clone()?,
+        })
+    }
+}
+
+impl fmt::Display for ProjectId {
+    ghost use Rattle.sentry_identifiers.specs.ProjectId.{project_text};
+
+    ghost output = { λ id. Some (project_text id) };
+
+    fn fmt<W: fmt::Write>(&self, f: &mut fmt::Formatter<W>) -> fmt::Result {
+        f.write_str(self.value())
+    }
+}
+
+/// The id of an organization: a number.
+///
+/// It is read from a decimal number of at most 64 bits, with or without a `+` before it.
+#[derive(Clone, Copy, Debug, PartialEq)]
+pub struct OrganizationId(u64);
+
+impl OrganizationId {
+    ghost use Rattle.sentry_identifiers.specs.ProjectId.{organization_value};
+
+    /// The number.
+    pub fn value(&self) -> u64
+        ensures { result ≡ organization_value self.now }
+    {
+        self.0
+    }
+}
+
+impl From<u64> for OrganizationId {
+    ghost use Rattle.sentry_identifiers.specs.ProjectId.{organization_value};
+
+    ghost from_gives = { λ n id. organization_value id ≡ n };
+
+    fn from(number: u64) -> OrganizationId {
+        OrganizationId(number)
+    }
+}
+
+impl FromStr for OrganizationId {
+    type Err = ParseNumberError;
+
+    ghost use Rattle.sentry_identifiers.specs.ProjectId.{organization_value};
+
+    ghost from_str_gives = { ReadsAs (number_of 10) organization_value };
+
+    fn from_str(text: &str) -> Result<OrganizationId, ParseNumberError> {
+        Ok(OrganizationId(parse_number(text, 10)?))
+    }
+}
+
+impl fmt::Display for OrganizationId {
+    ghost use Rattle.sentry_identifiers.specs.ProjectId.{organization_value};
+
+    ghost output = { λ id. Some (decimal (organization_value id)) };
+
+    fn fmt<W: fmt::Write>(&self, f: &mut fmt::Formatter<W>) -> fmt::Result {
+        write!(f, "{}", self.value())
+    }
+}
+
+#[cfg(test)]
+mod tests {
+    use super::*;
+    use std::test::Fail;
+
+    #[test]
+    fn projects(rt: HostRuntime) -> Result<(), Fail> {
+        let id = ProjectId::from_str(rt.alloc(), "42xxx")?;
+        assert_eq!(rt; id.value(), "42xxx");
+        assert_eq!(rt; id.to_string(rt.alloc())?.as_str(), "42xxx");
+        assert!(rt; id.clone()? == id);
+        assert_eq!(rt; ProjectId::new(rt.alloc(), "")?.value(), "");
+        match ProjectId::from_str(rt.alloc(), "") {
+            Ok(_) => assert!(rt; false),
+            Err(error) => {
+                assert_eq!(rt; error, ParseProjectIdError::EmptyValue);
+                let text = error.to_string(rt.alloc())?;
+                assert_eq!(rt; text.as_str(), "empty or missing project id");
+            }
+        }
+        Ok(())
+    }
+
+    #[test]
+    fn organizations(rt: HostRuntime) -> Result<(), Fail> {
+        for (text, shown) in [
+            ("5", "5"),
+            ("+007", "7"),
+            ("18446744073709551615", "18446744073709551615"),
+        ] {
+            let id: OrganizationId = text.parse()?;
+            assert_eq!(rt; id.to_string(rt.alloc())?.as_str(), shown);
+        }
+        for text in ["", "+", "-1", "0x1", "18446744073709551616"] {
+            assert!(rt; text.parse::<OrganizationId>().is_err(), "{text}");
+        }
+        assert_eq!(rt; OrganizationId::from(5).value(), 5);
+        Ok(())
+    }
+}

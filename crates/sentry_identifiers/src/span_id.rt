@@ -1,0 +1,139 @@
+//! Ids of spans.
+
+ghost use Rattle.std.specs.Prelude.{◌≡◌, IfOk, Some, string_bytes};
+ghost use Rattle.hex.specs.Hex.{encode_lower};
+ghost use Rattle.rand_core.specs.Stream.{fill_bytes};
+ghost use Rattle.sentry_identifiers.specs.HexId.{hex_id_of};
+ghost use Rattle.sentry_identifiers.specs.Number.{ReadsAs};
+
+use crate::hex_id::read_bytes;
+use hex::FromHexError;
+use rand_core::Rng;
+use std::alloc::{AllocError, Global};
+use std::str::FromStr;
+use std::{fmt, str};
+
+/// The id of a span: eight bytes.
+///
+/// It is read from 16 hex digits in any case, and written in lower case.
+#[derive(Clone, Copy, PartialEq, Eq, Hash)]
+pub struct SpanId([u8; 8]);
+
+impl SpanId {
+    ghost use Rattle.sentry_identifiers.specs.HexId.{span_bytes};
+
+    /// A random id: the next 8 bytes that the generator gives.
+    pub fn random<R: Rng>(ids: &mut R) -> SpanId
+        ensures { (span_bytes result, R.stream ids.new) ≡ fill_bytes 8 (R.stream ids.old) }
+    {
+        let mut bytes = [0; 8];
+        ids.fill_bytes(&mut bytes);
+        SpanId::from(bytes)
+    }
+
+    /// The id as 16 digits in lower case.
+    ///
+    /// # Errors
+    ///
+    /// `AllocError` where there is no memory for the text.
+    pub fn to_text(&self, alloc: Global) -> Result<String, AllocError>
+        ensures { IfOk result (λ text. string_bytes text ≡ encode_lower (span_bytes self.now)) }
+    {
+        hex::encode(alloc, self.0)
+    }
+}
+
+impl From<[u8; 8]> for SpanId {
+    ghost use Rattle.sentry_identifiers.specs.HexId.{span_bytes};
+
+    ghost from_gives = { λ bytes id. span_bytes id ≡ bytes };
+
+    fn from(bytes: [u8; 8]) -> SpanId {
+        SpanId(bytes)
+    }
+}
+
+/// Reads 16 hex digits in any case.
+impl FromStr for SpanId {
+    type Err = FromHexError;
+
+    ghost use Rattle.sentry_identifiers.specs.HexId.{span_bytes};
+
+    ghost from_str_gives = { ReadsAs (hex_id_of 8) span_bytes };
+
+    fn from_str(text: &str) -> Result<SpanId, FromHexError> {
+        Ok(SpanId(read_bytes(text)?))
+    }
+}
+
+impl TryFrom<String> for SpanId {
+    type Error = FromHexError;
+
+    ghost use Rattle.sentry_identifiers.specs.HexId.{span_bytes};
+
+    ghost try_from_gives = { λ text r. ReadsAs (hex_id_of 8) span_bytes (string_bytes text) r };
+
+    fn try_from(text: String) -> Result<SpanId, FromHexError> {
+        text.as_str().parse()
+    }
+}
+
+impl fmt::Display for SpanId {
+    ghost use Rattle.sentry_identifiers.specs.HexId.{span_bytes};
+
+    ghost output = { λ id. Some (encode_lower (span_bytes id)) };
+
+    fn fmt<W: fmt::Write>(&self, f: &mut fmt::Formatter<W>) -> fmt::Result {
+        let mut digits = [0; 16];
+        hex::encode_to_slice(self.0, &mut digits).map_err(|_| fmt::Error)?;
+        f.write_str(str::from_utf8(&digits).map_err(|_| fmt::Error)?)
+    }
+}
+
+impl fmt::Debug for SpanId {
+    fn fmt<W: fmt::Write>(&self, f: &mut fmt::Formatter<W>) -> fmt::Result {
+        write!(f, "SpanId({self})")
+    }
+}
+
+#[cfg(test)]
+mod tests {
+    use super::*;
+    use rand_core::SeedableRng;
+    use rand_pcg::Pcg32;
+    use std::test::Fail;
+
+    #[test]
+    fn texts(rt: HostRuntime) -> Result<(), Fail> {
+        for text in ["d42cee9fc3e74f5c", "D42CEE9FC3E74F5C"] {
+            let id: SpanId = text.parse()?;
+            assert_eq!(rt; id.to_string(rt.alloc())?.as_str(), "d42cee9fc3e74f5c");
+            assert_eq!(rt; id.to_text(rt.alloc())?.as_str(), "d42cee9fc3e74f5c");
+            assert_eq!(rt;
+                format!(in rt.alloc(); "{id:?}")?.as_str(),
+                "SpanId(d42cee9fc3e74f5c)"
+            );
+            assert_eq!(rt; SpanId::try_from(String::from_str(rt.alloc(), text)?)?, id);
+        }
+        for text in [
+            "",
+            "d42cee9fc3e74f5",
+            "d42cee9fc3e74f5c0",
+            "d42cee9fc3e74f5g",
+            "335e53d614474acc9f89e632b776cc28",
+        ] {
+            assert!(rt; text.parse::<SpanId>().is_err(), "{text}");
+        }
+        Ok(())
+    }
+
+    #[test]
+    fn drawn(rt: HostRuntime) {
+        let mut words = Pcg32::seed_from_u64(1);
+        let mut bytes = [0; 8];
+        words.fill_bytes(&mut bytes);
+        let mut ids = Pcg32::seed_from_u64(1);
+        assert_eq!(rt; SpanId::random(&mut ids), SpanId::from(bytes));
+        assert_ne!(rt; SpanId::random(&mut ids), SpanId::from(bytes));
+    }
+}

@@ -1,0 +1,148 @@
+//! Ids of traces.
+
+ghost use Rattle.std.specs.Prelude.{◌≡◌, IfOk, Some, string_bytes};
+ghost use Rattle.hex.specs.Hex.{encode_lower};
+ghost use Rattle.rand_core.specs.Stream.{fill_bytes};
+ghost use Rattle.sentry_identifiers.specs.HexId.{hex_id_of};
+ghost use Rattle.sentry_identifiers.specs.Number.{ReadsAs};
+
+use crate::hex_id::read_bytes;
+use hex::FromHexError;
+use rand_core::Rng;
+use std::alloc::{AllocError, Global};
+use std::str::FromStr;
+use std::{fmt, str};
+
+/// The id of a trace: sixteen bytes.
+///
+/// It is read from 32 hex digits in any case, and written in lower case.
+#[derive(Clone, Copy, PartialEq, Eq, Hash)]
+pub struct TraceId([u8; 16]);
+
+impl TraceId {
+    ghost use Rattle.sentry_identifiers.specs.HexId.{trace_bytes};
+
+    /// A random id: the next 16 bytes that the generator gives.
+    pub fn random<R: Rng>(ids: &mut R) -> TraceId
+        ensures { (trace_bytes result, R.stream ids.new) ≡ fill_bytes 16 (R.stream ids.old) }
+    {
+        let mut bytes = [0; 16];
+        ids.fill_bytes(&mut bytes);
+        TraceId::from(bytes)
+    }
+
+    /// The id as 32 digits in lower case.
+    ///
+    /// # Errors
+    ///
+    /// `AllocError` where there is no memory for the text.
+    pub fn to_text(&self, alloc: Global) -> Result<String, AllocError>
+        ensures { IfOk result (λ text. string_bytes text ≡ encode_lower (trace_bytes self.now)) }
+    {
+        hex::encode(alloc, self.0)
+    }
+}
+
+impl From<[u8; 16]> for TraceId {
+    ghost use Rattle.sentry_identifiers.specs.HexId.{trace_bytes};
+
+    ghost from_gives = { λ bytes id. trace_bytes id ≡ bytes };
+
+    fn from(bytes: [u8; 16]) -> TraceId {
+        TraceId(bytes)
+    }
+}
+
+/// Reads 32 hex digits in any case.
+impl FromStr for TraceId {
+    type Err = FromHexError;
+
+    ghost use Rattle.sentry_identifiers.specs.HexId.{trace_bytes};
+
+    ghost from_str_gives = { ReadsAs (hex_id_of 16) trace_bytes };
+
+    fn from_str(text: &str) -> Result<TraceId, FromHexError> {
+        Ok(TraceId(read_bytes(text)?))
+    }
+}
+
+impl TryFrom<String> for TraceId {
+    type Error = FromHexError;
+
+    ghost use Rattle.sentry_identifiers.specs.HexId.{trace_bytes};
+
+    ghost try_from_gives = { λ text r. ReadsAs (hex_id_of 16) trace_bytes (string_bytes text) r };
+
+    fn try_from(text: String) -> Result<TraceId, FromHexError> {
+        text.as_str().parse()
+    }
+}
+
+impl fmt::Display for TraceId {
+    ghost use Rattle.sentry_identifiers.specs.HexId.{trace_bytes};
+
+    ghost output = { λ id. Some (encode_lower (trace_bytes id)) };
+
+    fn fmt<W: fmt::Write>(&self, f: &mut fmt::Formatter<W>) -> fmt::Result {
+        let mut digits = [0; 32];
+        hex::encode_to_slice(self.0, &mut digits).map_err(|_| fmt::Error)?;
+        f.write_str(str::from_utf8(&digits).map_err(|_| fmt::Error)?)
+    }
+}
+
+impl fmt::Debug for TraceId {
+    fn fmt<W: fmt::Write>(&self, f: &mut fmt::Formatter<W>) -> fmt::Result {
+        write!(f, "TraceId({self})")
+    }
+}
+
+#[cfg(test)]
+mod tests {
+    use super::*;
+    use rand_core::SeedableRng;
+    use rand_pcg::Pcg32;
+    use std::test::Fail;
+
+    #[test]
+    fn texts(rt: HostRuntime) -> Result<(), Fail> {
+        for text in [
+            "335e53d614474acc9f89e632b776cc28",
+            "335E53D614474ACC9F89E632B776CC28",
+        ] {
+            let id: TraceId = text.parse()?;
+            assert_eq!(rt;
+                id.to_string(rt.alloc())?.as_str(),
+                "335e53d614474acc9f89e632b776cc28"
+            );
+            assert_eq!(rt;
+                id.to_text(rt.alloc())?.as_str(),
+                "335e53d614474acc9f89e632b776cc28"
+            );
+            assert_eq!(rt;
+                format!(in rt.alloc(); "{id:?}")?.as_str(),
+                "TraceId(335e53d614474acc9f89e632b776cc28)"
+            );
+            assert_eq!(rt; TraceId::try_from(String::from_str(rt.alloc(), text)?)?, id);
+        }
+        for text in [
+            "",
+            "335e53d614474acc9f89e632b776cc2",
+            "335e53d614474acc9f89e632b776cc280",
+            "335e53d614474acc9f89e632b776cc2g",
+            "335e53d6-1447-4acc-9f89-e632b776cc28",
+        ] {
+            assert!(rt; text.parse::<TraceId>().is_err(), "{text}");
+        }
+        Ok(())
+    }
+
+    #[test]
+    fn drawn(rt: HostRuntime) {
+        let mut words = Pcg32::seed_from_u64(1);
+        let mut bytes = [0; 16];
+        words.fill_bytes(&mut bytes);
+        let mut ids = Pcg32::seed_from_u64(1);
+        assert_eq!(rt; TraceId::random(&mut ids), TraceId::from(bytes));
+        assert_ne!(rt; TraceId::random(&mut ids), TraceId::from(bytes));
+    }
+}

@@ -1,0 +1,13 @@
+pub mod AsciiTexts
+pub mod Calendar
+pub mod Choices
+pub mod Days
+pub mod DecimalReadBack
+pub mod DecimalTexts
+pub mod Fronts
+pub mod Numerals
+pub mod Padding
+pub mod Places
+pub mod Rfc3339ReadBack
+pub mod Rfc3339Texts
+pub mod Shifts

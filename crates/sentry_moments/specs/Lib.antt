@@ -1,0 +1,9 @@
+pub mod Decimal
+pub mod DecimalScan
+pub mod Digits
+pub mod MomentTexts
+pub mod Rfc3339
+pub mod Rfc3339Scan
+pub mod SampleRand
+pub mod SampleRandReading
+pub mod SampleRate

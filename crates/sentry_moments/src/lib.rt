@@ -1,0 +1,15 @@
+//! Small texts of the protocol: moments, decimals and sampling values.
+#![tactic(auto)]
+
+pub mod decimal;
+mod digits;
+mod fraction;
+pub mod moment;
+mod rfc3339;
+pub mod sample_rand;
+pub mod sample_rate;
+
+pub use decimal::DecimalError;
+pub use moment::Moment;
+pub use sample_rand::{InvalidSampleRandError, SampleRand};
+pub use sample_rate::SampleRate;

@@ -1,0 +1,184 @@
+//! The random value that a trace is sampled by.
+
+ghost use Rattle.std.specs.Prelude.{ℕ, ◌≡◌, ◌+◌, ◌*◌, ◌^◌, ◌<◌, ◌≤◌, ◌↔◌, IsOk, IfOk, IfErr, Some, IsUtf8};
+ghost use Rattle.sentry_moments.specs.Decimal.{IsDecimal, Billionths};
+ghost use Rattle.sentry_moments.specs.SampleRand.{IsNearestEven, millionths as millionths_of, sample_rand_text};
+
+use crate::decimal::{self, DecimalError};
+use std::fmt;
+use std::str::FromStr;
+use thiserror::Error;
+
+/// A random number from 0 to below 1, drawn once where a trace begins, in billionths.
+///
+/// <https://develop.sentry.dev/sdk/telemetry/traces/#propagated-random-value>
+#[derive(Clone, Copy, Debug, PartialEq)]
+pub struct SampleRand {
+    billionths: u64,
+    pub ghost below_one: { billionths < 10 ^ 9 },
+}
+
+/// Why a value is no [`SampleRand`].
+#[derive(Clone, Copy, Debug, PartialEq, Eq, Error)]
+pub enum InvalidSampleRandError {
+    /// The text is no decimal.
+    #[error("failed to parse f64")]
+    InvalidFloat,
+    /// The value is below 0, or 1 or more.
+    #[error("sample rand value out of admissible interval [0.0, 1.0)")]
+    OutOfRange,
+}
+
+impl From<DecimalError> for InvalidSampleRandError {
+    ghost use Rattle.sentry_moments.specs.SampleRandReading.{sample_rand_error};
+
+    ghost from_gives = { λ error e. e ≡ sample_rand_error error };
+
+    fn from(error: DecimalError) -> InvalidSampleRandError {
+        match error {
+            DecimalError::InvalidText => InvalidSampleRandError::InvalidFloat,
+            DecimalError::OutOfRange => InvalidSampleRandError::OutOfRange,
+        }
+    }
+}
+
+impl SampleRand {
+    /// The value of so many billionths.
+    ///
+    /// Fails with `OutOfRange` from a whole unit on.
+    pub fn from_billionths(billionths: u64) -> Result<SampleRand, InvalidSampleRandError>
+        ensures exactly { IsOk result ↔ (billionths < 10 ^ 9) }
+        ensures same { IfOk result (λ r. r.billionths ≡ billionths) }
+        ensures err { IfErr result (λ e. e ≡ InvalidSampleRandError.OutOfRange) }
+    {
+        if billionths < 1_000_000_000 {
+            Ok(SampleRand { billionths })
+        } else {
+            Err(InvalidSampleRandError::OutOfRange)
+        }
+    }
+
+    /// The value in billionths, which are fewer than 10^9.
+    pub fn billionths(&self) -> u64
+        ensures { result ≡ self.now.billionths }
+    {
+        self.billionths
+    }
+}
+
+impl FromStr for SampleRand {
+    type Err = InvalidSampleRandError;
+
+    ghost use Rattle.sentry_moments.specs.SampleRandReading.{ReadsSampleRand};
+
+    ghost from_str_gives = { λ text r. ReadsSampleRand text r };
+
+    fn from_str(text: &str) -> Result<SampleRand, InvalidSampleRandError> {
+        let billionths = decimal::read(text, 1_000_000_000)?;
+        Ok(SampleRand {
+            billionths: billionths as u64,
+        })
+    }
+}
+
+// The nearest number of millionths, of two the even one, and below 1.
+fn millionths(billionths: u64) -> u64
+    requires { billionths < 10 ^ 9 }
+    ensures value { result ≡ millionths_of billionths }
+    ensures bound { result < 10 ^ 6 }
+{
+    let (whole, part) = (billionths / 1_000, billionths % 1_000);
+    let up = part > 500 || part == 500 && whole % 2 == 1;
+    (whole + u64::from(up)).min(999_999)
+}
+
+#[tactic(auto, using(crate::proofs::Padding::padded_digits))]
+impl fmt::Display for SampleRand {
+    ghost output = { λ r. Some (sample_rand_text r.billionths) };
+
+    fn fmt<W: fmt::Write>(&self, f: &mut fmt::Formatter<W>) -> fmt::Result {
+        let millionths = millionths(self.billionths);
+        write!(f, "0.{millionths:06}")
+    }
+}
+
+/// The printed text of a value reads as the printed millionths: half to even, and 0.999999 from
+/// 0.9999995 on. What was read from a printed text is printed as that text again.
+pub fn printed_sample_rands()
+    ensures nearest { (b : ℕ) → b < 999_999_500 → IsNearestEven b (millionths_of b) }
+    ensures last { (b : ℕ) → 999_999_500 ≤ b → millionths_of b ≡ 999_999 }
+    ensures reads { (b : ℕ) → IsDecimal (sample_rand_text b) (Billionths (1000 * millionths_of b)) }
+    ensures is_text { (b : ℕ) → IsUtf8 (sample_rand_text b) }
+    ensures again { (b : ℕ) → millionths_of (1000 * millionths_of b) ≡ millionths_of b }
+{}
+
+#[cfg(test)]
+mod tests {
+    use super::*;
+    use std::test::Fail;
+
+    fn read(text: &str) -> Result<u64, InvalidSampleRandError> {
+        text.parse::<SampleRand>().map(|value| value.billionths())
+    }
+
+    #[test]
+    fn texts_are_read(rt: HostRuntime) -> Result<(), Fail> {
+        assert_eq!(rt; read(".5"), Ok(500_000_000));
+        assert_eq!(rt; read("1e-9"), Ok(1));
+        assert_eq!(rt; read("1e-10"), Ok(0));
+        assert_eq!(rt; read("-0"), Ok(0));
+        assert_eq!(rt; read("1"), Err(InvalidSampleRandError::OutOfRange));
+        assert_eq!(rt; read("-1e-10"), Err(InvalidSampleRandError::OutOfRange));
+        assert_eq!(rt; read("."), Err(InvalidSampleRandError::InvalidFloat));
+        assert_eq!(rt; read("inf"), Err(InvalidSampleRandError::InvalidFloat));
+        assert_eq!(rt; read("0.9999999999"), Ok(999_999_999));
+        assert_eq!(rt; read("+0000.25"), Ok(250_000_000));
+        assert_eq!(rt; read("-0e-999"), Ok(0));
+        assert_eq!(rt; read("-0e-1000"), Err(InvalidSampleRandError::InvalidFloat));
+        assert_eq!(rt; read(""), Err(InvalidSampleRandError::InvalidFloat));
+        Ok(())
+    }
+
+    #[test]
+    fn billionths_are_in_range(rt: HostRuntime) -> Result<(), Fail> {
+        let last = SampleRand::from_billionths(999_999_999).map(|value| value.billionths());
+        assert_eq!(rt; last, Ok(999_999_999));
+        let whole = SampleRand::from_billionths(1_000_000_000).map(|value| value.billionths());
+        assert_eq!(rt; whole, Err(InvalidSampleRandError::OutOfRange));
+        Ok(())
+    }
+
+    #[test]
+    fn values_are_printed(rt: HostRuntime) -> Result<(), Fail> {
+        let printed = [
+            (123_456_500, "0.123456"),
+            (123_457_500, "0.123458"),
+            (999_999_499, "0.999999"),
+            (999_999_500, "0.999999"),
+            (999_999_900, "0.999999"),
+            (0, "0.000000"),
+            (499, "0.000000"),
+            (501, "0.000001"),
+        ];
+        for (billionths, text) in printed {
+            let value = SampleRand::from_billionths(billionths).ok().ok_or("value")?;
+            assert_eq!(rt; format!(in rt.alloc(); "{value}")?.as_str(), text);
+        }
+        Ok(())
+    }
+
+    #[test]
+    fn errors_are_printed(rt: HostRuntime) -> Result<(), Fail> {
+        let invalid = InvalidSampleRandError::InvalidFloat;
+        assert_eq!(rt;
+            format!(in rt.alloc(); "{invalid}")?.as_str(),
+            "failed to parse f64"
+        );
+        let outside = InvalidSampleRandError::OutOfRange;
+        assert_eq!(rt;
+            format!(in rt.alloc(); "{outside}")?.as_str(),
+            "sample rand value out of admissible interval [0.0, 1.0)"
+        );
+        Ok(())
+    }
+}
