@@ -1,14 +1,13 @@
 -- What is left of an envelope, and what is lost, where a filter refuses kinds and sums losses.
-use Rattle.std.proofs.Common.{arith, ◌≡◌, ℕ, Bool, true, false, List, [], ◌∷◌, ◌++◌, length, map, fold, ◌==◌, Option, Some, None, refl, ap, sym, ◌∙◌}
+use Rattle.std.proofs.Common.{◌≡◌, ℕ, Bool, true, false, List, [], ◌∷◌, ◌++◌, length, map, fold, ◌==◌, Option, Some, None, refl, ap, sym, ◌∙◌}
 use Rattle.std.specs.List.{filter_map}
 use Rattle.std.specs.Option.{IsSomeAnd}
-use Rattle.std.proofs.lemmas.Bool.{eqb-true}
 use Rattle.std.proofs.lemmas.List.Sums.{fold-append}
 use Rattle.sentry_tables.specs.Cell.{Cell}
 use Rattle.sentry_items.specs.Losses.{losses_of_item, losses_of_items}
 use Rattle.sentry_items.specs.declared.item.EnvelopeItem.{EnvelopeItem}
 use Rattle.sentry_envelope.specs.Envelope.{Envelope as Model}
-use Rattle.sentry_envelope.specs.EnvelopeView.{items as held_items, held_in, item_view, header_of, structured, structured_by, text_by, text_of}
+use Rattle.sentry_envelope.specs.EnvelopeView.{items as held_items, held_in, item_view, header_of, structured, structured_by, text_by}
 use Rattle.sentry_envelope.specs.Filter.{Call, Ask, Hand, Run, asks, calls, chosen, orphans, handed, item_of_hand, asked_in, structured_in, FiltersEnvelope, LeavesOf}
 use Rattle.sentry_envelope.specs.declared.envelope.Contents.{Contents}
 use Rattle.sentry_envelope.specs.declared.envelope.Contents.TheVariants.{Items, Raw}

@@ -1,20 +1,22 @@
 -- What is left of an envelope that can be written can be written.
-use Rattle.std.proofs.Common.{◌≡◌, Bool, true, false, not, List, [], ◌∷◌, map, filter, if◌then◌else◌, Option, Some, None, refl, sym, subst}
+use Rattle.std.proofs.Common.{◌≡◌, Bool, true, false, not, List, [], ◌∷◌, map, filter, if◌then◌else◌, Option, Some, None, sym, subst}
 use Rattle.std.specs.List.{list_any}
 use Rattle.std.specs.Option.{IsSomeAnd}
 use Rattle.sentry_tables.specs.Cell.{Cell}
 use Rattle.sentry_items.specs.declared.item.EnvelopeItem.{EnvelopeItem}
-use Rattle.sentry_envelope.specs.Envelope.{ContentDemand, Item, item, raw, Envelope as Model, ItemsMeet, IsEnvelopePlain}
-use Rattle.sentry_envelope.specs.EnvelopeView.{IsUnwritable, header_of, held_in, item_view, plain_content, structured, structured_by}
-use Rattle.sentry_envelope.specs.Filter.{FiltersEnvelope, IsMadeOf, LeavesOf, asked_in, chosen, is_main, is_orphan, kept, structured_in}
-use Rattle.sentry_envelope.specs.Profile.{ItemType, Profile}
+use Rattle.sentry_envelope.specs.Envelope.{ContentDemand, Item, item, raw, ItemsMeet, IsEnvelopePlain}
+use Rattle.sentry_envelope.specs.EnvelopeView.{IsUnwritable, header_of, held, held_in, Held, items as held_items, bytes as held_bytes, item_view, plain_content, structured, structured_by}
+use Rattle.sentry_envelope.specs.Filter.{FiltersEnvelope, LeavesOf, asked_in, chosen, first_id_of, is_main, is_orphan, kept, structured_in}
+use Rattle.sentry_envelope.specs.Profile.{ItemType}
 use Rattle.sentry_envelope.specs.SentryProfile.{profile}
 use Rattle.sentry_envelope.specs.declared.envelope.Contents.{Contents}
 use Rattle.sentry_envelope.specs.declared.envelope.Contents.TheVariants.{Items, Raw}
 use Rattle.sentry_envelope.specs.declared.envelope.Envelope.{Envelope}
-use Rattle.sentry_envelope.proofs.HeaderValues.{header_plain}
+use Rattle.sentry_tables.specs.Meets.{IsPlain}
+use Rattle.sentry_envelope.specs.HeaderFields.{header_kind, put_id}
+use Rattle.sentry_envelope.proofs.HeaderValues.{put_plain, no_fields_plain}
 use Rattle.sentry_env.specs.Losing.{AnswersByKind, AddsLosses}
-use Rattle.sentry_env.specs.Run.{IsWritable, model}
+use Rattle.sentry_env.specs.Run.{IsWritable, header_left, model}
 use Rattle.sentry_env.specs.declared.loss_filter.LossFilter.{LossFilter}
 
 -- ---- what each item meets, the items of a part meet
@@ -57,10 +59,11 @@ module _ (D : ContentDemand) (ts : List ItemType) where
 
 -- ---- plain envelopes
 
--- with plain items an envelope's part is plain, whatever its header is
-part_plain : (envelope part : Envelope) (items : List EnvelopeItem) (answers : List Bool) → IsEnvelopePlain profile (model (header_of envelope) items) → IsEnvelopePlain profile (model (header_of part) (kept (chosen items answers)))
+-- with a plain header and plain items an envelope's part is plain
+part_plain : (header : Cell) (envelope part : Envelope) (items : List EnvelopeItem) (answers : List Bool) (main : List EnvelopeItem) → IsPlain header_kind header → header_of part ≡ put_id (first_id_of main) header
+    → IsEnvelopePlain profile (model (header_of envelope) items) → IsEnvelopePlain profile (model (header_of part) (kept (chosen items answers)))
 unfolding profile IsEnvelopePlain
-part_plain envelope part items answers plain = (header_plain part.headers.event_id, kept_meet plain_content profile.types (chosen items answers) (chosen_meet plain_content profile.types items answers plain.1))
+part_plain header envelope part items answers main whole is plain = (subst (IsPlain header_kind) (sym is) (put_plain (first_id_of main) header whole), kept_meet plain_content profile.types (chosen items answers) (chosen_meet plain_content profile.types items answers plain.1))
 
 -- a plain envelope can be written
 writable : (envelope : Envelope) (items : List EnvelopeItem) → structured_in envelope.contents ≡ Some items → IsEnvelopePlain profile (model (header_of envelope) items) → IsUnwritable envelope → ⊥
@@ -70,9 +73,9 @@ writable envelope items has plain = go envelope.contents has
     go (Items all) is unwritable = let same : items ≡ all.items = cc in unwritable (subst (λ (is : List EnvelopeItem). IsEnvelopePlain profile (model (header_of envelope) is)) same plain)
     go (Raw bytes) is unwritable = unwritable
 
-pub left_writable : (header : Cell) (envelope : Envelope) (first last : LossFilter) (left : Option Envelope) → IsSomeAnd (structured envelope) (IsEnvelopePlain profile)
+pub left_writable : (header : Cell) (envelope : Envelope) (first last : LossFilter) (left : Option Envelope) → IsPlain header_kind header → IsSomeAnd (structured envelope) (IsEnvelopePlain profile)
     → FiltersEnvelope header AnswersByKind AddsLosses envelope first last left → IsWritable left
-left_writable header envelope first last left plain filtered = go envelope.contents plain (filtered.filters.answers) filtered.left filtered.filters.left_is left filtered.leaves
+left_writable header envelope first last left whole plain filtered = go envelope.contents plain (filtered.filters.answers) filtered.left filtered.filters.left_is left filtered.leaves
   where
     go : (contents : Contents) → IsSomeAnd (structured_by (header_of envelope) (held_in contents)) (IsEnvelopePlain profile) → (answers : List Bool) (kept_items : List EnvelopeItem)
         → kept_items ≡ kept (chosen (asked_in contents) answers) → (left : Option Envelope) → LeavesOf contents header envelope kept_items left → IsWritable left
@@ -81,4 +84,15 @@ left_writable header envelope first last left plain filtered = go envelope.conte
     go (Items all) plain answers [] is (Some part) leaves = cc
     go (Items all) plain answers (i ∷ rest) is (Some part) leaves =
         writable part (i ∷ rest) leaves.items_are
-        (subst (λ (is : List EnvelopeItem). IsEnvelopePlain profile (model (header_of part) is)) (sym is) (part_plain envelope part all.items answers plain))
+        (subst (λ (is : List EnvelopeItem). IsEnvelopePlain profile (model (header_of part) is)) (sym is) (part_plain header envelope part all.items answers (i ∷ rest) whole leaves.header_is plain))
+
+-- the header of a plain envelope is plain
+plain_by : (header : Cell) (held : Held) → IsSomeAnd (structured_by header held) (IsEnvelopePlain profile) → IsPlain header_kind header
+unfolding profile IsEnvelopePlain
+plain_by header (held_items is) plain = plain.0
+plain_by header (held_bytes b) plain = absurd plain
+
+-- and so is the header that stays
+pub left_plain : (keep : Bool) (envelope : Envelope) → IsSomeAnd (structured envelope) (IsEnvelopePlain profile) → IsPlain header_kind (header_left keep (header_of envelope))
+left_plain true envelope plain = plain_by (header_of envelope) (held envelope) plain
+left_plain false envelope plain = no_fields_plain

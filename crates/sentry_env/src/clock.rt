@@ -1,4 +1,5 @@
-ghost use Rattle.std.specs.Prelude.{◌≡◌, ◌<◌, ◌≤◌, ◌^◌};
+ghost use Rattle.std.specs.Prelude.{◌≡◌, ◌<◌, ◌≤◌, ◌^◌, ◌/◌, ◌%◌};
+ghost use Rattle.std.specs.Duration.{as_nanos};
 
 use sentry_envelope::Moment;
 use std::rt::Clock;
@@ -13,7 +14,10 @@ pub fn time_since_1970(rt: &impl Clock) -> Duration {
 }
 
 /// The moment this long after 1970, or second 0 past the year 9999.
-pub fn moment_after(time: Duration) -> Moment {
+pub fn moment_after(time: Duration) -> Moment
+    ensures within { as_nanos time / 10 ^ 9 ≤ 253_402_300_799 → (result.secs ≡ as_nanos time / 10 ^ 9) × (result.nanos ≡ as_nanos time % 10 ^ 9) }
+    ensures beyond { 253_402_300_799 < as_nanos time / 10 ^ 9 → (result.secs ≡ 0) × (result.nanos ≡ 0) }
+{
     moment_at(time.as_secs(), time.subsec_nanos())
 }
 

@@ -5,6 +5,7 @@ ghost use Rattle.sentry_env.specs.Sums.{add_loss, no_sums, place, sum_at};
 ghost use Rattle.sentry_env.specs.Table.{line_of, lines_by, reason_text, table_by};
 
 use sentry_items::{Category, EnvelopeItem, ItemLoss, LossSource, Reason};
+use sentry_words::IndexedEnum;
 use std::alloc::{AllocError, Global};
 
 // How many places a category has: one without a reason, and one for each.

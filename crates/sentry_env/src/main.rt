@@ -14,6 +14,8 @@ mod kind;
 mod laws;
 mod loss_filter;
 mod losses;
+#[cfg(test)]
+mod memory_tests;
 mod read_all;
 mod run;
 #[cfg(test)]

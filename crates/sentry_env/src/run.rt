@@ -5,7 +5,7 @@ ghost use Rattle.sentry_envelope.specs.Envelope.{IsEnvelopePlain};
 ghost use Rattle.sentry_envelope.specs.EnvelopeView.{header_of, structured};
 ghost use Rattle.sentry_envelope.specs.Filter.{FiltersEnvelope, structured_in};
 ghost use Rattle.sentry_envelope.specs.SentryProfile.{profile};
-ghost use Rattle.sentry_text.specs.Moments.{moment_cell};
+ghost use Rattle.sentry_moments.specs.Moments.{moment_cell};
 ghost use Rattle.sentry_env.specs.Run.{IsDue, IsWritable, Runs, Sends, header_left, left_outcome, left_text, reads_failed, stream};
 
 use crate::ending::{Outcome, RunError};

@@ -185,6 +185,21 @@ fn what_is_left_is_written(rt: HostRuntime) {
 }
 
 #[test]
+fn the_header_stays_on_wish(rt: HostRuntime) {
+    let alloc = rt.alloc();
+    let input =
+        "{\"dsn\":\"https://username:@domain/42\",\"event_id\":\"22d00b3f-d1b1-4b5d-8d20-49d138cd8a9c\"}\n{\"type\":\"attachment\"}\nab\n{\"type\":\"replay_recording\",\"length\":3}\nabc";
+    let kept =
+        "{\"dsn\":\"https://username:@domain/42\"}\n{\"length\":3,\"type\":\"replay_recording\"}\nabc\n";
+    let ran = run_on(alloc, input, &[Kind::Attachment], true);
+    assert!(rt; matches!(ran.answer, Ok(Outcome::Written)));
+    assert!(rt; wrote(&ran, kept, "attachment none 2\n"));
+    let ran = run_on(alloc, input, &[Kind::Attachment], false);
+    assert!(rt; matches!(ran.answer, Ok(Outcome::Written)));
+    assert!(rt; wrote(&ran, RECORDING, "attachment none 2\n"));
+}
+
+#[test]
 fn other_bytes_are_refused(rt: HostRuntime) {
     let ran = run_on(rt.alloc(), "{", &[], false);
     assert!(rt;

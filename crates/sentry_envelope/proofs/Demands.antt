@@ -1,12 +1,13 @@
 -- An envelope meets a demand where its header and its items do.
-use Rattle.std.proofs.Common.{◌≡◌, ◌↔◌, Bool, true, false, List, sym, subst, ◌∙◌, IsTrue}
+use Rattle.std.proofs.Common.{◌≡◌, ◌↔◌, Bool, true, false, sym, subst, ◌∙◌, IsTrue}
 use Rattle.std.proofs.lemmas.Bool.{false≢true}
 use Rattle.std.specs.Prelude.{map, Vec, IsSomeAnd}
 use Rattle.std.specs.declared.alloc.Global.{Global}
+use Rattle.sentry_tables.specs.Cell.{Cell}
 use Rattle.sentry_tables.specs.Meets.{IsPlain, IsStored}
 use Rattle.sentry_items.specs.declared.item.EnvelopeItem.{EnvelopeItem}
 use Rattle.sentry_envelope.specs.Envelope.{ItemsMeet, IsEnvelopePlain, IsEnvelopeStored}
-use Rattle.sentry_envelope.specs.EnvelopeView.{item_view, header_of, structured, structured_by, held_in, plain_content, stored_content}
+use Rattle.sentry_envelope.specs.EnvelopeView.{item_view, header_of, structured, structured_by, held, held_in, Held, items, bytes, plain_content, stored_content, ready_by, HasReadyHeader}
 use Rattle.sentry_envelope.specs.HeaderFields.{header_kind}
 use Rattle.sentry_envelope.specs.SentryProfile.{item_types, profile}
 use Rattle.sentry_envelope.specs.declared.envelope.Contents.{Contents}
@@ -35,3 +36,12 @@ module _ (e : Envelope) (r : Bool) (items : Vec EnvelopeItem Global) (is : e.con
   pub not_plain_header : (a : Bool) → a ≡ false → (IsTrue a ↔ IsPlain header_kind (header_of e)) → r ≡ false → IsTrue r ↔ IsSomeAnd (structured e) (IsEnvelopePlain profile)
   unfolding profile IsEnvelopePlain
   not_plain_header a isnt header none = subst (λ x. IsTrue r ↔ IsPlainIn x) (sym is) ((λ t. absurd (false≢true (sym none ∙ t))), (λ p. absurd (false≢true (sym isnt ∙ header.1 p.0))))
+
+-- the header of an envelope that is plain and stored can be written
+ready_held : (h : Cell) (x : Held) → IsSomeAnd (structured_by h x) (IsEnvelopePlain profile) → IsSomeAnd (structured_by h x) (IsEnvelopeStored profile) → ready_by h x
+unfolding profile IsEnvelopePlain IsEnvelopeStored
+ready_held h (items is) p s = (s.0, p.0)
+ready_held h (bytes b) p s = tt
+
+pub ready_header : (e : Envelope) (r : Bool) → (IsTrue r ↔ IsSomeAnd (structured e) (IsEnvelopePlain profile)) → (IsTrue r → IsSomeAnd (structured e) (IsEnvelopeStored profile)) → r ≡ true → HasReadyHeader e
+ready_header e r plain stored is = ready_held (header_of e) (held e) (plain.0 is) (stored is)

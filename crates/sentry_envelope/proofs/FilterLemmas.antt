@@ -4,12 +4,13 @@ use Rattle.std.specs.List.{list_any}
 use Rattle.sentry_items.specs.declared.item.EnvelopeItem.{EnvelopeItem}
 use Rattle.sentry_items.specs.declared.item.EnvelopeItem.TheVariants as item_variants
 use Rattle.sentry_envelope.specs.declared.envelope.Envelope.{Envelope}
+use Rattle.sentry_envelope.specs.declared.headers.EnvelopeHeaders.{EnvelopeHeaders}
 use Rattle.sentry_envelope.specs.declared.envelope.Contents.{Contents}
 use Rattle.sentry_envelope.specs.declared.envelope.Contents.TheVariants as variants
 use Rattle.sentry_envelope.specs.EnvelopeView.{item_view, header_of, held_in, structured_by, structured}
-use Rattle.sentry_envelope.specs.HeaderFields.{put_id}
+use Rattle.sentry_envelope.specs.HeaderFields.{put_id, headers_cell}
 use Rattle.sentry_tables.specs.Cell.{Cell}
-use Rattle.sentry_envelope.specs.Filter.{Call, Ask, Hand, Run, id_of, asks, chosen, is_main, is_orphan, orphans, kept, Asks, Filters, FiltersEnvelope, first_id_of, structured_in, IsMadeOf}
+use Rattle.sentry_envelope.specs.Filter.{Call, Ask, Hand, Run, id_of, asks, chosen, is_main, is_orphan, orphans, kept, Asks, Filters, FiltersEnvelope, first_id_of, structured_in, IsMadeOf, LeavesOf}
 
 -- `Raw` gives no id, and is no orphan
 raw_orphans : orphans (item_variants.Raw ∷ []) ≡ []
@@ -29,6 +30,13 @@ made_in (variants.Raw bytes) items own header same is = cc
 pub made_is : (header : Cell) (items : List EnvelopeItem) (envelope : Envelope) → IsMadeOf header items envelope
     → structured envelope ≡ Some (record { header = put_id (first_id_of items) header; items = map item_view items })
 made_is header items envelope made = made_in envelope.contents items (header_of envelope) (put_id (first_id_of items) header) made.items_are made.header_is
+
+-- an envelope that is made of some items is what is left of one with items
+made_leaves : (contents : Contents) (items : Vec EnvelopeItem Global) (header : Cell) (envelope : Envelope) (left : List EnvelopeItem) (made : Envelope)
+    → contents ≡ variants.Items items → (left ≡ [] → ⊥) → IsMadeOf header left made → LeavesOf contents header envelope left (Some made)
+made_leaves contents items header envelope [] made is some of = absurd (some refl)
+made_leaves (variants.Items held) items header envelope (x ∷ xs) made is some of = of
+made_leaves (variants.Raw bytes) items header envelope (x ∷ xs) made is some of = absurd (cc)
 
 module _ {F : Type 0} (ask : F → EnvelopeItem → Bool → F → Type 0) (hand : F → EnvelopeItem → F → Type 0) where
   pub Run-append : (first : F) (calls : List Call) (next : F) (more : List Call) (last : F) → Run ask hand first calls next → Run ask hand next more last → Run ask hand first (calls ++ more) last
@@ -94,6 +102,16 @@ module _ {F : Type 0} (ask : F → EnvelopeItem → Bool → F → Type 0) (hand
     left = [];
     filters = rw is (record { answers = false ∷ []; complete = refl; run = (next, asked, (last, handed, refl)); left_is = refl });
     leaves = refl;
+  }
+
+  -- what is kept of items is left, with the header that stays
+  pub items_stay : (header : Cell) (envelope : Envelope) (items left : Vec EnvelopeItem Global) (first last : F) (headers : EnvelopeHeaders)
+      → envelope.contents ≡ variants.Items items → Filters ask hand items.items first last left.items → (left.items ≡ [] → ⊥) → headers_cell headers ≡ put_id (first_id_of left.items) header
+      → FiltersEnvelope header ask hand envelope first last (Some (record { headers = headers; contents = variants.Items left }))
+  items_stay header envelope items left first last headers is run some same = record {
+    left = left.items;
+    filters = rw is run;
+    leaves = made_leaves envelope.contents items header envelope left.items _ is some (record { items_are = refl; header_is = same });
   }
 
   -- where each call says what a view of the state becomes, a run says it of all its calls

@@ -1,26 +1,35 @@
--- Each header is plain, and its tree holds no floats.
-use Rattle.std.proofs.Common.{◌≡◌, Option, Some, None, Result, Ok, Err, false, refl}
+-- Headers that can be written.
+use Rattle.std.proofs.Common.{◌≡◌, Result, Ok, Err, false, Option, Some, None, refl}
 use Rattle.std.specs.Prelude.{OnOk}
-use Rattle.serde_json.specs.Data.{no_members}
 use Rattle.serde_json.specs.Written.{has_float}
-use Rattle.uuid.specs.declared.Uuid.{Uuid}
+use Rattle.sentry_json.proofs.Sound.{sound_without_float}
+use Rattle.sentry_tables.proofs.Laws.{has_laws}
 use Rattle.sentry_tables.specs.Cell.{Cell, fields, no_cells, cell}
 use Rattle.sentry_tables.specs.Meets.{IsPlain}
-use Rattle.sentry_words.specs.Written.{written}
-use Rattle.sentry_envelope.specs.HeaderFields.{id_cell, header_kind}
+use Rattle.sentry_tables.specs.Written.{tree}
+use Rattle.uuid.specs.declared.Uuid.{Uuid}
+use Rattle.sentry_envelope.specs.EnvelopeView.{IsReady, no_fields}
+use Rattle.sentry_envelope.specs.HeaderFields.{header_kind, put_id}
+use Rattle.sentry_envelope.proofs.SentryProfile.{header_lawful}
 
-pub header_whole : (id : Option Uuid) → has_float (written header_kind (fields (cell (id_cell id) no_cells) no_members)) ≡ false
-unfolding header_kind written
-header_whole None = refl
-header_whole (Some id) = refl
+-- the tree of a header that is ready to be written holds no floats
+pub header_whole : (h : Cell) → IsReady header_kind h → has_float (tree header_kind h) ≡ false
+header_whole h ready = sound_without_float (tree header_kind h) ((has_laws header_kind header_lawful).written h ready.0 ready.1)
 
--- what holds of a whole tree holds
-pub with_whole : {E : Type 0} (r : Result (Unit {0}) E) (P Q : Type 0) → P → OnOk r (P → Q) → OnOk r Q
-with_whole (Ok u) P Q p h = h p
-with_whole (Err e) P Q p h = tt
+-- what holds of a whole tree holds of a header that is ready
+pub with_ready : {E : Type 0} (r : Result (Unit {0}) E) (P Q R : Type 0) → (R → P) → OnOk r (P → Q) → OnOk r (R → Q)
+with_ready (Ok u) P Q R f h = λ x. h (f x)
+with_ready (Err e) P Q R f h = tt
 
--- each header is plain
-pub header_plain : (id : Option Uuid) → IsPlain header_kind (fields (cell (id_cell id) no_cells) no_members)
+-- a header without fields is plain, and one that is plain is so with another id
+pub no_fields_plain : IsPlain header_kind no_fields
 unfolding header_kind
-header_plain None = ((tt, tt), (tt, refl))
-header_plain (Some id) = ((tt, tt), (tt, refl))
+no_fields_plain = ((tt, (tt, (tt, (tt, tt)))), (tt, refl))
+
+pub put_plain : (id : Option Uuid) (h : Cell) → IsPlain header_kind h → IsPlain header_kind (put_id id h)
+unfolding header_kind
+put_plain None (fields (cell c (cell d cs)) other) p = ((p.0.0, (tt, p.0.1.1)), p.1)
+put_plain (Some i) (fields (cell c (cell d cs)) other) p = ((p.0.0, (tt, p.0.1.1)), p.1)
+put_plain id (fields (cell c no_cells) other) p = absurd p.0.1
+put_plain id (fields no_cells other) p = absurd p.0
+put_plain id _ p = absurd p

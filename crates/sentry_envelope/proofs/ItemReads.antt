@@ -1,8 +1,8 @@
 -- What frames show, and what a reader of them has so far.
-use Rattle.std.proofs.Common.{◌≡◌, ◌≢◌, ◌<◌, ℕ, List, [], ◌∷◌, ◌++◌, length, refl, sym, ap, ◌∙◌, subst, inl, inr}
+use Rattle.std.proofs.Common.{◌≡◌, ◌≢◌, ℕ, List, [], ◌∷◌, ◌++◌, refl, sym, ap, subst}
 use Rattle.std.specs.Prelude.{map, Some}
 use Rattle.std.proofs.lemmas.List.{map-append}
-use Rattle.sentry_tables.specs.Cell.{Cell, absent}
+use Rattle.sentry_tables.specs.Cell.{Cell}
 use Rattle.sentry_items.specs.Attached.{Attached}
 use Rattle.sentry_items.specs.View.{attachment_view}
 use Rattle.sentry_items.specs.declared.attachment.Attachment.{Attachment}
@@ -11,12 +11,12 @@ use Rattle.sentry_items.specs.declared.item.EnvelopeItem.{EnvelopeItem}
 use Rattle.sentry_items.specs.declared.item.EnvelopeItem.TheVariants as variants
 use Rattle.sentry_envelope.specs.Framing.{Frame, IsFirstFrame, IsFault}
 use Rattle.sentry_envelope.specs.EnvelopeFault.{BodyIsAtFault, FrameIsRefused}
-use Rattle.sentry_envelope.specs.Envelope.{item, attached, opaque, reads, attached_by, ItemShows, ItemsStand, given_by, first_id}
+use Rattle.sentry_envelope.specs.Envelope.{item, attached, opaque, reads, attached_by, ItemShows, ItemsStand}
 use Rattle.sentry_envelope.specs.EnvelopeView.{item_view}
 use Rattle.sentry_envelope.specs.HeaderView.{header_view}
 use Rattle.sentry_envelope.specs.ItemHeader.{read_header, stated_length}
 use Rattle.sentry_envelope.specs.ItemWords.{item_words, kind_place}
-use Rattle.sentry_envelope.specs.SentryProfile.{item_types, profile}
+use Rattle.sentry_envelope.specs.SentryProfile.{profile}
 use Rattle.sentry_envelope.specs.declared.error.EnvelopeError.{EnvelopeError}
 use Rattle.sentry_envelope.specs.declared.error.EnvelopeError.TheVariants.{InvalidItemPayload}
 use Rattle.sentry_envelope.specs.declared.header.ItemHeader.{ItemHeader}

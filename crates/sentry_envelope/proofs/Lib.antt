@@ -33,4 +33,5 @@ pub mod EnvelopeWriting
 pub mod EnvelopeFill
 pub mod EnvelopeSample
 pub mod ConservationLemmas
+pub mod LossLemmas
 pub mod FilterLemmas

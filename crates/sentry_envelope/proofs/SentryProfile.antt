@@ -1,15 +1,15 @@
 -- The profile of Sentry's envelopes is lawful.
-use Rattle.std.proofs.Common.{◌≡◌, List, ℕ, refl}
-use Rattle.std.specs.Prelude.{codes, IsUtf8}
+use Rattle.std.proofs.Common.{◌≡◌, refl}
+use Rattle.std.specs.Prelude.{codes}
 use Rattle.sentry_tables.proofs.Sound.{ascii_text}
-use Rattle.sentry_tables.specs.Cell.{Cell}
-use Rattle.sentry_tables.specs.Kind.{scalar}
-use Rattle.sentry_tables.specs.Basic.{word_scalar}
-use Rattle.sentry_tables.specs.Lawful.{ScalarLaws, IsLawful}
+use Rattle.sentry_tables.specs.Lawful.{IsLawful}
 use Rattle.sentry_envelope.specs.Profile.{ProfileLaws, words}
 use Rattle.sentry_envelope.specs.HeaderFields.{header_kind}
 use Rattle.sentry_envelope.specs.ItemWords.{item_words}
 use Rattle.sentry_envelope.specs.SentryProfile.{item_types, profile}
+use Rattle.sentry_keys.proofs.DsnTrees.{dsn_scalar_laws}
+use Rattle.sentry_moments.proofs.MomentSpellings.{rfc3339_refuses_null, rfc3339_scalar_laws}
+use Rattle.sentry_parts.proofs.ClientSdkLaws.{sdk_lawful}
 use Rattle.sentry_words.proofs.UuidLaws.{hyphenated_laws}
 
 -- the words of item headers are those of the types, in order
@@ -18,7 +18,7 @@ same_words = refl
 
 pub header_lawful : IsLawful header_kind
 unfolding header_kind
-header_lawful = (refl, tt, hyphenated_laws, tt, refl)
+header_lawful = (refl, tt, dsn_scalar_laws, (refl, tt, hyphenated_laws, (refl, tt, sdk_lawful, (refl, rfc3339_refuses_null, rfc3339_scalar_laws, tt, refl), refl), refl), refl)
 
 pub profile_lawful : ProfileLaws profile
 unfolding profile

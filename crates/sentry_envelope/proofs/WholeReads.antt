@@ -1,5 +1,5 @@
 -- What a whole reading knows: of the header line, and of the items.
-use Rattle.std.proofs.Common.{◌≡◌, ◌<◌, ◌≤◌, ◌^◌, ℕ, List, [], ◌∷◌, refl, sym, ap, ◌∙◌, inl, inr, arith}
+use Rattle.std.proofs.Common.{◌≡◌, ℕ, List, [], ◌∷◌, refl, sym, ap, ◌∙◌, inl, inr, arith}
 use Rattle.std.specs.Prelude.{map}
 use Rattle.sentry_tables.specs.Cell.{Cell, absent}
 use Rattle.sentry_tables.specs.Lawful.{IsMoment}
@@ -9,9 +9,9 @@ use Rattle.sentry_envelope.specs.Framing.{IsLineAndBody}
 use Rattle.sentry_envelope.specs.Envelope.{Envelope, ItemsStand, Spells, given_by, or_else, first_id, IsEnvelopeStored, IsEnvelopePlain}
 use Rattle.sentry_envelope.specs.EnvelopeFault.{BodyIsAtFault, Fault}
 use Rattle.sentry_envelope.specs.EnvelopeView.{item_view}
-use Rattle.sentry_text.specs.Moments.{moment_cell}
+use Rattle.sentry_moments.specs.Moments.{moment_cell}
 use Rattle.sentry_envelope.specs.HeaderFields.{header_kind, fill_id}
-use Rattle.sentry_words.specs.Reading.{TextShown, TextRefused}
+use Rattle.sentry_rows.specs.Reading.{TextShown, TextRefused}
 use Rattle.sentry_envelope.specs.SentryProfile.{item_types, profile}
 use Rattle.sentry_envelope.specs.declared.error.EnvelopeError.{EnvelopeError}
 use Rattle.sentry_envelope.specs.declared.error.EnvelopeError.TheVariants.{InvalidHeader}

@@ -1,8 +1,8 @@
 -- Structured envelopes: what bytes spell one, its text and its normal form.
-use Rattle.std.specs.Prelude.{◌≡◌, ◌<◌, ◌≤◌, ◌^◌, ℕ, zero, suc, pos, List, [], ◌∷◌, ◌++◌, length, Option, Some, None, option_map, unwrap_or, cond, codes, IsUtf8, ⊤}
-use Rattle.serde_json.specs.Data.{Data, null, number, unsigned, string, object, Members, no_members, member, depth}
+use Rattle.std.specs.Prelude.{◌≡◌, ◌<◌, ◌≤◌, ◌^◌, ℕ, zero, suc, List, [], ◌∷◌, length, Option, Some, None, option_map, unwrap_or, codes, ⊤}
+use Rattle.serde_json.specs.Data.{number, unsigned, string, object, Members, no_members, member, depth}
 use Rattle.serde_json.specs.Written.{compact_text}
-use Rattle.sentry_tables.specs.Cell.{Cell, absent, Cells, no_cells, cell, sequence}
+use Rattle.sentry_tables.specs.Cell.{Cell, absent, Cells, no_cells, cell}
 use Rattle.sentry_tables.specs.Kind.{Kind}
 use Rattle.sentry_tables.specs.Norm.{norm, cells_of}
 use Rattle.sentry_tables.specs.Written.{tree}

@@ -2,13 +2,14 @@
 use Rattle.std.specs.Prelude.{◌≡◌, ℕ, List, [], ◌∷◌, ◌++◌, map, Option, Some, None, IsSomeAnd, ⊤}
 use Rattle.sentry_tables.specs.Cell.{Cell, absent, fields, no_cells, cell}
 use Rattle.serde_json.specs.Data.{no_members}
+use Rattle.sentry_tables.specs.Kind.{Kind}
 use Rattle.sentry_tables.specs.Meets.{IsPlain, IsStored}
 use Rattle.sentry_items.specs.Attached.{IsAttachedStored}
 use Rattle.sentry_items.specs.View.{attachment_view}
 use Rattle.sentry_items.specs.declared.item.EnvelopeItem.{EnvelopeItem}
 use Rattle.sentry_items.specs.declared.item.EnvelopeItem.TheVariants as item_variants
 use Rattle.sentry_envelope.specs.Envelope.{Item, item, raw, attached, opaque, Envelope as Model, ContentDemand, given_by, envelope_text, IsEnvelopePlain}
-use Rattle.sentry_envelope.specs.HeaderFields.{headers_cell, fill_id}
+use Rattle.sentry_envelope.specs.HeaderFields.{header_kind, headers_cell, fill_id}
 use Rattle.sentry_envelope.specs.SentryProfile.{item_types, profile}
 use Rattle.uuid.specs.declared.Uuid.{Uuid}
 use Rattle.sentry_envelope.specs.declared.envelope.Contents.{Contents}
@@ -70,6 +71,18 @@ text_by h (bytes b) = b
 abbrev pub text_of : Envelope → List ℕ
 text_of e = text_by (header_of e) (held e)
 
+-- a value of this kind has what Rust's types hold, and no tree in it holds a float: its tree can be written
+abbrev pub IsReady : Kind → Cell → Type 0
+IsReady K c = IsStored K c × IsPlain K c
+
+-- the header can be written, where there are items
+abbrev pub ready_by : Cell → Held → Type 0
+ready_by h (items is) = IsReady header_kind h
+ready_by h (bytes b) = ⊤
+
+abbrev pub HasReadyHeader : Envelope → Type 0
+HasReadyHeader e = ready_by (header_of e) (held e)
+
 -- it is structured and isn't plain
 abbrev pub IsUnwritable : Envelope → Type 0
 IsUnwritable e = IsSomeAnd (structured e) (λ m. IsEnvelopePlain profile m → ⊥)
@@ -85,7 +98,7 @@ items_of e = items_in e.contents
 -- ---- making one
 
 abbrev pub no_fields : Cell
-no_fields = fields (cell absent no_cells) no_members
+no_fields = fields (cell absent (cell absent (cell absent (cell absent no_cells)))) no_members
 
 abbrev pub empty : Model
 empty = record { header = no_fields; items = [] }

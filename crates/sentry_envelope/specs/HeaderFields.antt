@@ -1,11 +1,18 @@
 -- The fields of an envelope's header.
 use Rattle.std.specs.Prelude.{List, [], ◌∷◌, Option, codes, true, refl, ◌≡◌}
-use Rattle.sentry_tables.specs.Cell.{Cell, absent, present, octets, fields, Cells, no_cells, cell}
-use Rattle.sentry_tables.specs.Kind.{Kind, may, keys}
+use Rattle.sentry_tables.specs.Cell.{Cell, absent, present, octets, fields, cell}
+use Rattle.sentry_tables.specs.Kind.{Kind, may, may_strict, keys}
 use Rattle.sentry_tables.specs.Written.{in_order}
 use Rattle.sentry_tables.specs.Fields.{Field, field, rows_of, table_of, fields_by}
-use Rattle.sentry_words.specs.Cells.{option_cell}
+use Rattle.sentry_rows.specs.Cells.{option_cell}
 use Rattle.sentry_words.specs.Ids.{hyphenated_kind}
+use Rattle.sentry_parts.specs.declared.client_sdk_info.ClientSdkInfo.{ClientSdkInfo}
+use Rattle.sentry_keys.specs.DsnTree.{dsn_kind, dsn_cell}
+use Rattle.sentry_keys.specs.declared.dsn.Dsn.{Dsn}
+use Rattle.sentry_moments.specs.MomentForms.{rfc3339_kind}
+use Rattle.sentry_moments.specs.Moments.{moment_cell}
+use Rattle.sentry_moments.specs.declared.moment.Moment.{Moment}
+use Rattle.sentry_parts.specs.ClientSdk.{sdk_kind, sdk_cell}
 use Rattle.sentry_envelope.specs.declared.headers.EnvelopeHeaders.{EnvelopeHeaders}
 use Rattle.uuid.specs.declared.Uuid.{Uuid}
 
@@ -13,7 +20,12 @@ abbrev pub id_cell : Option Uuid → Cell
 id_cell id = option_cell octets id
 
 abbrev pub header_fields : List (Field EnvelopeHeaders)
-header_fields = field (codes "event_id") may hyphenated_kind (λ h. id_cell h.event_id) ∷ []
+header_fields =
+    field (codes "dsn") may dsn_kind (λ h. option_cell dsn_cell h.dsn)
+    ∷ field (codes "event_id") may hyphenated_kind (λ h. id_cell h.event_id)
+    ∷ field (codes "sdk") may sdk_kind (λ h. option_cell sdk_cell h.sdk)
+    ∷ field (codes "sent_at") may_strict rfc3339_kind (λ h. option_cell moment_cell h.sent_at)
+    ∷ []
 
 -- members of other keys are ignored
 unfoldable pub header_kind : Kind
@@ -27,10 +39,25 @@ header_in_order = refl
 
 -- an id fills an event id that is absent
 abbrev pub fill_id : Cell → Cell → Cell
-fill_id (octets id) (fields (cell absent cs) other) = fields (cell (present (octets id)) cs) other
+fill_id (octets id) (fields (cell dsn (cell absent cs)) other) = fields (cell dsn (cell (present (octets id)) cs)) other
 fill_id id h = h
 
 -- the header with this event id, or without one
 abbrev pub put_id : Option Uuid → Cell → Cell
-put_id id (fields (cell c cs) other) = fields (cell (id_cell id) cs) other
+put_id id (fields (cell dsn (cell c cs)) other) = fields (cell dsn (cell (id_cell id) cs)) other
 put_id id h = h
+
+-- the header with this DSN
+abbrev pub put_dsn : Dsn → Cell → Cell
+put_dsn d (fields (cell c cs) other) = fields (cell (present (dsn_cell d)) cs) other
+put_dsn d h = h
+
+-- the header with this software
+abbrev pub put_sdk : ClientSdkInfo → Cell → Cell
+put_sdk s (fields (cell dsn (cell id (cell c cs))) other) = fields (cell dsn (cell id (cell (present (sdk_cell s)) cs))) other
+put_sdk s h = h
+
+-- the header with this time of sending
+abbrev pub put_sent_at : Moment → Cell → Cell
+put_sent_at m (fields (cell dsn (cell id (cell s (cell c cs)))) other) = fields (cell dsn (cell id (cell s (cell (present (moment_cell m)) cs)))) other
+put_sent_at m h = h

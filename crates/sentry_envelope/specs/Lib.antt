@@ -2,6 +2,7 @@ pub mod Callbacks
 pub mod Envelope
 pub mod EnvelopeFault
 pub mod EnvelopeLaws
+pub mod EnvelopeLosses
 pub mod EnvelopeView
 pub mod Filter
 pub mod Framing

@@ -1,6 +1,6 @@
 -- What envelopes may hold: the kind of their header, and item types, each a word with the form of its payload.
-use Rattle.std.specs.Prelude.{◌≡◌, ◌≤◌, ℕ, zero, suc, List, [], ◌∷◌, false, IsUtf8, codes, ⊤}
-use Rattle.serde_json.specs.Data.{Data, depth}
+use Rattle.std.specs.Prelude.{◌≡◌, ◌≤◌, ℕ, List, [], ◌∷◌, false, IsUtf8, codes, ⊤}
+use Rattle.serde_json.specs.Data.{depth}
 use Rattle.sentry_tables.specs.Cell.{Cell, absent}
 use Rattle.sentry_tables.specs.Kind.{Kind, list, must, ignored, table, no_rows, row, has_key}
 use Rattle.sentry_tables.specs.Norm.{norm}

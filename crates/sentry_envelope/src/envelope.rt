@@ -50,13 +50,13 @@ pub enum AddRefused {
 }
 
 impl Envelope {
-    ghost use Rattle.std.specs.Prelude.{◌≡◌, ◌≢◌, ◌↔◌, ◌⊎◌, List, ℕ, ◌+◌, ◌-◌, ◌^◌, ◌<◌, Some, IfOk, IfErr, IsOkAnd, OnErr, OnOk, IsSome, IsSomeAnd, IsTrue, option_map};
+    ghost use Rattle.std.specs.Prelude.{false, ◌≡◌, ◌≢◌, ◌↔◌, ◌⊎◌, List, ℕ, ◌+◌, ◌-◌, ◌^◌, ◌<◌, Some, IfOk, IfErr, IsOkAnd, OnErr, OnOk, IsSome, IsSomeAnd, IsTrue, option_map};
     ghost use Rattle.std.specs.Io.KnownBytes.{Appends, Keeps};
     ghost use Rattle.sentry_items.specs.Counted.{writer_inside, writer_failures, AppendsFront};
     ghost use Rattle.sentry_envelope.specs.Envelope.{Envelope as Model, IsEnvelopePlain, IsEnvelopeStored, Spells};
     ghost use Rattle.sentry_envelope.specs.EnvelopeFault.{Fault};
-    ghost use Rattle.sentry_text.specs.Moments.{moment_cell};
-    ghost use Rattle.sentry_envelope.specs.EnvelopeView.{held, header_of, event_id_of, structured, raw_bytes, IsSame, item_view, items_of, with_item, empty, no_fields, refused_item, text_of, IsUnwritable};
+    ghost use Rattle.sentry_moments.specs.Moments.{moment_cell};
+    ghost use Rattle.sentry_envelope.specs.EnvelopeView.{held, header_of, event_id_of, structured, raw_bytes, IsSame, item_view, items_of, with_item, empty, no_fields, refused_item, text_of, HasReadyHeader, IsUnwritable};
     ghost use Rattle.sentry_envelope.specs.HeaderFields.{headers_cell};
     ghost use Rattle.sentry_envelope.specs.ItemsLeft.{items_left, owned_items_left};
     ghost use Rattle.sentry_envelope.specs.SentryProfile.{profile};
@@ -150,6 +150,7 @@ impl Envelope {
     ) -> Result<Envelope, EnvelopeError>
         ensures spelled { IfOk result (λ e. (bytes : List ℕ) × IsSomeAnd (structured e) (Spells profile bytes (moment_cell now))) }
         ensures stored { IfOk result (λ e. IsSomeAnd (structured e) (λ m. IsEnvelopeStored profile m × IsEnvelopePlain profile m)) }
+        ensures err { IfErr result (λ x. (x ≡ EnvelopeError.UnexpectedEof) ⊎ ((x ≡ EnvelopeError.OutOfMemory) ⊎ ((bytes : List ℕ) × Fault profile bytes x))) }
     {
         let bytes = read_file(rt, path)?;
         Envelope::from_slice(rt.alloc(), &bytes, now, ids)
@@ -267,7 +268,7 @@ impl Envelope {
 
     /// The text that is written: of a structured envelope its header line and then its items, and of a raw one its bytes.
     pub(crate) fn write_text(&self, alloc: Global) -> Result<Vec<u8>, AllocError>
-        ensures { IfOk result (λ text. text.items ≡ text_of self.now) }
+        ensures { IfOk result (λ text. HasReadyHeader self.now → text.items ≡ text_of self.now) }
     {
         match &self.contents {
             Contents::Items(items) => write_envelope(alloc, &self.headers, items),
@@ -276,8 +277,10 @@ impl Envelope {
     }
 
     /// Whether the envelope is structured, and can't be written.
+    #[tactic(auto, using(crate::proofs::Demands::ready_header))]
     fn is_unwritable(&self) -> bool
-        ensures { IsTrue result ↔ IsUnwritable self.now }
+        ensures exactly { IsTrue result ↔ IsUnwritable self.now }
+        ensures ready { result ≡ false → HasReadyHeader self.now }
     {
         match &self.contents {
             Contents::Items(_) => !self.is_plain(),

@@ -96,6 +96,24 @@ fn orphans_are_handed_over_last(rt: HostRuntime) -> Result<(), Fail> {
 }
 
 #[test]
+fn each_refused_attachment_goes_at_once(rt: HostRuntime) -> Result<(), Fail> {
+    let alloc = rt.alloc();
+    let mut items = Vec::new(alloc);
+    for name in ["A", "B", "C", "D"] {
+        items.push(attachment(alloc, name)?)?;
+    }
+    let mut scribe = Scribe {
+        answers: &[true, false, true, false],
+        calls: String::new(alloc),
+    };
+    let left = envelope_of(alloc, items)?.filter_by(alloc, &mut scribe);
+    assert!(rt; matches!(left, Ok(None)));
+    let calls = "ask A, ask B, hand B, ask C, ask D, hand D, hand A, hand C, ";
+    assert_eq!(rt; scribe.calls.as_str(), calls);
+    Ok(())
+}
+
+#[test]
 fn a_recording_stays_where_attachments_go(rt: HostRuntime) -> Result<(), Fail> {
     let alloc = rt.alloc();
     let mut items = vec![in alloc; recording(alloc)]?;

@@ -1,7 +1,9 @@
 //! Filtering an envelope.
 
-ghost use Rattle.std.specs.Prelude.{◌≡◌, ◌≤◌, not, map, filter as filter_list, vec_len, vec_capacity, []};
+ghost use Rattle.std.specs.Prelude.{◌≡◌, ◌≤◌, not, if◌then◌else◌, map, filter as filter_list, vec_len, vec_capacity, []};
 ghost use Rattle.std.specs.List.{list_any};
+ghost use Rattle.sentry_envelope.specs.EnvelopeView.{no_fields};
+ghost use Rattle.sentry_envelope.specs.HeaderFields.{headers_cell, put_id};
 ghost use Rattle.sentry_envelope.specs.Filter.{Asks, Run, Hand, Filters, is_main, is_orphan, id_of, first_id_of};
 
 use crate::envelope::{Contents, Envelope};
@@ -125,12 +127,7 @@ impl Envelope {
         if kept.is_empty() {
             return Ok(None);
         }
-        let fields = if keep {
-            headers
-        } else {
-            EnvelopeHeaders::new()
-        };
-        let headers = fields.with_id(first_id(&kept));
+        let headers = header_left(headers, keep, first_id(&kept));
         let contents = Contents::Items(kept);
         Ok(Some(Envelope { headers, contents }))
     }
@@ -210,6 +207,17 @@ fn has_main(items: &[EnvelopeItem]) -> bool
     ensures { result ≡ list_any is_main items.now }
 {
     items.iter().any(is_main)
+}
+
+/// The header that stays: with the other fields or without, and with this id or none.
+fn header_left(headers: EnvelopeHeaders, keep: bool, event_id: Option<Uuid>) -> EnvelopeHeaders
+    ensures { headers_cell result ≡ put_id event_id (if keep then headers_cell headers else no_fields) }
+{
+    if keep {
+        headers.with_id(event_id)
+    } else {
+        EnvelopeHeaders::new().with_id(event_id)
+    }
 }
 
 /// The id of the first event or transaction.

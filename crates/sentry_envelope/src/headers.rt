@@ -1,15 +1,20 @@
 //! The header of an envelope.
 
 ghost use Rattle.std.specs.Prelude.{◌≡◌, ◌≢◌, ◌⊎◌, ◌↔◌, IfOk, IfErr, IsTrue, OnOk};
-ghost use Rattle.sentry_words.specs.Reading.{TextShown, TextRefused};
+ghost use Rattle.sentry_rows.specs.Reading.{TextShown, TextRefused};
 ghost use Rattle.sentry_envelope.specs.HeaderFields.{header_kind, headers_cell};
 
 use crate::error::EnvelopeError;
 use json::Writer;
-use sentry_words::codec::is_plain_option_as;
-use sentry_words::rows::{object, optional_as};
-use sentry_words::table::{table_tree, write_table};
-use sentry_words::{FromTree, Hyphenated, Member, Sink, Table, TreeError, read_line};
+use sentry_keys::Dsn;
+use sentry_moments::{Moment, Rfc3339};
+use sentry_parts::ClientSdkInfo;
+use sentry_rows::codec::is_plain_option_as;
+use sentry_rows::member::{copy_option, is_plain_option};
+use sentry_rows::rows::{object, optional, optional_as, optional_strict_as};
+use sentry_rows::table::{table_tree, write_table};
+use sentry_rows::{FromTree, Member, Sink, Table, TreeError, read_line};
+use sentry_words::Hyphenated;
 use serde_json::Value;
 use std::alloc::{AllocError, Global};
 use uuid::Uuid;
@@ -19,19 +24,27 @@ use uuid::Uuid;
 /// <https://develop.sentry.dev/sdk/data-model/envelopes/#envelope-headers>
 #[derive(Debug, Drop, PartialEq)]
 pub struct EnvelopeHeaders {
+    dsn: Option<Dsn>,
     event_id: Option<Uuid>,
+    sdk: Option<ClientSdkInfo>,
+    sent_at: Option<Moment>,
 }
 
 impl EnvelopeHeaders {
     ghost use Rattle.std.specs.Prelude.{◌≡◌, Some, IfOk, option_map};
     ghost use Rattle.sentry_envelope.specs.EnvelopeView.{no_fields};
-    ghost use Rattle.sentry_envelope.specs.HeaderFields.{headers_cell, put_id};
+    ghost use Rattle.sentry_envelope.specs.HeaderFields.{headers_cell, put_dsn, put_id, put_sdk, put_sent_at};
 
     /// A header without fields.
     pub fn new() -> EnvelopeHeaders
         ensures { headers_cell result ≡ no_fields }
     {
-        EnvelopeHeaders { event_id: None }
+        EnvelopeHeaders {
+            dsn: None,
+            event_id: None,
+            sdk: None,
+            sent_at: None,
+        }
     }
 
     /// A header without fields.
@@ -45,9 +58,36 @@ impl EnvelopeHeaders {
     pub fn with_event_id(self, event_id: Uuid) -> EnvelopeHeaders
         ensures { headers_cell result ≡ put_id (Some event_id) (headers_cell self) }
     {
-        let EnvelopeHeaders { event_id: _ } = self;
+        self.with_id(Some(event_id))
+    }
+
+    /// The same header with this DSN, which the envelope is sent to.
+    pub fn with_dsn(self, dsn: Dsn) -> EnvelopeHeaders
+        ensures { headers_cell result ≡ put_dsn dsn (headers_cell self) }
+    {
         EnvelopeHeaders {
-            event_id: Some(event_id),
+            dsn: Some(dsn),
+            ..self
+        }
+    }
+
+    /// The same header with this software, which sends the envelope.
+    pub fn with_sdk(self, sdk: ClientSdkInfo) -> EnvelopeHeaders
+        ensures { headers_cell result ≡ put_sdk sdk (headers_cell self) }
+    {
+        EnvelopeHeaders {
+            sdk: Some(sdk),
+            ..self
+        }
+    }
+
+    /// The same header with this time of sending.
+    pub fn with_sent_at(self, sent_at: Moment) -> EnvelopeHeaders
+        ensures { headers_cell result ≡ put_sent_at sent_at (headers_cell self) }
+    {
+        EnvelopeHeaders {
+            sent_at: Some(sent_at),
+            ..self
         }
     }
 
@@ -55,8 +95,7 @@ impl EnvelopeHeaders {
     pub(crate) fn with_id(self, event_id: Option<Uuid>) -> EnvelopeHeaders
         ensures { headers_cell result ≡ put_id event_id (headers_cell self) }
     {
-        let EnvelopeHeaders { event_id: _ } = self;
-        EnvelopeHeaders { event_id }
+        EnvelopeHeaders { event_id, ..self }
     }
 
     /// The event id.
@@ -80,7 +119,10 @@ impl Table for EnvelopeHeaders {
     ghost lines = { header_fields };
 
     fn rows<S: Sink>(&self, sink: &mut S) -> Result<(), AllocError> {
+        sink.optional("dsn", &self.dsn)?;
         sink.optional_as::<Hyphenated, Uuid>("event_id", &self.event_id)?;
+        sink.optional("sdk", &self.sdk)?;
+        sink.optional_strict_as::<Rfc3339, Moment>("sent_at", &self.sent_at)?;
         Ok(())
     }
 
@@ -106,22 +148,32 @@ impl Member for EnvelopeHeaders {
 
     fn copy(&self) -> Result<EnvelopeHeaders, AllocError> {
         Ok(EnvelopeHeaders {
+            dsn: copy_option(&self.dsn)?,
             event_id: self.event_id,
+            sdk: copy_option(&self.sdk)?,
+            sent_at: self.sent_at,
         })
     }
 
     #[tactic(auto, unfolding(crate::specs::HeaderFields::header_kind))]
     fn is_plain(&self) -> bool {
-        is_plain_option_as::<Hyphenated, Uuid>(&self.event_id)
+        let mut plain = is_plain_option(&self.dsn);
+        plain &= is_plain_option_as::<Hyphenated, Uuid>(&self.event_id);
+        plain &= is_plain_option(&self.sdk);
+        plain &= is_plain_option_as::<Rfc3339, Moment>(&self.sent_at);
+        plain
     }
 }
 
 impl FromTree for EnvelopeHeaders {
-    #[tactic(auto, using(sentry_words::proofs::Answering::table_fails, sentry_words::proofs::Answering::not_object), unfolding(crate::specs::HeaderFields::header_kind))]
+    #[tactic(auto, using(sentry_rows::proofs::Answering::table_fails, sentry_rows::proofs::Answering::not_object), unfolding(crate::specs::HeaderFields::header_kind))]
     fn from_tree(alloc: Global, tree: &Value) -> Result<EnvelopeHeaders, TreeError> {
         object(tree)?;
         Ok(EnvelopeHeaders {
+            dsn: optional(alloc, tree, "dsn")?,
             event_id: optional_as::<Hyphenated, Uuid>(alloc, tree, "event_id")?,
+            sdk: optional(alloc, tree, "sdk")?,
+            sent_at: optional_strict_as::<Rfc3339, Moment>(alloc, tree, "sent_at")?,
         })
     }
 }

@@ -7,7 +7,9 @@ ghost use Rattle.sentry_envelope.specs.EnvelopeLaws.{HasOneAnswer, EnvelopesRead
 ghost use Rattle.sentry_envelope.specs.SentryProfile.{profile};
 ghost use Rattle.sentry_envelope.specs.Framing.{Reading, Frame, IsFirstFrame, HasOneVerdict, HasSize, IsLineAndBody, with_line};
 
-pub use crate::filter_laws::{each_item_is_kept_or_handed_over, parts_are_conserved};
+pub use crate::filter_laws::{
+    each_item_is_kept_or_handed_over, losses_are_conserved, parts_are_conserved,
+};
 
 /// No balanced piece is a proper beginning of another.
 pub fn no_piece_begins_another()

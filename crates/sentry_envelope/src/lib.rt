@@ -14,6 +14,7 @@ pub mod items;
 mod kind;
 pub mod laws;
 mod lines;
+mod losses;
 mod piece;
 mod plain;
 mod read;

@@ -8,7 +8,7 @@ ghost use Rattle.sentry_envelope.specs.EnvelopeView.{item_view};
 ghost use Rattle.sentry_envelope.specs.HeaderView.{header_view};
 ghost use Rattle.sentry_envelope.specs.ItemHeader.{read_header};
 ghost use Rattle.sentry_envelope.specs.ItemWords.{item_words};
-ghost use Rattle.sentry_text.specs.Moments.{moment_cell};
+ghost use Rattle.sentry_moments.specs.Moments.{moment_cell};
 ghost use Rattle.sentry_envelope.specs.SentryProfile.{profile};
 ghost use Rattle.sentry_envelope.specs.View.{frame_of};
 

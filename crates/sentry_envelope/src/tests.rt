@@ -1,6 +1,8 @@
 // Worked rows.
 mod beginnings;
 mod framing;
+mod headers;
+mod memory;
 mod reading;
 mod values;
 mod writing;

@@ -5,14 +5,14 @@ ghost use Rattle.serde_json.specs.Written.{compact_text};
 ghost use Rattle.sentry_json.specs.Line.{newline};
 ghost use Rattle.sentry_tables.specs.Written.{tree};
 ghost use Rattle.sentry_envelope.specs.Envelope.{envelope_text, frame_text, frame_of_item};
-ghost use Rattle.sentry_envelope.specs.EnvelopeView.{item_view};
+ghost use Rattle.sentry_envelope.specs.EnvelopeView.{item_view, IsReady};
 ghost use Rattle.sentry_envelope.specs.HeaderFields.{header_kind, headers_cell};
 ghost use Rattle.sentry_envelope.specs.SentryProfile.{profile};
 
 use crate::headers::EnvelopeHeaders;
 use sentry_items::EnvelopeItem;
 use sentry_items::header::write_short_header;
-use sentry_words::write_text;
+use sentry_rows::write_text;
 use std::alloc::{AllocError, Global};
 
 /// The header line, and then each item.
@@ -21,7 +21,8 @@ pub(crate) fn write_envelope(
     headers: &EnvelopeHeaders,
     items: &[EnvelopeItem],
 ) -> Result<Vec<u8>, AllocError>
-    ensures { IfOk result (λ text. text.items ≡ envelope_text profile (record { header = headers_cell headers.now; items = map item_view items.now })) }
+    ensures { IfOk result (λ text. IsReady header_kind (headers_cell headers.now)
+        → text.items ≡ envelope_text profile (record { header = headers_cell headers.now; items = map item_view items.now })) }
 {
     let mut out = Vec::new(alloc);
     write_headers(headers, &mut out)?;
@@ -34,7 +35,8 @@ pub(crate) fn write_envelope(
 
 /// Appends the header's text.
 fn write_headers(headers: &EnvelopeHeaders, out: &mut Vec<u8>) -> Result<(), AllocError>
-    ensures { OnOk result (out.new.items ≡ out.old.items ++ compact_text (tree header_kind (headers_cell headers.now))) }
+    ensures { OnOk result (IsReady header_kind (headers_cell headers.now)
+        → out.new.items ≡ out.old.items ++ compact_text (tree header_kind (headers_cell headers.now))) }
 {
     write_text(headers, out)
 }

@@ -1,11 +1,9 @@
 -- Which texts are addresses, and what they are read as.
-use Rattle.std.proofs.Common.{◌≡◌, ◌≢◌, ◌⊎◌, inl, inr, ℕ, ◌^◌, ◌<◌, ◌≤◌, ◌&&◌, ◌||◌, ◌==◌, Bool, true, false, List, [], ◌∷◌, ◌++◌, length, drop, get_or, Option, Some, None, refl, sym, ap, subst, ◌∙◌, ◌↔◌, arith, eqb, codes}
+use Rattle.std.proofs.Common.{◌≡◌, ◌⊎◌, inl, inr, ℕ, ◌^◌, ◌<◌, ◌||◌, ◌==◌, true, false, List, [], ◌∷◌, drop, Some, refl, sym, ap, subst, ◌∙◌, ◌↔◌, arith}
 use Rattle.std.specs.Char.{digit_value}
 use Rattle.std.specs.Fmt.{digits}
-use Rattle.std.specs.Str.Parse.{AllDigits, IsNumeral, digits_value, without_leading_plus}
-use Rattle.std.proofs.lemmas.Bool.{cond-true, cond-false, cases_Bool, and_parts, and_right, or_cases, eqb-true, false_from_ne_true, true≢false}
-use Rattle.std.proofs.lemmas.Fmt.{digits_is_IsNumeral}
-use Rattle.std.proofs.lemmas.Str.Parse.{without_leading_plus_none}
+use Rattle.std.specs.Str.Parse.{AllDigits, without_leading_plus}
+use Rattle.std.proofs.lemmas.Bool.{cond-false, cases_Bool, and_parts, and_right, or_cases, eqb-true, false_from_ne_true, true≢false}
 use Rattle.sentry_identifiers.specs.Number.{IsNumber, number_of}
 use Rattle.sentry_identifiers.specs.Address.{IsAddress, has_hex_front, address_of, address_text}
 use Rattle.sentry_identifiers.proofs.NumberTexts.{number_of_iff, written_number}

@@ -1,14 +1,14 @@
 -- Which bytes numbers and ranges lack, and that a text is cut in one way.
-use Rattle.std.proofs.Common.{◌≡◌, ◌≢◌, ℕ, zero, suc, ◌+◌, ◌-◌, ◌<◌, ◌≤◌, ◌⊎◌, inl, inr, Bool, true, false, cond, eqb, List, [], ◌∷◌, ◌++◌, length, get_or, drop, refl, sym, ap, subst, ◌∙◌, arith, length-append, Option, Some, None, ◌↔◌, IsTrue, nat_eq}
+use Rattle.std.proofs.Common.{◌≡◌, ◌≢◌, ℕ, zero, suc, ◌<◌, inl, inr, Bool, true, false, cond, eqb, List, [], ◌∷◌, ◌++◌, length, get_or, drop, refl, sym, subst, ◌∙◌, arith, length-append, Option, Some, None, ◌↔◌, IsTrue, nat_eq}
 use Rattle.std.specs.Int.{IsInRange}
-use Rattle.std.specs.Str.Parse.{AllDigits, IsNumeral, without_leading_plus}
+use Rattle.std.specs.Str.Parse.{AllDigits}
 use Rattle.std.proofs.lemmas.Bool.{eqb-true}
 use Rattle.std.proofs.lemmas.Bool.Decides.{nat_tests}
 use Rattle.std.proofs.lemmas.Str.Parse.{digit_at}
 use Rattle.std.proofs.Math.Seq.{get_or-append_seam}
 use Rattle.sentry_identifiers.specs.declared.crontab.field.Field.{Field}
 use Rattle.sentry_identifiers.specs.Number.{IsNumber}
-use Rattle.sentry_identifiers.specs.Crontab.{AreBounds, IsRange, HasStep, IsStep, IsSteppedRange, IsWithin, IsItem, AreItems}
+use Rattle.sentry_identifiers.specs.Crontab.{AreBounds, IsRange, IsStep, IsSteppedRange, IsWithin, IsItem, AreItems}
 use Rattle.std.specs.Bool.{MatchBool}
 use Rattle.std.specs.List.{AllWithin, HoldsAt, slice_split, AllByRecursion}
 use Rattle.std.proofs.lemmas.Option.{some_pair_parts}

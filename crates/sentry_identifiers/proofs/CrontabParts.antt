@@ -1,14 +1,13 @@
 -- A text is cut into words in one way.
-use Rattle.std.proofs.Common.{◌≡◌, ℕ, ◌+◌, ◌<◌, ◌≤◌, ◌⊎◌, inl, inr, Bool, true, false, not, List, [], ◌∷◌, ◌++◌, length, refl, sym, ap, subst, ◌∙◌, arith, length-append, append_assoc, append-nil, ◌↔◌, IsTrue, eqb}
+use Rattle.std.proofs.Common.{◌≡◌, ℕ, ◌<◌, ◌⊎◌, inl, inr, Bool, true, false, not, List, [], ◌∷◌, ◌++◌, length, refl, sym, ap, subst, ◌∙◌, arith, length-append, append_assoc, append-nil, ◌↔◌, IsTrue, eqb}
 use Rattle.std.proofs.lemmas.Bool.{eqb-true, eq-eqb}
 use Rattle.std.specs.Char.{encode_utf8, is_whitespace, is_not_whitespace}
 use Rattle.std.specs.Prelude.{encode_utf8_all}
 use Rattle.std.specs.Str.{NonePass, NoCharPasses, EmptyOrStartsWithPassing}
-use Rattle.std.proofs.lemmas.List.{nil_from_length}
 use Rattle.std.proofs.lemmas.Str.{encode_same, length-encode, len_utf8_bounds}
 use Rattle.sentry_identifiers.specs.declared.crontab.field.Field.{Field}
 use Rattle.sentry_identifiers.specs.Crontab.{StartsWithWord, SplitsInto}
-use Rattle.sentry_identifiers.specs.Crontab.{IsPart, AreParts, IsCrontab}
+use Rattle.sentry_identifiers.specs.Crontab.{IsPart, AreParts}
 
 -- the text is empty or begins with a character that passes
 abbrev Stops : (ℕ → Bool) → List ℕ → Type 0

@@ -1,29 +1,26 @@
 -- Which texts are debug identifiers, and what they are read as.
-use Rattle.std.proofs.Common.{◌≡◌, ◌≢◌, ◌⊎◌, inl, inr, ℕ, zero, suc, ◌+◌, ◌-◌, ◌*◌, ◌/◌, ◌%◌, ◌^◌, ◌<◌, ◌≤◌, ◌&&◌, ◌==◌, Bool, true, false, cond, nat_lt, nat_le, List, [], ◌∷◌, ◌++◌, length, take, drop, get_or, slice_index, Option, Some, None, option_and_then, option_map, refl, sym, ap, subst, ◌∙◌, ◌↔◌, arith, All, map, filter, codes, length-append, length-take, take-append-drop, add-one}
+use Rattle.std.proofs.Common.{◌≡◌, ◌≢◌, ◌⊎◌, inl, inr, ℕ, zero, suc, ◌+◌, ◌*◌, ◌/◌, ◌%◌, ◌^◌, ◌<◌, ◌≤◌, ◌&&◌, ◌==◌, true, false, cond, nat_le, List, [], ◌∷◌, ◌++◌, length, take, drop, get_or, slice_index, Option, Some, None, option_and_then, option_map, refl, sym, ap, subst, ◌∙◌, ◌↔◌, arith, All, length-take, take-append-drop, add-one}
 use Rattle.std.specs.Bool.{Decides}
-use Rattle.std.specs.Char.{digit_value, is_ascii_hexdigit, to_ascii_lowercase}
 use Rattle.std.specs.Fmt.{digits, digits_onto, digit_glyph}
 use Rattle.std.proofs.lemmas.Grind.{pow_more}
-use Rattle.std.specs.List.{list_all, AllPass}
+use Rattle.std.specs.List.{list_all}
 use Rattle.std.specs.Str.{IsCharBoundary}
-use Rattle.std.specs.Str.Parse.{AllDigits, IsNumeral, digits_value, without_leading_plus}
-use Rattle.std.proofs.lemmas.Bool.{cond-true, cond-false, cases_Bool, cases_lt, cases_eq, and_parts, eqb-true, eqb-false, eq-eqb, ne_eqb, leb-true, le-leb, false_from_ne_true, true≢false}
+use Rattle.std.specs.Str.Parse.{IsNumeral, digits_value, without_leading_plus}
+use Rattle.std.proofs.lemmas.Bool.{cond-true, cond-false, cases_Bool, cases_lt, cases_eq, and_parts, eqb-true, eq-eqb, ne_eqb, leb-true, le-leb, false_from_ne_true, true≢false}
 use Rattle.std.proofs.lemmas.Bool.Decides.{Decides-and}
 use Rattle.std.proofs.lemmas.Fmt.{digits_is_IsNumeral}
 use Rattle.std.proofs.lemmas.Int.Digits.{digits_value-lt}
 use Rattle.std.proofs.lemmas.List.{take_all, drop_more, get_or_append_left}
-use Rattle.std.proofs.lemmas.List.Elements.{filter_more}
 use Rattle.std.proofs.lemmas.List.Sums.{AllPass-from_list_all}
 use Rattle.std.proofs.lemmas.Option.{cond_some, option_and_then_some, some_pair_parts}
 use Rattle.std.proofs.lemmas.Str.Parse.{without_leading_plus_none}
 use Rattle.std.proofs.Math.Nat.{pow-le-pow_right, pow-zero, div-lt_iff_lt-mul}
 use Rattle.std.proofs.Math.Seq.{take-append_seam, drop-append_seam}
 use Rattle.uuid.specs.Text.{lower, parsed, parsed_simple, parsed_hyphenated, hyphenated_text, is_hex_digit, has_hyphens}
-use Rattle.uuid.proofs.TextLemmas.{by_index_length}
 use Rattle.uuid.proofs.RoundTrips.{parses_hyphenated_text}
 use Rattle.sentry_identifiers.specs.Number.{is_numeral}
 use Rattle.sentry_identifiers.specs.DebugId.{IsAppendix, IsDebugId, id_size, appendix_of, debug_id_of, appendix_text, debug_id_text}
-use Rattle.sentry_identifiers.proofs.NumberTexts.{numeral_tells, no_plus}
+use Rattle.sentry_identifiers.proofs.NumberTexts.{numeral_tells}
 
 -- ---- the appendix
 

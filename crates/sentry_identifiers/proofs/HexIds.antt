@@ -1,8 +1,8 @@
 -- Which texts are ids in hex digits, and what they are read as.
-use Rattle.std.proofs.Common.{◌≡◌, ◌⊎◌, inl, inr, ℕ, zero, suc, ◌+◌, ◌*◌, ◌/◌, ◌%◌, ◌<◌, ◌≤◌, ◌==◌, Bool, true, false, List, [], ◌∷◌, map, length, slice_index, Option, Some, None, Result, Ok, Err, refl, sym, ap, subst, ◌∙◌, ◌↔◌, arith, cond, nat_lt}
+use Rattle.std.proofs.Common.{◌≡◌, ℕ, suc, ◌+◌, ◌*◌, ◌/◌, ◌%◌, ◌<◌, ◌==◌, true, List, [], ◌∷◌, map, length, slice_index, Option, Some, None, Result, Ok, Err, refl, sym, ap, ◌∙◌, ◌↔◌, arith, cond, nat_lt}
 use Rattle.std.specs.Char.{to_ascii_lowercase}
 use Rattle.std.specs.Result.{result_ok, result_unwrap_or}
-use Rattle.std.proofs.lemmas.Bool.{agree_below_at, eqb-true, eq-eqb}
+use Rattle.std.proofs.lemmas.Bool.{agree_below_at, eqb-true}
 use Rattle.std.proofs.lemmas.Bool.Decides.{nat_tests}
 use Rattle.hex.specs.declared.error.FromHexError.{FromHexError}
 use Rattle.hex.specs.Hex.{IsBytes, decode_of, decode_pairs, decode_sized, digit_or_error, hex_digit_value, encode_lower, encode_with, lower_digits, pair_value, value_at, ◌>>=◌}
@@ -14,7 +14,7 @@ use Rattle.sentry_identifiers.specs.HexId.{IsHexId, hex_id_of}
 lower_value : (c : ℕ) → hex_digit_value (to_ascii_lowercase c) ≡ hex_digit_value c
 lower_value c = grind (arith, nat_tests)
 
-digit_of : (v : ℕ) → v < 16 → slice_index lower_digits v ≡ cond (nat_lt v 10) (48 + v) (87 + v)
+pub digit_of : (v : ℕ) → v < 16 → slice_index lower_digits v ≡ cond (nat_lt v 10) (48 + v) (87 + v)
 digit_of v small =
     eqb-true _ _ (agree_below_at (λ k. slice_index lower_digits k == cond (nat_lt k 10) (48 + k) (87 + k)) (λ k. true) 16 v refl small)
 

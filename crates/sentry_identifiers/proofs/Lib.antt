@@ -7,3 +7,14 @@ pub mod HexIds
 pub mod DebugIds
 pub mod Ips
 pub mod CodeIds
+pub mod HexIdTrees
+pub mod TextTrees
+pub mod AddressTrees
+pub mod Naturals
+pub mod ProjectTrees
+pub mod Bounds
+pub mod ValueTexts
+pub mod CodeIdTrees
+pub mod DebugIdTrees
+pub mod IpRanges
+pub mod IpTrees

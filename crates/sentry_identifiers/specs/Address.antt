@@ -1,5 +1,5 @@
 -- Addresses and register values as texts.
-use Rattle.std.specs.Prelude.{◌≡◌, ◌⊎◌, ℕ, List, [], ◌∷◌, ◌++◌, ◌==◌, ◌&&◌, ◌||◌, Bool, codes, drop, slice_index, Option, if◌then◌else◌}
+use Rattle.std.specs.Prelude.{◌≡◌, ◌⊎◌, ℕ, List, ◌++◌, ◌==◌, ◌&&◌, ◌||◌, Bool, codes, drop, slice_index, Option, if◌then◌else◌}
 use Rattle.std.specs.Fmt.{digits}
 use Rattle.std.specs.Prelude.{false}
 use Rattle.sentry_identifiers.specs.Number.{IsNumber, number_of}

@@ -1,6 +1,6 @@
 -- The digits that code identifiers are made of.
 use Rattle.std.specs.Prelude.{ℕ, ◌||◌, List, Bool, filter, map}
-use Rattle.std.specs.Char.{is_ascii_digit, is_ascii_hexdigit, to_ascii_lowercase}
+use Rattle.std.specs.Char.{is_ascii_hexdigit, to_ascii_lowercase}
 use Rattle.std.specs.Int.{is_in_range}
 use Rattle.std.specs.List.{list_all}
 

@@ -1,8 +1,8 @@
 -- Schedules: five parts, each a name or a list of items.
-use Rattle.std.specs.Prelude.{◌≡◌, ℕ, ◌+◌, ◌^◌, ◌<◌, ◌≤◌, ◌⊎◌, ◌==◌, List, [], ◌∷◌, ◌++◌, map, codes, length, slice_index, ◌≢◌, Option, Some, None}
+use Rattle.std.specs.Prelude.{◌≡◌, ℕ, ◌<◌, ◌≤◌, ◌⊎◌, ◌==◌, List, [], ◌∷◌, ◌++◌, map, codes, length}
 use Rattle.std.specs.Char.{to_ascii_lowercase, is_whitespace, is_not_whitespace}
 use Rattle.std.specs.Str.{NoCharPasses, EmptyOrStartsWithPassing}
-use Rattle.std.specs.List.{slice_split, AllByRecursion, join_with_byte}
+use Rattle.std.specs.List.{slice_split, AllByRecursion}
 use Rattle.std.specs.String.{string_bytes}
 use Rattle.sentry_identifiers.specs.Number.{IsNumber}
 use Rattle.sentry_identifiers.specs.declared.crontab.CrontabParseError.{CrontabParseError}

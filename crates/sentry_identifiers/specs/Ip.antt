@@ -1,5 +1,5 @@
 -- IP addresses of users as texts. The texts of addresses are those of std: `IsIpText` and `ip_text`.
-use Rattle.std.specs.Prelude.{◌≡◌, ◌==◌, ℕ, List, codes, Bool, bytes_eq, Option, Some, None, option_map, if◌then◌else◌, ⊤}
+use Rattle.std.specs.Prelude.{◌≡◌, ℕ, List, codes, bytes_eq, Option, Some, None, option_map, if◌then◌else◌, ⊤}
 use Rattle.std.specs.declared.net.ip_addr.IpAddr.{IpAddr}
 use Rattle.std.specs.declared.net.ip_addr.IpAddr.TheVariants as Ip
 use Rattle.std.specs.Net.Addr.{IsIpv4Addr, IsIpv6Addr, MatchIp}

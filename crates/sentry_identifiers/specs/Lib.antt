@@ -7,3 +7,9 @@ pub mod ProjectId
 pub mod Ip
 pub mod CodeDigits
 pub mod CodeId
+pub mod HexIdTree
+pub mod AddressTree
+pub mod ProjectTree
+pub mod DebugIdTree
+pub mod CodeIdTree
+pub mod IpTree

@@ -1,12 +1,21 @@
 //! Addresses and register values.
 
-ghost use Rattle.std.specs.Prelude.{◌≡◌, ◌↔◌, IsTrue, Some};
+ghost use Rattle.std.specs.Prelude.{◌≡◌, ◌↔◌, IfOk, IsTrue, Some};
 ghost use Rattle.std.specs.Int.{w64, cast_unsigned};
 ghost use Rattle.std.specs.Result.{result_ok};
 ghost use Rattle.sentry_identifiers.specs.Number.{ReadsAs};
 ghost use Rattle.sentry_identifiers.specs.Address.{address_of, address_text};
+ghost use Rattle.serde_json.specs.View.{view, number_view};
+ghost use Rattle.sentry_rows.specs.Cells.{natural_cell};
+ghost use Rattle.sentry_identifiers.specs.AddressTree.{address_in, address_kind, number_address};
 
 use crate::number::{ParseNumberError, parse_number};
+use json::Writer;
+use sentry_rows::member::Usual;
+use sentry_rows::spelled::printed;
+use sentry_rows::{FromTree, Member, Room, TreeError};
+use serde_json::{Number, Value};
+use std::alloc::{AllocError, Global};
 use std::fmt;
 use std::str::FromStr;
 
@@ -157,6 +166,117 @@ impl From<RegVal> for u64 {
 
     fn from(value: RegVal) -> u64 {
         value.0
+    }
+}
+
+// The address that a number of a tree stands for.
+#[tactic(auto, using(crate::proofs::AddressTrees::natural_address, crate::proofs::AddressTrees::negative_address, crate::proofs::AddressTrees::no_number_address))]
+fn number_address(number: &Number) -> Option<u64>
+    ensures { result ≡ number_address (number_view number.now) }
+{
+    match number.as_u64() {
+        Some(natural) => Some(natural),
+        None => match number.as_i64() {
+            Some(negative) => Some(negative.cast_unsigned()),
+            None => None,
+        },
+    }
+}
+
+// The address that a tree shows.
+#[tactic(auto, using(crate::proofs::AddressTrees::text_address, crate::proofs::AddressTrees::of_number, crate::proofs::AddressTrees::no_address))]
+fn address_in(tree: &Value) -> Option<u64>
+    ensures { result ≡ address_in (view tree.now) }
+{
+    match tree.as_str() {
+        Some(text) => parse_address(text).ok(),
+        None => match tree.as_number() {
+            Some(number) => number_address(number),
+            None => None,
+        },
+    }
+}
+
+impl Addr {
+    // The text of the address, in `room`.
+    fn text<'a>(&self, room: &'a mut Room) -> Result<&'a str, AllocError>
+        ensures { IfOk result (λ s. s.now ≡ address_text self.now.0) }
+    {
+        printed(self, room)
+    }
+}
+
+/// An address is written as its text. It is read from its text, or from a whole number: a negative
+/// one stands for its 64 bits in two's complement.
+impl Member for Addr {
+    ghost kind = { address_kind };
+
+    ghost cell_of = { λ a. natural_cell a.0 };
+
+    #[tactic(auto, using(crate::proofs::AddressTrees::address_tree_is))]
+    fn to_tree(&self, alloc: Global) -> Result<Value, AllocError> {
+        let mut room = Room::new();
+        Value::try_from_str(alloc, self.text(&mut room)?)
+    }
+
+    #[tactic(auto, using(crate::proofs::AddressTrees::address_wrote))]
+    fn write(&self, out: &mut Writer) -> Result<(), AllocError> {
+        let mut room = Room::new();
+        out.string(self.text(&mut room)?)
+    }
+
+    fn copy(&self) -> Result<Addr, AllocError> {
+        Ok(*self)
+    }
+
+    fn is_plain(&self) -> bool {
+        let _number = self.0;
+        true
+    }
+}
+
+impl FromTree for Addr {
+    #[tactic(auto, using(crate::proofs::AddressTrees::address_found, crate::proofs::AddressTrees::address_refused))]
+    fn from_tree(_alloc: Global, tree: &Value) -> Result<Addr, TreeError> {
+        match address_in(tree) {
+            Some(address) => Ok(Addr(address)),
+            None => Err(TreeError::Misfit),
+        }
+    }
+}
+
+impl Usual for Addr {
+    fn is(&self, usual: &Addr) -> bool {
+        *self == *usual
+    }
+}
+
+/// The value of a register is written and read as an address is.
+impl Member for RegVal {
+    ghost kind = { address_kind };
+
+    ghost cell_of = { λ a. natural_cell a.0 };
+
+    fn to_tree(&self, alloc: Global) -> Result<Value, AllocError> {
+        Addr(self.0).to_tree(alloc)
+    }
+
+    fn write(&self, out: &mut Writer) -> Result<(), AllocError> {
+        Addr(self.0).write(out)
+    }
+
+    fn copy(&self) -> Result<RegVal, AllocError> {
+        Ok(*self)
+    }
+
+    fn is_plain(&self) -> bool {
+        Addr(self.0).is_plain()
+    }
+}
+
+impl FromTree for RegVal {
+    fn from_tree(alloc: Global, tree: &Value) -> Result<RegVal, TreeError> {
+        Ok(RegVal(Addr::from_tree(alloc, tree)?.0))
     }
 }
 

@@ -3,6 +3,7 @@
 ghost use Rattle.std.specs.Prelude.{◌≡◌, IfOk, IsTrue, string_bytes};
 ghost use Rattle.sentry_identifiers.specs.CodeDigits.{code_digits, are_code_digits};
 
+use sentry_rows::{Room, Spelled, TreeError};
 use std::alloc::{AllocError, Global};
 
 /// The identifier of a code file: hex digits in lower case.
@@ -64,6 +65,32 @@ fn hex_digits(alloc: Global, text: &str) -> Result<String, AllocError>
         }
     }
     Ok(digits)
+}
+
+impl Spelled for CodeId {
+    ghost use Rattle.sentry_tables.specs.Cell.{text};
+    ghost use Rattle.sentry_identifiers.specs.CodeId.{code_text};
+    ghost use Rattle.sentry_identifiers.specs.CodeIdTree.{code_spelling};
+
+    ghost spelling = { code_spelling };
+
+    ghost cell_of = { λ id. text (code_text id) };
+
+    fn of_text(alloc: Global, text: &str) -> Result<CodeId, TreeError> {
+        Ok(CodeId::new(alloc, text)?)
+    }
+
+    fn text<'a>(&'a self, _room: &'a mut Room) -> Result<&'a str, AllocError> {
+        Ok(self.as_str())
+    }
+
+    fn copied(&self) -> Result<CodeId, AllocError> {
+        self.clone()
+    }
+
+    fn hold(&self) {
+        let _digits = self.as_str();
+    }
 }
 
 #[cfg(test)]

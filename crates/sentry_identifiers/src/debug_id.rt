@@ -1,9 +1,12 @@
 //! Debug identifiers.
 
-ghost use Rattle.std.specs.Prelude.{◌≡◌, Some};
+ghost use Rattle.std.specs.Prelude.{◌≡◌, ◌<◌, Some, All};
 ghost use Rattle.sentry_identifiers.specs.DebugId.{id_size, appendix_of, debug_id_of, appendix_text, debug_id_text};
 ghost use Rattle.sentry_identifiers.specs.Number.{ReadsAs};
 
+use sentry_rows::spelled::printed;
+use sentry_rows::{Room, Spelled, TreeError};
+use std::alloc::{AllocError, Global};
 use std::fmt;
 use std::str::FromStr;
 use thiserror::Error;
@@ -126,6 +129,41 @@ impl fmt::Display for DebugId {
         write!(f, "{}{}", self.uuid, Appendix(self.appendix))
     }
 }
+
+impl Spelled for DebugId {
+    ghost use Rattle.sentry_identifiers.specs.DebugId.{debug_parts};
+    ghost use Rattle.sentry_identifiers.specs.DebugIdTree.{debug_cell, debug_spelling};
+
+    ghost spelling = { debug_spelling };
+
+    ghost cell_of = { λ id. debug_cell (debug_parts id) };
+
+    fn of_text(_alloc: Global, text: &str) -> Result<DebugId, TreeError> {
+        match text.parse::<DebugId>() {
+            Ok(id) => Ok(id),
+            Err(_) => Err(TreeError::Misfit),
+        }
+    }
+
+    fn text<'a>(&'a self, room: &'a mut Room) -> Result<&'a str, AllocError> {
+        printed(self, room)
+    }
+
+    fn copied(&self) -> Result<DebugId, AllocError> {
+        Ok(*self)
+    }
+
+    fn hold(&self) {
+        let DebugId { uuid, .. } = *self;
+        hold_bytes(uuid.as_bytes());
+        let _appendix = self.appendix;
+    }
+}
+
+// Nothing; a slice of bytes has numbers below 256.
+fn hold_bytes(bytes: &[u8])
+    ensures { All (λ b. b < 256) bytes.now }
+{}
 
 #[cfg(test)]
 mod tests {

@@ -2,6 +2,7 @@
 
 ghost use Rattle.std.specs.Prelude.{◌≡◌};
 ghost use Rattle.std.specs.Result.{result_ok};
+ghost use Rattle.hex.specs.Hex.{IsBytes};
 ghost use Rattle.sentry_identifiers.specs.HexId.{hex_id_of};
 
 use hex::{FromHex, FromHexError};
@@ -12,3 +13,8 @@ pub(crate) fn read_bytes<const N: usize>(text: &str) -> Result<[u8; N], FromHexE
 {
     <[u8; N]>::from_hex(text)
 }
+
+// Nothing; a slice of bytes has numbers below 256.
+pub(crate) fn are_bytes(bytes: &[u8])
+    ensures { IsBytes bytes.now }
+{}

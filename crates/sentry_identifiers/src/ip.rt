@@ -3,7 +3,12 @@
 ghost use Rattle.std.specs.Prelude.{◌≡◌, ◌↔◌, IsTrue, Some, None};
 ghost use Rattle.std.specs.Net.Grammar.{Parses};
 ghost use Rattle.sentry_identifiers.specs.declared.ip.IpAddress.TheVariants.{Exact};
+ghost use Rattle.sentry_identifiers.specs.Ip.{IsStoredIpAddress};
 
+use crate::ip_text::hold_ip;
+use sentry_rows::spelled::printed;
+use sentry_rows::{Room, Spelled, TreeError};
+use std::alloc::{AllocError, Global};
 use std::cmp::Ordering;
 use std::fmt;
 use std::net::IpAddr;
@@ -89,6 +94,44 @@ impl fmt::Display for IpAddress {
             IpAddress::Auto => f.write_str("{{auto}}"),
             IpAddress::Exact(ip) => fmt::Display::fmt(ip, f),
         }
+    }
+}
+
+impl Spelled for IpAddress {
+    ghost use Rattle.sentry_identifiers.specs.IpTree.{ip_address_cell, ip_address_spelling};
+
+    ghost spelling = { ip_address_spelling };
+
+    ghost cell_of = { ip_address_cell };
+
+    fn of_text(_alloc: Global, text: &str) -> Result<IpAddress, TreeError> {
+        match text.parse::<IpAddress>() {
+            Ok(address) => Ok(address),
+            Err(_) => Err(TreeError::Misfit),
+        }
+    }
+
+    fn text<'a>(&'a self, room: &'a mut Room) -> Result<&'a str, AllocError> {
+        hold_address(self);
+        printed(self, room)
+    }
+
+    fn copied(&self) -> Result<IpAddress, AllocError> {
+        Ok(*self)
+    }
+
+    fn hold(&self) {
+        hold_address(self);
+    }
+}
+
+// Nothing; an address has numbers in range.
+fn hold_address(address: &IpAddress)
+    ensures { IsStoredIpAddress address.now }
+{
+    match address {
+        IpAddress::Auto => {}
+        IpAddress::Exact(ip) => hold_ip(ip),
     }
 }
 

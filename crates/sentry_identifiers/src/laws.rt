@@ -13,6 +13,18 @@ ghost use Rattle.hex.specs.Hex.{IsBytes, encode_lower};
 ghost use Rattle.sentry_identifiers.specs.HexId.{IsHexId, hex_id_of};
 ghost use Rattle.sentry_identifiers.specs.Number.{IsNumber, number_of};
 ghost use Rattle.sentry_identifiers.specs.Address.{IsAddress, address_of, address_text};
+ghost use Rattle.sentry_tables.specs.Cell.{Cell};
+ghost use Rattle.sentry_tables.specs.Basic.{IsText};
+ghost use Rattle.sentry_tables.specs.Kind.{draw};
+ghost use Rattle.sentry_tables.specs.Lawful.{IsNormal, RefusesNull, RuleLaws};
+ghost use Rattle.sentry_tables.specs.Laws.{HasLaws};
+ghost use Rattle.sentry_rows.specs.Cells.{natural_cell};
+ghost use Rattle.sentry_identifiers.specs.AddressTree.{address_kind};
+ghost use Rattle.sentry_identifiers.specs.HexIdTree.{IsOctets, span_kind, trace_kind};
+ghost use Rattle.sentry_identifiers.specs.ProjectTree.{project_kind, organization_kind, organization_text_kind};
+ghost use Rattle.sentry_identifiers.specs.DebugIdTree.{IsDebugCell, debug_kind};
+ghost use Rattle.sentry_identifiers.specs.CodeIdTree.{IsCodeCell, code_kind};
+ghost use Rattle.sentry_identifiers.specs.IpTree.{IsIpCell, ip_kind, IsIpAddressCell, ip_address_kind};
 
 /// Addresses and register values.
 pub fn addresses()
@@ -56,4 +68,64 @@ pub fn ip_addresses()
 pub fn code_ids()
     ensures digits { (text : List ℕ) → IsTrue (are_code_digits (code_digits text)) }
     ensures read_back { (digits : List ℕ) → IsTrue (are_code_digits digits) → code_digits digits ≡ digits }
+{}
+
+/// Addresses and register values in trees; each is its own normal form.
+pub fn address_trees()
+    ensures laws { HasLaws address_kind }
+    ensures no_null { RefusesNull address_kind }
+    ensures normal { (n : ℕ) → n < 2 ^ 64 → IsNormal address_kind (natural_cell n) }
+{}
+
+/// Ids of spans and traces in trees; any bytes may be drawn, and each id is its own normal form.
+pub fn hex_id_trees()
+    ensures spans { HasLaws span_kind }
+    ensures traces { HasLaws trace_kind }
+    ensures drawn_spans { RuleLaws (draw (IsOctets 8)) span_kind }
+    ensures drawn_traces { RuleLaws (draw (IsOctets 16)) trace_kind }
+{}
+
+/// Ids of projects in trees; each is its own normal form.
+pub fn project_trees()
+    ensures laws { HasLaws project_kind }
+    ensures no_null { RefusesNull project_kind }
+    ensures normal { (c : Cell) → IsText c → IsNormal project_kind c }
+{}
+
+/// Ids of organizations in trees, as numbers and as texts; each is its own normal form.
+pub fn organization_trees()
+    ensures numbers { HasLaws organization_kind }
+    ensures texts { HasLaws organization_text_kind }
+    ensures no_null_number { RefusesNull organization_kind }
+    ensures no_null_text { RefusesNull organization_text_kind }
+    ensures normal_number { (n : ℕ) → n < 2 ^ 64 → IsNormal organization_kind (natural_cell n) }
+    ensures normal_text { (n : ℕ) → n < 2 ^ 64 → IsNormal organization_text_kind (natural_cell n) }
+{}
+
+/// Debug identifiers in trees; each is its own normal form.
+pub fn debug_id_trees()
+    ensures laws { HasLaws debug_kind }
+    ensures no_null { RefusesNull debug_kind }
+    ensures normal { (c : Cell) → IsDebugCell c → IsNormal debug_kind c }
+{}
+
+/// Code identifiers in trees; each is its own normal form.
+pub fn code_id_trees()
+    ensures laws { HasLaws code_kind }
+    ensures no_null { RefusesNull code_kind }
+    ensures normal { (c : Cell) → IsCodeCell c → IsNormal code_kind c }
+{}
+
+/// IP addresses in trees; each reads back, and is its own normal form.
+pub fn ip_trees()
+    ensures laws { HasLaws ip_kind }
+    ensures no_null { RefusesNull ip_kind }
+    ensures normal { (c : Cell) → IsIpCell c → IsNormal ip_kind c }
+{}
+
+/// IP addresses of users in trees; each reads back, and is its own normal form.
+pub fn ip_address_trees()
+    ensures laws { HasLaws ip_address_kind }
+    ensures no_null { RefusesNull ip_address_kind }
+    ensures normal { (c : Cell) → IsIpAddressCell c → IsNormal ip_address_kind c }
 {}

@@ -2,8 +2,14 @@
 
 ghost use Rattle.std.specs.Prelude.{◌≡◌, ◌↔◌, [], IfOk, IsErrOf, Some, decimal};
 ghost use Rattle.sentry_identifiers.specs.Number.{ReadsAs, number_of};
+ghost use Rattle.sentry_identifiers.specs.ProjectTree.{project_spelling, organization_kind, organization_spelling, organization_text_kind};
+ghost use Rattle.sentry_rows.specs.Spelling.{ReadsSpelling};
 
 use crate::number::{ParseNumberError, parse_number};
+use json::Writer;
+use sentry_rows::spelled::printed;
+use sentry_rows::{Codec, FromTree, Member, ReadCodec, Room, Spelled, TreeError};
+use serde_json::Value;
 use std::alloc::{AllocError, Global};
 use std::fmt;
 use std::str::FromStr;
@@ -98,6 +104,31 @@ impl fmt::Display for ProjectId {
     }
 }
 
+/// In a tree the empty text is an id too.
+impl Spelled for ProjectId {
+    ghost use Rattle.sentry_identifiers.specs.ProjectTree.{project_cell};
+
+    ghost spelling = { project_spelling };
+
+    ghost cell_of = { project_cell };
+
+    fn of_text(alloc: Global, text: &str) -> Result<ProjectId, TreeError> {
+        Ok(ProjectId::new(alloc, text)?)
+    }
+
+    fn text<'a>(&'a self, _room: &'a mut Room) -> Result<&'a str, AllocError> {
+        Ok(self.value())
+    }
+
+    fn copied(&self) -> Result<ProjectId, AllocError> {
+        self.clone()
+    }
+
+    fn hold(&self) {
+        let _text = self.value();
+    }
+}
+
 /// The id of an organization: a number.
 ///
 /// It is read from a decimal number of at most 64 bits, with or without a `+` before it.
@@ -144,6 +175,103 @@ impl fmt::Display for OrganizationId {
 
     fn fmt<W: fmt::Write>(&self, f: &mut fmt::Formatter<W>) -> fmt::Result {
         write!(f, "{}", self.value())
+    }
+}
+
+/// An organization's id stands in a tree as a number.
+impl Member for OrganizationId {
+    ghost use Rattle.sentry_identifiers.specs.ProjectTree.{organization_cell};
+
+    ghost kind = { organization_kind };
+
+    ghost cell_of = { organization_cell };
+
+    fn to_tree(&self, alloc: Global) -> Result<Value, AllocError> {
+        self.value().to_tree(alloc)
+    }
+
+    fn write(&self, out: &mut Writer) -> Result<(), AllocError> {
+        self.value().write(out)
+    }
+
+    fn copy(&self) -> Result<OrganizationId, AllocError> {
+        Ok(*self)
+    }
+
+    fn is_plain(&self) -> bool {
+        self.value().is_plain()
+    }
+}
+
+impl FromTree for OrganizationId {
+    fn from_tree(alloc: Global, tree: &Value) -> Result<OrganizationId, TreeError> {
+        Ok(OrganizationId(u64::from_tree(alloc, tree)?))
+    }
+}
+
+/// The form of a number that stands in a tree as a text of decimal digits.
+///
+/// A `+` before the digits is read, and not written.
+pub struct OrganizationText;
+
+impl OrganizationId {
+    ghost use Rattle.sentry_identifiers.specs.ProjectId.{organization_value};
+    ghost use Rattle.sentry_identifiers.specs.ProjectTree.{organization_cell};
+
+    // The id that a text spells.
+    fn of_text(text: &str) -> Result<OrganizationId, TreeError>
+        ensures { ReadsSpelling organization_spelling organization_cell text.now result }
+    {
+        match text.parse() {
+            Ok(id) => Ok(id),
+            Err(_) => Err(TreeError::Misfit),
+        }
+    }
+
+    // The text of the id, in `room`.
+    fn text<'a>(&self, room: &'a mut Room) -> Result<&'a str, AllocError>
+        ensures { IfOk result (λ s. s.now ≡ decimal (organization_value self.now)) }
+    {
+        printed(self, room)
+    }
+}
+
+impl Codec<OrganizationId> for OrganizationText {
+    ghost use Rattle.sentry_identifiers.specs.ProjectTree.{organization_cell};
+
+    ghost kind = { organization_text_kind };
+
+    ghost cell_of = { organization_cell };
+
+    #[tactic(auto, using(sentry_rows::proofs::Spellings::text_tree))]
+    fn to_tree(id: &OrganizationId, alloc: Global) -> Result<Value, AllocError> {
+        let mut room = Room::new();
+        Value::try_from_str(alloc, id.text(&mut room)?)
+    }
+
+    #[tactic(auto, using(sentry_rows::proofs::Spellings::spelling_wrote))]
+    fn write(id: &OrganizationId, out: &mut Writer) -> Result<(), AllocError> {
+        let mut room = Room::new();
+        out.string(id.text(&mut room)?)
+    }
+
+    fn copy(id: &OrganizationId) -> Result<OrganizationId, AllocError> {
+        Ok(*id)
+    }
+
+    fn is_plain(id: &OrganizationId) -> bool {
+        let _number = id.0;
+        true
+    }
+}
+
+impl ReadCodec<OrganizationId> for OrganizationText {
+    #[tactic(auto, using(sentry_rows::proofs::Spellings::text_read, sentry_rows::proofs::Spellings::not_text))]
+    fn from_tree(_alloc: Global, tree: &Value) -> Result<OrganizationId, TreeError> {
+        match tree.as_str() {
+            Some(text) => OrganizationId::of_text(text),
+            None => Err(TreeError::Misfit),
+        }
     }
 }
 

@@ -4,11 +4,14 @@ ghost use Rattle.std.specs.Prelude.{◌≡◌, IfOk, Some, string_bytes};
 ghost use Rattle.hex.specs.Hex.{encode_lower};
 ghost use Rattle.rand_core.specs.Stream.{fill_bytes};
 ghost use Rattle.sentry_identifiers.specs.HexId.{hex_id_of};
+ghost use Rattle.sentry_identifiers.specs.HexIdTree.{IsOctets, hex_id_spelling};
 ghost use Rattle.sentry_identifiers.specs.Number.{ReadsAs};
 
-use crate::hex_id::read_bytes;
+use crate::hex_id::{are_bytes, read_bytes};
 use hex::FromHexError;
 use rand_core::Rng;
+use sentry_rows::spelled::printed;
+use sentry_rows::{Drawn, Own, Room, Spelled, TreeError};
 use std::alloc::{AllocError, Global};
 use std::str::FromStr;
 use std::{fmt, str};
@@ -93,6 +96,49 @@ impl fmt::Display for SpanId {
 impl fmt::Debug for SpanId {
     fn fmt<W: fmt::Write>(&self, f: &mut fmt::Formatter<W>) -> fmt::Result {
         write!(f, "SpanId({self})")
+    }
+}
+
+impl Spelled for SpanId {
+    ghost use Rattle.sentry_identifiers.specs.HexIdTree.{span_cell};
+
+    ghost spelling = { hex_id_spelling 8 };
+
+    ghost cell_of = { span_cell };
+
+    fn of_text(_alloc: Global, text: &str) -> Result<SpanId, TreeError> {
+        match text.parse() {
+            Ok(id) => Ok(id),
+            Err(_) => Err(TreeError::Misfit),
+        }
+    }
+
+    fn text<'a>(&'a self, room: &'a mut Room) -> Result<&'a str, AllocError> {
+        printed(self, room)
+    }
+
+    fn copied(&self) -> Result<SpanId, AllocError> {
+        Ok(*self)
+    }
+
+    fn hold(&self) {
+        are_bytes(&self.0);
+    }
+}
+
+impl Drawn<SpanId> for Own {
+    ghost use Rattle.sentry_identifiers.specs.HexId.{span_bytes};
+    ghost use Rattle.sentry_identifiers.specs.HexIdTree.{span_cell};
+
+    ghost IsDrawn = { IsOctets 8 };
+
+    fn random<R: Rng>(ids: &mut R) -> SpanId
+        ensures any { IsOctets 8 (span_cell result) }
+        ensures next { (span_bytes result, R.stream ids.new) ≡ fill_bytes 8 (R.stream ids.old) }
+    {
+        let id = SpanId::random(ids);
+        id.hold();
+        id
     }
 }
 

@@ -4,11 +4,14 @@ ghost use Rattle.std.specs.Prelude.{◌≡◌, IfOk, Some, string_bytes};
 ghost use Rattle.hex.specs.Hex.{encode_lower};
 ghost use Rattle.rand_core.specs.Stream.{fill_bytes};
 ghost use Rattle.sentry_identifiers.specs.HexId.{hex_id_of};
+ghost use Rattle.sentry_identifiers.specs.HexIdTree.{IsOctets, hex_id_spelling};
 ghost use Rattle.sentry_identifiers.specs.Number.{ReadsAs};
 
-use crate::hex_id::read_bytes;
+use crate::hex_id::{are_bytes, read_bytes};
 use hex::FromHexError;
 use rand_core::Rng;
+use sentry_rows::spelled::printed;
+use sentry_rows::{Drawn, Own, Room, Spelled, TreeError};
 use std::alloc::{AllocError, Global};
 use std::str::FromStr;
 use std::{fmt, str};
@@ -93,6 +96,49 @@ impl fmt::Display for TraceId {
 impl fmt::Debug for TraceId {
     fn fmt<W: fmt::Write>(&self, f: &mut fmt::Formatter<W>) -> fmt::Result {
         write!(f, "TraceId({self})")
+    }
+}
+
+impl Spelled for TraceId {
+    ghost use Rattle.sentry_identifiers.specs.HexIdTree.{trace_cell};
+
+    ghost spelling = { hex_id_spelling 16 };
+
+    ghost cell_of = { trace_cell };
+
+    fn of_text(_alloc: Global, text: &str) -> Result<TraceId, TreeError> {
+        match text.parse() {
+            Ok(id) => Ok(id),
+            Err(_) => Err(TreeError::Misfit),
+        }
+    }
+
+    fn text<'a>(&'a self, room: &'a mut Room) -> Result<&'a str, AllocError> {
+        printed(self, room)
+    }
+
+    fn copied(&self) -> Result<TraceId, AllocError> {
+        Ok(*self)
+    }
+
+    fn hold(&self) {
+        are_bytes(&self.0);
+    }
+}
+
+impl Drawn<TraceId> for Own {
+    ghost use Rattle.sentry_identifiers.specs.HexId.{trace_bytes};
+    ghost use Rattle.sentry_identifiers.specs.HexIdTree.{trace_cell};
+
+    ghost IsDrawn = { IsOctets 16 };
+
+    fn random<R: Rng>(ids: &mut R) -> TraceId
+        ensures any { IsOctets 16 (trace_cell result) }
+        ensures next { (trace_bytes result, R.stream ids.new) ≡ fill_bytes 16 (R.stream ids.old) }
+    {
+        let id = TraceId::random(ids);
+        id.hold();
+        id
     }
 }
 

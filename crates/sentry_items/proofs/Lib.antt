@@ -1,2 +1,3 @@
 pub mod HeaderTokens
 pub mod Sent
+pub mod Words

@@ -1,5 +1,8 @@
 -- What is counted as lost, and why: each category and each reason with its word and its place.
-use Rattle.std.specs.Prelude.{◌≡◌, ℕ, List, [], ◌∷◌, length, Some, codes, slice_get}
+use Rattle.std.specs.Prelude.{◌≡◌, refl, ℕ, List, [], ◌∷◌, Option, Some, codes, slice_get}
+use Rattle.sentry_tables.specs.Kind.{Kind}
+use Rattle.sentry_rows.specs.Spelling.{Spelling, enumeration, spelled_kind}
+use Rattle.sentry_words.specs.Lookup.{lookup, by_word}
 use Rattle.sentry_items.specs.declared.category.Category.{Category}
 use Rattle.sentry_items.specs.declared.category.Category.TheVariants as category
 use Rattle.sentry_items.specs.declared.reason.Reason.{Reason}
@@ -57,6 +60,10 @@ category_index category.TraceMetricByte = 9
 category_index category.Feedback = 10
 category_index category.Replay = 11
 
+pub category_in_place : (x : Category) → slice_get categories (category_index x) ≡ Some x
+category_in_place category.Error = refl
+category_in_place _ = refl
+
 -- the place of a reason in that order
 abbrev pub reason_index : Reason → ℕ
 reason_index reason.SendError = 0
@@ -68,3 +75,33 @@ reason_index reason.BufferOverflow = 5
 reason_index reason.EventProcessor = 6
 reason_index reason.BeforeSend = 7
 reason_index reason.SampleRate = 8
+
+pub reason_in_place : (x : Reason) → slice_get reasons (reason_index x) ≡ Some x
+reason_in_place reason.SendError = refl
+reason_in_place _ = refl
+
+-- what a category is read from
+abbrev pub category_words : List (List ℕ × Category)
+category_words = by_word category_word categories
+
+abbrev pub category_of : List ℕ → Option Category
+category_of = lookup category_words
+
+abbrev pub category_spelling : Spelling
+category_spelling = enumeration category_of category_word
+
+abbrev pub category_kind : Kind
+category_kind = spelled_kind category_spelling
+
+-- what a reason is read from
+abbrev pub reason_words : List (List ℕ × Reason)
+reason_words = by_word reason_word reasons
+
+abbrev pub reason_of : List ℕ → Option Reason
+reason_of = lookup reason_words
+
+abbrev pub reason_spelling : Spelling
+reason_spelling = enumeration reason_of reason_word
+
+abbrev pub reason_kind : Kind
+reason_kind = spelled_kind reason_spelling

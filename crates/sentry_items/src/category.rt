@@ -1,5 +1,9 @@
 //! What is counted as lost.
 
+use sentry_rows::{Room, Spelled, TreeError};
+use sentry_words::IndexedEnum;
+use std::alloc::{AllocError, Global};
+
 /// What is counted as lost.
 ///
 /// The words are those of client reports: <https://develop.sentry.dev/sdk/expected-features/rate-limiting/#definitions>.
@@ -32,24 +36,8 @@ pub enum Category {
 }
 
 impl Category {
-    ghost use Rattle.std.specs.Prelude.{◌≡◌, ◌<◌, length};
-    ghost use Rattle.sentry_items.specs.Categories.{category_word, category_index};
-
-    /// All categories, in the order of their indices.
-    pub const VARIANTS: &'static [Category] = &[
-        Category::Error,
-        Category::Session,
-        Category::Transaction,
-        Category::Span,
-        Category::Attachment,
-        Category::Monitor,
-        Category::LogItem,
-        Category::LogByte,
-        Category::TraceMetric,
-        Category::TraceMetricByte,
-        Category::Feedback,
-        Category::Replay,
-    ];
+    ghost use Rattle.std.specs.Prelude.{◌≡◌};
+    ghost use Rattle.sentry_items.specs.Categories.{category_word};
 
     /// The category's word.
     pub fn as_str(&self) -> &'static str
@@ -70,12 +58,31 @@ impl Category {
             Category::Replay => "replay",
         }
     }
+}
 
-    /// The category's place in [`Category::VARIANTS`].
-    pub fn as_index(&self) -> usize
-        ensures place { result ≡ category_index self.now }
-        ensures within { result < length Category.VARIANTS.now }
-    {
+impl IndexedEnum for Category {
+    ghost use Rattle.sentry_items.specs.Categories.{categories, category_index, category_in_place};
+
+    ghost variants = { categories };
+
+    ghost index_of = { category_index };
+
+    const VARIANTS: &'static [Category] = &[
+        Category::Error,
+        Category::Session,
+        Category::Transaction,
+        Category::Span,
+        Category::Attachment,
+        Category::Monitor,
+        Category::LogItem,
+        Category::LogByte,
+        Category::TraceMetric,
+        Category::TraceMetricByte,
+        Category::Feedback,
+        Category::Replay,
+    ];
+
+    fn as_index(&self) -> usize {
         match self {
             Category::Error => 0,
             Category::Session => 1,
@@ -91,4 +98,43 @@ impl Category {
             Category::Replay => 11,
         }
     }
+
+    ghost in_place = { category_in_place };
+}
+
+impl Spelled for Category {
+    ghost use Rattle.sentry_rows.specs.Spelling.{word_cell};
+    ghost use Rattle.sentry_items.specs.Categories.{category_word, category_spelling};
+
+    ghost spelling = { category_spelling };
+
+    ghost cell_of = { word_cell category_word };
+
+    fn of_text(_alloc: Global, text: &str) -> Result<Category, TreeError> {
+        match text {
+            "error" => Ok(Category::Error),
+            "session" => Ok(Category::Session),
+            "transaction" => Ok(Category::Transaction),
+            "span" => Ok(Category::Span),
+            "attachment" => Ok(Category::Attachment),
+            "monitor" => Ok(Category::Monitor),
+            "log_item" => Ok(Category::LogItem),
+            "log_byte" => Ok(Category::LogByte),
+            "trace_metric" => Ok(Category::TraceMetric),
+            "trace_metric_byte" => Ok(Category::TraceMetricByte),
+            "feedback" => Ok(Category::Feedback),
+            "replay" => Ok(Category::Replay),
+            _ => Err(TreeError::Misfit),
+        }
+    }
+
+    fn text<'a>(&'a self, _room: &'a mut Room) -> Result<&'a str, AllocError> {
+        Ok(self.as_str())
+    }
+
+    fn copied(&self) -> Result<Category, AllocError> {
+        Ok(*self)
+    }
+
+    fn hold(&self) {}
 }

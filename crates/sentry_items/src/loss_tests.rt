@@ -2,6 +2,9 @@ use crate::{
     Attachment, Category, EnvelopeItem, ItemLoss, ItemLossIter, LossSlice, LossSource, Reason,
     ReplayRecording,
 };
+use sentry_rows::text::text_of;
+use sentry_rows::{FromTree, read_line};
+use sentry_words::IndexedEnum;
 use std::alloc::{AllocError, Global};
 use std::test::Fail;
 
@@ -46,6 +49,37 @@ fn words_of_reasons(rt: HostRuntime) {
         assert_eq!(rt; Reason::VARIANTS[index].as_str(), *word);
         assert_eq!(rt; Reason::VARIANTS[index].as_index(), index);
     }
+}
+
+// Whether the line is read as the value, and the value is written as the line.
+fn is_line_of<T: FromTree + PartialEq>(alloc: Global, line: &str, value: &T) -> Result<bool, Fail> {
+    let read: T = read_line(alloc, line.as_bytes())?;
+    let text = text_of(alloc, value)?;
+    Ok(read == *value && text.as_slice() == line.as_bytes())
+}
+
+#[test]
+fn words_in_trees(rt: HostRuntime) -> Result<(), Fail> {
+    let alloc = rt.alloc();
+    for category in Category::VARIANTS {
+        let line = format!(in alloc; "\"{}\"", category.as_str())?;
+        assert!(rt; is_line_of(alloc, line.as_str(), category)?);
+    }
+    for reason in Reason::VARIANTS {
+        let line = format!(in alloc; "\"{}\"", reason.as_str())?;
+        assert!(rt; is_line_of(alloc, line.as_str(), reason)?);
+    }
+    for line in ["\"Error\"", "\"none\"", "\"\"", "null", "0"] {
+        assert!(rt;
+            read_line::<Category>(alloc, line.as_bytes()).is_err(),
+            "{line}"
+        );
+        assert!(rt;
+            read_line::<Reason>(alloc, line.as_bytes()).is_err(),
+            "{line}"
+        );
+    }
+    Ok(())
 }
 
 fn attachment(alloc: Global, bytes: &[u8]) -> Result<Attachment, AllocError> {

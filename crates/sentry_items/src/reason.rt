@@ -1,5 +1,9 @@
 //! Why something was lost.
 
+use sentry_rows::{Room, Spelled, TreeError};
+use sentry_words::IndexedEnum;
+use std::alloc::{AllocError, Global};
+
 /// Why something was lost.
 ///
 /// The words are those of client reports: <https://develop.sentry.dev/sdk/telemetry/client-reports/>.
@@ -26,21 +30,8 @@ pub enum Reason {
 }
 
 impl Reason {
-    ghost use Rattle.std.specs.Prelude.{◌≡◌, ◌<◌, length};
-    ghost use Rattle.sentry_items.specs.Categories.{reason_word, reason_index};
-
-    /// All reasons, in the order of their indices.
-    pub const VARIANTS: &'static [Reason] = &[
-        Reason::SendError,
-        Reason::InternalSdkError,
-        Reason::NetworkError,
-        Reason::RatelimitBackoff,
-        Reason::QueueOverflow,
-        Reason::BufferOverflow,
-        Reason::EventProcessor,
-        Reason::BeforeSend,
-        Reason::SampleRate,
-    ];
+    ghost use Rattle.std.specs.Prelude.{◌≡◌};
+    ghost use Rattle.sentry_items.specs.Categories.{reason_word};
 
     /// The reason's word.
     pub fn as_str(&self) -> &'static str
@@ -58,12 +49,28 @@ impl Reason {
             Reason::SampleRate => "sample_rate",
         }
     }
+}
 
-    /// The reason's place in [`Reason::VARIANTS`].
-    pub fn as_index(&self) -> usize
-        ensures place { result ≡ reason_index self.now }
-        ensures within { result < length Reason.VARIANTS.now }
-    {
+impl IndexedEnum for Reason {
+    ghost use Rattle.sentry_items.specs.Categories.{reasons, reason_index, reason_in_place};
+
+    ghost variants = { reasons };
+
+    ghost index_of = { reason_index };
+
+    const VARIANTS: &'static [Reason] = &[
+        Reason::SendError,
+        Reason::InternalSdkError,
+        Reason::NetworkError,
+        Reason::RatelimitBackoff,
+        Reason::QueueOverflow,
+        Reason::BufferOverflow,
+        Reason::EventProcessor,
+        Reason::BeforeSend,
+        Reason::SampleRate,
+    ];
+
+    fn as_index(&self) -> usize {
         match self {
             Reason::SendError => 0,
             Reason::InternalSdkError => 1,
@@ -76,4 +83,40 @@ impl Reason {
             Reason::SampleRate => 8,
         }
     }
+
+    ghost in_place = { reason_in_place };
+}
+
+impl Spelled for Reason {
+    ghost use Rattle.sentry_rows.specs.Spelling.{word_cell};
+    ghost use Rattle.sentry_items.specs.Categories.{reason_word, reason_spelling};
+
+    ghost spelling = { reason_spelling };
+
+    ghost cell_of = { word_cell reason_word };
+
+    fn of_text(_alloc: Global, text: &str) -> Result<Reason, TreeError> {
+        match text {
+            "send_error" => Ok(Reason::SendError),
+            "internal_sdk_error" => Ok(Reason::InternalSdkError),
+            "network_error" => Ok(Reason::NetworkError),
+            "ratelimit_backoff" => Ok(Reason::RatelimitBackoff),
+            "queue_overflow" => Ok(Reason::QueueOverflow),
+            "buffer_overflow" => Ok(Reason::BufferOverflow),
+            "event_processor" => Ok(Reason::EventProcessor),
+            "before_send" => Ok(Reason::BeforeSend),
+            "sample_rate" => Ok(Reason::SampleRate),
+            _ => Err(TreeError::Misfit),
+        }
+    }
+
+    fn text<'a>(&'a self, _room: &'a mut Room) -> Result<&'a str, AllocError> {
+        Ok(self.as_str())
+    }
+
+    fn copied(&self) -> Result<Reason, AllocError> {
+        Ok(*self)
+    }
+
+    fn hold(&self) {}
 }

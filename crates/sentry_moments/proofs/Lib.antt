@@ -5,9 +5,15 @@ pub mod Days
 pub mod DecimalReadBack
 pub mod DecimalTexts
 pub mod Fronts
+pub mod MomentRange
+pub mod MomentSpellings
+pub mod MomentsShown
+pub mod MomentsWritten
 pub mod Numerals
 pub mod Padding
 pub mod Places
+pub mod Printed
 pub mod Rfc3339ReadBack
 pub mod Rfc3339Texts
+pub mod SamplingSpellings
 pub mod Shifts

@@ -1,9 +1,12 @@
 pub mod Decimal
 pub mod DecimalScan
 pub mod Digits
+pub mod MomentForms
 pub mod MomentTexts
+pub mod Moments
 pub mod Rfc3339
 pub mod Rfc3339Scan
 pub mod SampleRand
 pub mod SampleRandReading
 pub mod SampleRate
+pub mod SamplingTexts

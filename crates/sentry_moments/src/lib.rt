@@ -3,13 +3,19 @@
 
 pub mod decimal;
 mod digits;
+pub mod forms;
 mod fraction;
+pub mod laws;
 pub mod moment;
 mod rfc3339;
 pub mod sample_rand;
 pub mod sample_rate;
 
 pub use decimal::DecimalError;
+pub use forms::{Rfc3339, Seconds};
 pub use moment::Moment;
 pub use sample_rand::{InvalidSampleRandError, SampleRand};
 pub use sample_rate::SampleRate;
+
+#[cfg(test)]
+mod form_tests;

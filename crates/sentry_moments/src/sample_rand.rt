@@ -5,6 +5,9 @@ ghost use Rattle.sentry_moments.specs.Decimal.{IsDecimal, Billionths};
 ghost use Rattle.sentry_moments.specs.SampleRand.{IsNearestEven, millionths as millionths_of, sample_rand_text};
 
 use crate::decimal::{self, DecimalError};
+use sentry_rows::spelled::printed;
+use sentry_rows::{Room, Spelled, TreeError};
+use std::alloc::{AllocError, Global};
 use std::fmt;
 use std::str::FromStr;
 use thiserror::Error;
@@ -99,6 +102,34 @@ impl fmt::Display for SampleRand {
     fn fmt<W: fmt::Write>(&self, f: &mut fmt::Formatter<W>) -> fmt::Result {
         let millionths = millionths(self.billionths);
         write!(f, "0.{millionths:06}")
+    }
+}
+
+impl Spelled for SampleRand {
+    ghost use Rattle.sentry_moments.specs.SamplingTexts.{sample_rand_cell, sample_rand_spelling};
+
+    ghost spelling = { sample_rand_spelling };
+
+    ghost cell_of = { sample_rand_cell };
+
+    #[tactic(auto, using(crate::proofs::SamplingSpellings::not_sample_rand))]
+    fn of_text(_alloc: Global, text: &str) -> Result<SampleRand, TreeError> {
+        match text.parse::<SampleRand>() {
+            Ok(value) => Ok(value),
+            Err(_) => Err(TreeError::Misfit),
+        }
+    }
+
+    fn text<'a>(&'a self, room: &'a mut Room) -> Result<&'a str, AllocError> {
+        printed(self, room)
+    }
+
+    fn copied(&self) -> Result<SampleRand, AllocError> {
+        Ok(*self)
+    }
+
+    fn hold(&self) {
+        let _value = *self;
     }
 }
 

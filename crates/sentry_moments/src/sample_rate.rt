@@ -5,6 +5,9 @@ ghost use Rattle.sentry_moments.specs.Decimal.{IsDecimal, Billionths, decimal_te
 ghost use Rattle.sentry_moments.specs.SampleRate.{ReadsSampleRate};
 
 use crate::decimal::{self, Decimal, DecimalError};
+use sentry_rows::spelled::printed;
+use sentry_rows::{Room, Spelled, TreeError};
+use std::alloc::{AllocError, Global};
 use std::fmt;
 use std::str::FromStr;
 
@@ -34,6 +37,34 @@ impl fmt::Display for SampleRate {
             billionths: (self.0 % 1_000_000_000) as u32,
         };
         write!(f, "{rate}")
+    }
+}
+
+impl Spelled for SampleRate {
+    ghost use Rattle.sentry_moments.specs.SamplingTexts.{sample_rate_cell, sample_rate_spelling};
+
+    ghost spelling = { sample_rate_spelling };
+
+    ghost cell_of = { sample_rate_cell };
+
+    #[tactic(auto, using(crate::proofs::SamplingSpellings::not_sample_rate))]
+    fn of_text(_alloc: Global, text: &str) -> Result<SampleRate, TreeError> {
+        match text.parse::<SampleRate>() {
+            Ok(rate) => Ok(rate),
+            Err(_) => Err(TreeError::Misfit),
+        }
+    }
+
+    fn text<'a>(&'a self, room: &'a mut Room) -> Result<&'a str, AllocError> {
+        printed(self, room)
+    }
+
+    fn copied(&self) -> Result<SampleRate, AllocError> {
+        Ok(*self)
+    }
+
+    fn hold(&self) {
+        let _billionths = self.0;
     }
 }
 

@@ -1,10 +1,24 @@
-//! Small texts of the protocol: moments, and types that are read at a moment.
+//! Small texts of the protocol: moments, ids, words, addresses; and types that are read at a moment.
 #![tactic(auto)]
 
 pub mod timed;
 
-pub use sentry_moments::{DecimalError, InvalidSampleRandError, Moment, SampleRand, SampleRate};
-pub use sentry_words::draw::{Drawn, or_drawn_as};
-pub use sentry_words::line::{read_line, read_tree, whole};
-pub use sentry_words::{Codec, FromTree, Member, Own, ReadCodec, TreeError, rows, tagged};
+pub use sentry_identifiers::{
+    Addr, CodeId, CrontabParseError, DebugId, FromHexError, IpAddress, IpText, OrganizationId,
+    OrganizationText, ParseDebugIdError, ParseIpError, ParseNumberError, ParseProjectIdError,
+    ProjectId, RegVal, SpanId, TraceId, validate,
+};
+pub use sentry_moments::{
+    DecimalError, InvalidSampleRandError, Moment, Rfc3339, SampleRand, SampleRate, Seconds,
+};
+pub use sentry_words::{
+    Codec, Drawn, FromTree, Hyphenated, IndexedEnum, Level, LogLevel, LogSeverityNumber, Member,
+    MetricType, MonitorCheckInStatus, MonitorIntervalUnit, Orientation, Own, ParseLevelError,
+    ParseSessionStatusError, ParseStatusError, ParseWordError, ReadCodec, Sampled, SessionStatus,
+    SeverityOutOfRange, Simple, SpanStatus, TreeError, Unit, or_drawn_as, random_uuid, read_line,
+    read_tree, rows, tagged, whole,
+};
 pub use timed::FromTreeAt;
+
+#[cfg(test)]
+mod timed_tests;

@@ -4,14 +4,14 @@
 
 ghost use Rattle.serde_json.specs.View.{view};
 ghost use Rattle.sentry_tables.specs.Kind.{at_once, default as default_rule, list as list_kind, map as map_kind, may, must, values as values_kind};
-ghost use Rattle.sentry_words.specs.Cells.{option_cell, list_cell, map_cell, empty_list, empty_map};
-ghost use Rattle.sentry_words.specs.Reading.{ReadsAt, ReadsRowAt, ReadsTextAt};
-ghost use Rattle.sentry_text.specs.Moments.{moment_cell};
+ghost use Rattle.sentry_rows.specs.Cells.{option_cell, list_cell, map_cell, empty_list, empty_map};
+ghost use Rattle.sentry_rows.specs.Reading.{ReadsAt, ReadsRowAt, ReadsTextAt};
+ghost use Rattle.sentry_moments.specs.Moments.{moment_cell};
 
 use rand_core::Rng;
 use sentry_moments::Moment;
-use sentry_words::line::read_tree;
-use sentry_words::{Member, ReadCodec, TreeError};
+use sentry_rows::line::read_tree;
+use sentry_rows::{Member, ReadCodec, TreeError};
 use serde_json::{Map, Value};
 use std::alloc::Global;
 
@@ -69,7 +69,7 @@ impl<T: FromTreeAt> FromTreeAt for Map<String, T> {
 }
 
 /// A moment that is `now` where it is absent.
-#[tactic(auto, using(sentry_words::proofs::RowLemmas::at_once_absent_at, sentry_words::proofs::RowLemmas::at_once_read_now))]
+#[tactic(auto, using(sentry_rows::proofs::RowLemmas::at_once_absent_at, sentry_rows::proofs::RowLemmas::at_once_read_now))]
 pub fn now_or_as<F: ReadCodec<Moment>>(
     alloc: Global,
     tree: &Value,
@@ -85,7 +85,7 @@ pub fn now_or_as<F: ReadCodec<Moment>>(
 }
 
 /// A row at a moment that has to be there; `Misfit` where it isn't.
-#[tactic(auto, using(sentry_words::proofs::RowLemmas::must_missing_at, sentry_words::proofs::RowLemmas::must_read_at))]
+#[tactic(auto, using(sentry_rows::proofs::RowLemmas::must_missing_at, sentry_rows::proofs::RowLemmas::must_read_at))]
 pub fn required_at<T: FromTreeAt, R: Rng>(
     alloc: Global,
     tree: &Value,
@@ -102,7 +102,7 @@ pub fn required_at<T: FromTreeAt, R: Rng>(
 }
 
 /// A row at a moment that may be absent or null.
-#[tactic(auto, using(sentry_words::proofs::RowLemmas::may_absent_at, sentry_words::proofs::RowLemmas::may_is_null_at, sentry_words::proofs::RowLemmas::may_shown_at, sentry_words::proofs::RowLemmas::may_fails_at))]
+#[tactic(auto, using(sentry_rows::proofs::RowLemmas::may_absent_at, sentry_rows::proofs::RowLemmas::may_is_null_at, sentry_rows::proofs::RowLemmas::may_shown_at, sentry_rows::proofs::RowLemmas::may_fails_at))]
 pub fn optional_at<T: FromTreeAt, R: Rng>(
     alloc: Global,
     tree: &Value,
@@ -120,7 +120,7 @@ pub fn optional_at<T: FromTreeAt, R: Rng>(
 }
 
 /// A row at a moment with a default, which stands where nothing is given.
-#[tactic(auto, using(sentry_words::proofs::RowLemmas::default_absent_at, sentry_words::proofs::RowLemmas::default_read_at))]
+#[tactic(auto, using(sentry_rows::proofs::RowLemmas::default_absent_at, sentry_rows::proofs::RowLemmas::default_read_at))]
 pub fn or_at<T: FromTreeAt, R: Rng>(
     alloc: Global,
     tree: &Value,
@@ -169,7 +169,7 @@ pub fn map_at<T: FromTreeAt, R: Rng>(
 /// The list that a tree shows at a moment as a bare array, or as an object's array at the key `values`.
 ///
 /// Fails with `Misfit` where the tree shows none, and with `Memory` where memory is refused.
-#[tactic(auto, using(sentry_words::proofs::ValuesShown::bare_read_at, sentry_words::proofs::ValuesShown::no_values_at))]
+#[tactic(auto, using(sentry_rows::proofs::ValuesShown::bare_read_at, sentry_rows::proofs::ValuesShown::no_values_at))]
 pub fn read_values_at<T: FromTreeAt, R: Rng>(
     alloc: Global,
     tree: &Value,
@@ -191,7 +191,7 @@ pub fn read_values_at<T: FromTreeAt, R: Rng>(
 /// The value that a line shows at the moment `now`; absent ids are drawn from `ids`.
 ///
 /// Fails with `Misfit` where the line shows none, and with `Memory` where memory is refused.
-#[tactic(auto, using(sentry_words::proofs::Texts::no_text_at, sentry_words::proofs::Texts::text_read_at))]
+#[tactic(auto, using(sentry_rows::proofs::Texts::no_text_at, sentry_rows::proofs::Texts::text_read_at))]
 pub fn read_line_at<T: FromTreeAt, R: Rng>(
     alloc: Global,
     line: &[u8],

@@ -1,19 +1,22 @@
 -- UUIDs as texts read back.
-use Rattle.std.proofs.Common.{◌≡◌, ◌==◌, ◌&&◌, ◌+◌, ◌*◌, ◌<◌, ◌≤◌, ℕ, List, length, Bool, true, false, if◌then◌else◌, get_or, slice_index, take, drop, eqb-true, Option, Some, None, option_map, inl, refl, sym, ap, ◌∙◌, subst, arith, IsUtf8}
+use Rattle.std.proofs.Common.{◌≡◌, ◌==◌, ◌&&◌, ◌+◌, ◌*◌, ◌<◌, ℕ, List, length, Bool, true, false, if◌then◌else◌, get_or, slice_index, take, drop, eqb-true, Option, Some, None, option_map, inl, refl, sym, ap, subst, arith, IsUtf8}
 use Rattle.std.specs.Prelude.{All}
 use Rattle.std.specs.List.{list_all}
 use Rattle.std.proofs.lemmas.Bool.{and_parts}
 use Rattle.std.proofs.lemmas.Bool.Decides.{nat_tests}
 use Rattle.std.proofs.lemmas.List.Sums.{AllPass-from_list_all}
+use Rattle.std.specs.Str.{IsAscii}
 use Rattle.std.proofs.lemmas.Str.{IsUtf8-from_ascii}
-use Rattle.uuid.specs.Text.{lower, by_index, hyphenated_text, is_hex_digit, value_of, byte_of_digits, parsed, parsed_simple, parsed_hyphenated, parsed_braced, parsed_urn, digits_of, has_hyphens, has_urn_prefix, open_brace, close_brace}
-use Rattle.uuid.proofs.TextLemmas.{by_index_length, by_index_at, hyphenated_ascii}
-use Rattle.uuid.proofs.RoundTrips.{parses_hyphenated}
+use Rattle.uuid.specs.Text.{lower, by_index, is_hex_digit, value_of, byte_of_digits, parsed, parsed_simple, parsed_hyphenated, parsed_braced, parsed_urn, digits_of, has_hyphens, has_urn_prefix, open_brace, close_brace}
+use Rattle.uuid.proofs.TextLemmas.{by_index_length, by_index_at, simple_ascii, hyphenated_ascii}
+use Rattle.uuid.proofs.RoundTrips.{parses_simple, parses_hyphenated}
 use Rattle.sentry_tables.specs.Cell.{Cell, octets}
 use Rattle.sentry_tables.specs.Basic.{word_scalar}
-use Rattle.sentry_tables.specs.Lawful.{ScalarLaws}
-use Rattle.sentry_tables.proofs.Basic.{WordLaws, word_laws}
-use Rattle.sentry_words.specs.Ids.{IsUuid, uuid_of, hyphenated}
+use Rattle.sentry_tables.specs.Lawful.{ScalarLaws, RefusesNull}
+use Rattle.sentry_tables.specs.Laws.{ReadsBack}
+use Rattle.sentry_tables.proofs.Basic.{WordLaws, word_laws, word_refuses_null}
+use Rattle.sentry_tables.proofs.Laws.{has_laws}
+use Rattle.sentry_words.specs.Ids.{IsUuid, uuid_of, hyphenated, simple, hyphenated_kind, simple_kind}
 
 -- ---- what a text is read as has sixteen bytes
 
@@ -77,7 +80,7 @@ gives_bytes s =
     (gives_if (length s == 38) (parsed_braced s) _ (gives_braced s)
     (gives_if (length s == 45) (parsed_urn s) None (gives_urn s) gives_none)))
 
--- ---- the laws
+-- ---- the laws of a written form
 
 -- what is stored is the bytes of an id
 of_bytes : (P : Cell → Type 0) → ((b : List ℕ) → Bytes b → P (octets b)) → (c : Cell) → IsUuid c → P c
@@ -89,16 +92,57 @@ read_as : (P : Cell → Type 0) → (o : Option (List ℕ)) (c : Cell) → ((b :
 read_as P None c f e = absurd (cc)
 read_as P (Some b) c f e = subst P (same_cell (octets b) c e) (f b refl)
 
-back : (b : List ℕ) → Bytes b → uuid_of (hyphenated (octets b)) ≡ Some (octets b)
-back b h = ap (option_map octets) (sym (parses_hyphenated lower b (inl refl) h.0 h.1))
+-- A form whose texts parse to their bytes, and are ASCII.
+pub record IsForm (to_text : Cell → List ℕ) : Type 0 where
+  pub parses : (b : List ℕ) → Bytes b → Some b ≡ parsed (to_text (octets b))
+  pub ascii : (b : List ℕ) → IsAscii (to_text (octets b))
 
-id_laws : WordLaws uuid_of hyphenated IsUuid
-id_laws = record {
-  reads = of_bytes (λ c. (x : Cell) × (uuid_of (hyphenated c) ≡ Some x)) (λ b h. (octets b, back b h));
-  stored = λ s c utf8 e. read_as IsUuid (parsed s) c (gives_bytes s) e;
-  stable = λ s c e. read_as (λ x. uuid_of (hyphenated x) ≡ Some x) (parsed s) c (λ b h. back b (gives_bytes s b h)) e;
-  utf8 = of_bytes (λ c. IsUtf8 (hyphenated c)) (λ b h. IsUtf8-from_ascii (hyphenated_text lower b) (hyphenated_ascii lower b (inl refl)));
-}
+module _ (to_text : Cell → List ℕ) (form : IsForm to_text) where
+  back : (b : List ℕ) → Bytes b → uuid_of (to_text (octets b)) ≡ Some (octets b)
+  back b h = ap (option_map octets) (sym (form.parses b h))
+
+  pub uuid_back : (c : Cell) → IsUuid c → uuid_of (to_text c) ≡ Some c
+  uuid_back c p = of_bytes (λ c. uuid_of (to_text c) ≡ Some c) back c p
+
+  id_laws : WordLaws uuid_of to_text IsUuid
+  id_laws = record {
+    reads = λ c p. (c, uuid_back c p);
+    stored = λ s c utf8 e. read_as IsUuid (parsed s) c (gives_bytes s) e;
+    stable = λ s c e. read_as (λ x. uuid_of (to_text x) ≡ Some x) (parsed s) c (λ b h. back b (gives_bytes s b h)) e;
+    utf8 = of_bytes (λ c. IsUtf8 (to_text c)) (λ b h. IsUtf8-from_ascii (to_text (octets b)) (form.ascii b));
+  }
+
+  form_laws : ScalarLaws (word_scalar uuid_of to_text IsUuid)
+  form_laws = word_laws uuid_of to_text IsUuid id_laws
+
+-- ---- with hyphens, and without
+
+hyphenated_form : IsForm hyphenated
+hyphenated_form = record { parses = λ b h. parses_hyphenated lower b (inl refl) h.0 h.1; ascii = λ b. hyphenated_ascii lower b (inl refl) }
+
+simple_form : IsForm simple
+simple_form = record { parses = λ b h. parses_simple lower b (inl refl) h.0 h.1; ascii = λ b. simple_ascii lower b (inl refl) }
 
 pub hyphenated_laws : ScalarLaws (word_scalar uuid_of hyphenated IsUuid)
-hyphenated_laws = word_laws uuid_of hyphenated IsUuid id_laws
+hyphenated_laws = form_laws hyphenated hyphenated_form
+
+pub simple_laws : ScalarLaws (word_scalar uuid_of simple IsUuid)
+simple_laws = form_laws simple simple_form
+
+pub hyphenated_refuses_null : RefusesNull hyphenated_kind
+hyphenated_refuses_null = word_refuses_null uuid_of hyphenated IsUuid
+
+pub simple_refuses_null : RefusesNull simple_kind
+simple_refuses_null = word_refuses_null uuid_of simple IsUuid
+
+pub hyphenated_back : (id : Cell) → IsUuid id → uuid_of (hyphenated id) ≡ Some id
+hyphenated_back = uuid_back hyphenated hyphenated_form
+
+pub simple_back : (id : Cell) → IsUuid id → uuid_of (simple id) ≡ Some id
+simple_back = uuid_back simple simple_form
+
+pub hyphenated_reads_back : ReadsBack hyphenated_kind
+hyphenated_reads_back = (has_laws hyphenated_kind hyphenated_laws).back
+
+pub simple_reads_back : ReadsBack simple_kind
+simple_reads_back = (has_laws simple_kind simple_laws).back

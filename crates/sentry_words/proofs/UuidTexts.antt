@@ -5,7 +5,7 @@ use Rattle.serde_json.specs.Find.{as_str}
 use Rattle.uuid.specs.Text.{parsed}
 use Rattle.sentry_tables.specs.Cell.{Cell, octets}
 use Rattle.sentry_words.specs.Ids.{uuid_of, uuid_kind}
-use Rattle.sentry_words.specs.Reading.{Shown, Refused}
+use Rattle.sentry_rows.specs.Reading.{Shown, Refused}
 
 nothing : (o : Option Cell) (c : Cell) → o ≡ None → o ≡ Some c → ⊥
 nothing o c e f = cc

@@ -5,8 +5,8 @@ use Rattle.json.specs.Written.{Written, Writes}
 use Rattle.uuid.specs.Text.{lower, simple_text, hyphenated_text}
 use Rattle.sentry_tables.specs.Cell.{octets}
 use Rattle.sentry_words.specs.Ids.{hyphenated_kind, simple_kind}
-use Rattle.sentry_words.specs.Written.{written, WritesTree}
-use Rattle.sentry_words.proofs.Tokens.{string_wrote}
+use Rattle.sentry_rows.specs.Written.{written, WritesTree}
+use Rattle.sentry_rows.proofs.Tokens.{string_wrote}
 
 pub hyphenated_wrote : {E : Type 0} (s id : List ℕ) (r : Result (Unit {0}) E) (old new : Written) → s ≡ hyphenated_text lower id → Writes r old new (Token.string s)
     → OnOk r (WritesTree (written hyphenated_kind (octets id)) old new)

@@ -6,14 +6,11 @@ ghost use Rattle.uuid.specs.Parts.{v4_of_fill};
 ghost use Rattle.serde_json.specs.View.{view};
 ghost use Rattle.sentry_tables.specs.Cell.{Cell, octets};
 ghost use Rattle.sentry_words.specs.Ids.{uuid_kind, hyphenated_kind, simple_kind, IsRandomUuid};
-ghost use Rattle.sentry_words.specs.Reading.{Reads};
+ghost use Rattle.sentry_rows.specs.Reading.{Reads};
 
-use crate::codec::Codec;
-use crate::draw::Drawn;
-use crate::error::TreeError;
-use crate::read::ReadCodec;
 use json::Writer;
 use rand_core::Rng;
+use sentry_rows::{Codec, Drawn, ReadCodec, TreeError};
 use serde_json::Value;
 use std::alloc::{AllocError, Global};
 use uuid::Uuid;
@@ -33,7 +30,7 @@ impl Codec<Uuid> for Hyphenated {
 
     ghost cell_of = { octets };
 
-    #[tactic(auto, unfolding(crate::specs::Written::written))]
+    #[tactic(auto, unfolding(sentry_rows::specs::Written::written))]
     fn to_tree(value: &Uuid, alloc: Global) -> Result<Value, AllocError> {
         let mut buffer = [0; 36];
         Value::try_from_str(alloc, value.hyphenated().encode_lower(&mut buffer))
@@ -60,7 +57,7 @@ impl Codec<Uuid> for Simple {
 
     ghost cell_of = { octets };
 
-    #[tactic(auto, unfolding(crate::specs::Written::written))]
+    #[tactic(auto, unfolding(sentry_rows::specs::Written::written))]
     fn to_tree(value: &Uuid, alloc: Global) -> Result<Value, AllocError> {
         let mut buffer = [0; 32];
         Value::try_from_str(alloc, value.simple().encode_lower(&mut buffer))

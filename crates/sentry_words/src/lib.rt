@@ -1,44 +1,43 @@
-//! Words that the protocol's types share: rows of tables, read and written.
-//!
-//! A type of the protocol is read from a tree of JSON row by row, with the calls of [`rows`] and
-//! [`draw`]; [`read`] says what a row may hold, and [`codec`] names the forms of values whose Rust
-//! type does not fix one. [`line`] reads a value from a line of text. A type is written row by row
-//! to a [`sink`], which is a tree or a text.
+//! Words that the protocol's types share: ids, enumerations, units, severities.
 #![tactic(auto)]
 
-pub mod any;
-pub mod beside;
-pub mod codec;
-pub mod draw;
-pub mod error;
 pub mod ids;
-pub mod kept;
-pub mod leaves;
-pub mod line;
-pub mod lists;
-pub mod member;
-pub mod read;
-pub mod rows;
-pub mod sink;
-pub mod table;
-pub mod tagged;
-pub mod text;
-pub mod tree;
-pub mod values;
+pub mod indexed;
+pub mod laws;
+pub mod level;
+pub mod log_level;
+pub mod log_severity_number;
+pub mod metric_type;
+pub mod monitor_check_in_status;
+pub mod monitor_interval_unit;
+pub mod orientation;
+pub mod parse_word_error;
+pub mod sampled;
+pub mod session_status;
+pub mod span_status;
+pub mod unit;
 
-pub use codec::{Codec, Own};
-pub use draw::Drawn;
-pub use error::TreeError;
 pub use ids::{Hyphenated, Simple, random_uuid};
-pub use line::{read_line, read_tree, whole};
-pub use member::Member;
-pub use read::{FromTree, ReadCodec};
-pub use sink::Sink;
-pub use table::Table;
-pub use text::{text_of, write_text};
-pub use values::Values;
+pub use indexed::IndexedEnum;
+pub use level::{Level, ParseLevelError};
+pub use log_level::LogLevel;
+pub use log_severity_number::{LogSeverityNumber, SeverityOutOfRange};
+pub use metric_type::MetricType;
+pub use monitor_check_in_status::MonitorCheckInStatus;
+pub use monitor_interval_unit::MonitorIntervalUnit;
+pub use orientation::Orientation;
+pub use parse_word_error::ParseWordError;
+pub use sampled::Sampled;
+pub use sentry_rows::draw::{Drawn, or_drawn_as};
+pub use sentry_rows::{
+    Codec, FromTree, Member, Own, ReadCodec, Sink, Table, TreeError, Values, read_line, read_tree,
+    rows, tagged, whole,
+};
+pub use session_status::{ParseSessionStatusError, SessionStatus};
+pub use span_status::{ParseStatusError, SpanStatus};
+pub use unit::Unit;
 
 #[cfg(test)]
-mod read_tests;
+mod id_tests;
 #[cfg(test)]
-mod tests;
+mod word_tests;

@@ -1,7 +1,7 @@
 // Envelopes that are put together.
 use super::{HELLO, ID_LINE, read, written};
 use crate::{AddRefused, Envelope, EnvelopeHeaders};
-use sentry_items::{Attachment, EnvelopeItem, ReplayRecording};
+use sentry_items::{Attachment, EnvelopeItem, LossSource, ReplayRecording};
 use std::alloc::Global;
 use std::test::Fail;
 use uuid::Uuid;
@@ -70,5 +70,25 @@ fn raw(rt: HostRuntime) -> Result<(), Fail> {
     assert!(rt; !envelope.is_plain());
     assert!(rt; envelope == envelope.clone()?);
     assert_eq!(rt; envelope.into_items().count(), 0);
+    Ok(())
+}
+
+#[test]
+fn losses(rt: HostRuntime) -> Result<(), Fail> {
+    let alloc = rt.alloc();
+    let mut envelope = Envelope::from_item(alloc, hello(alloc)?)?;
+    envelope.add_item(EnvelopeItem::Raw)?;
+    envelope.add_item(EnvelopeItem::ReplayRecording(ReplayRecording::default_in(alloc)))?;
+    let mut losses = envelope.losses();
+    for (word, quantity) in [("attachment", 10), ("replay", 1)] {
+        let loss = losses.next().ok_or("no loss")?;
+        assert_eq!(rt; loss.category.as_str(), word);
+        assert_eq!(rt; loss.quantity, quantity);
+        assert!(rt; loss.reason.is_none());
+    }
+    assert!(rt; losses.next().is_none());
+    assert!(rt; Envelope::new(alloc).losses().next().is_none());
+    let raw = Envelope::from_bytes_raw(b"oh stahp!\0\x01\x02".to_vec(alloc)?)?;
+    assert!(rt; raw.losses().next().is_none());
     Ok(())
 }

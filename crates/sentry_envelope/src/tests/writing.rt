@@ -1,16 +1,27 @@
 // Writers that fail.
-use super::written;
+use super::{HELLO, ID_LINE, read, written};
 use crate::{CountedWriter, Envelope, EnvelopeWriteError};
+use std::alloc::Global;
 use std::io;
 use std::io::{ErrorKind, Write};
 use std::test::Fail;
 
-/// Takes some bytes, one at a time, and then fails.
+/// Takes some bytes, one at a time, and then fails: by an error, or by taking none.
 #[derive(Drop)]
 struct Full {
-    room: u8,
+    room: usize,
     by_error: bool,
     taken: Vec<u8>,
+}
+
+impl Full {
+    fn new(alloc: Global, room: usize, by_error: bool) -> Full {
+        Full {
+            room,
+            by_error,
+            taken: Vec::new(alloc),
+        }
+    }
 }
 
 impl Write for Full {
@@ -31,34 +42,59 @@ impl Write for Full {
     }
 }
 
+/// An envelope of the attachment of `helloworld`, and the text that is written for it.
+fn hello(alloc: Global) -> Result<(Envelope, String), Fail> {
+    let text = format!(in alloc; "{ID_LINE}{HELLO}")?;
+    let envelope = read(alloc, text.as_bytes())?;
+    Ok((envelope, text))
+}
+
 #[test]
 fn a_failed_write_ends_it(rt: HostRuntime) -> Result<(), Fail> {
     let alloc = rt.alloc();
-    let envelope = Envelope::new(alloc);
+    let (envelope, text) = hello(alloc)?;
+    let text = text.as_bytes();
     for by_error in [false, true] {
-        for room in 0..3u8 {
-            let mut out = CountedWriter::new(Full {
-                room,
-                by_error,
-                taken: Vec::new(alloc),
-            });
-            let outcome = envelope.write_counted(alloc, &mut out);
-            assert!(rt; matches!(outcome, Err(EnvelopeWriteError::Io)));
-            assert_eq!(rt; out.failures(), 1);
-            let mut inner = out.into_inner();
-            assert_eq!(rt; inner.taken.len(), usize::from(room));
-            let outcome = envelope.to_writer(alloc, &mut inner);
-            assert!(rt; matches!(outcome, Err(EnvelopeWriteError::Io)));
+        for room in 0..text.len() {
+            let mut out = Full::new(alloc, room, by_error);
+            let answer = envelope.to_writer(alloc, &mut out);
+            assert!(rt; matches!(answer, Err(EnvelopeWriteError::Io)));
+            assert_eq!(rt; out.taken.as_slice(), &text[..room]);
         }
     }
-    let mut out = CountedWriter::new(Full {
-        room: 3,
-        by_error: true,
-        taken: Vec::new(alloc),
-    });
-    envelope.write_counted(alloc, &mut out)?;
-    assert_eq!(rt; out.failures(), 0);
-    assert_eq!(rt; out.into_inner().taken.as_slice(), b"{}\n".as_slice());
-    assert_eq!(rt; written(alloc, &envelope)?.as_str(), "{}\n");
+    Ok(())
+}
+
+#[test]
+fn a_failed_write_is_counted(rt: HostRuntime) -> Result<(), Fail> {
+    let alloc = rt.alloc();
+    let (envelope, text) = hello(alloc)?;
+    let text = text.as_bytes();
+    for by_error in [false, true] {
+        for room in 0..text.len() {
+            let mut out = CountedWriter::new(Full::new(alloc, room, by_error));
+            let answer = envelope.write_counted(alloc, &mut out);
+            assert!(rt; matches!(answer, Err(EnvelopeWriteError::Io)));
+            assert_eq!(rt; out.failures(), 1);
+            assert_eq!(rt; out.into_inner().taken.as_slice(), &text[..room]);
+        }
+    }
+    Ok(())
+}
+
+#[test]
+fn a_byte_at_a_time(rt: HostRuntime) -> Result<(), Fail> {
+    let alloc = rt.alloc();
+    let (envelope, text) = hello(alloc)?;
+    assert_eq!(rt; written(alloc, &envelope)?.as_str(), text.as_str());
+    for room in [text.len(), usize::MAX] {
+        let mut out = Full::new(alloc, room, true);
+        envelope.to_writer(alloc, &mut out)?;
+        assert_eq!(rt; out.taken.as_slice(), text.as_bytes());
+        let mut out = CountedWriter::new(Full::new(alloc, room, true));
+        envelope.write_counted(alloc, &mut out)?;
+        assert_eq!(rt; out.failures(), 0);
+        assert_eq!(rt; out.into_inner().taken.as_slice(), text.as_bytes());
+    }
     Ok(())
 }

@@ -2,7 +2,7 @@ use Rattle.std.proofs.Common.{inr}
 use Rattle.std.proofs.lemmas.Result.{err_from_is_err_and}
 use Rattle.sentry_items.specs.Counted.{reader_inside, writer_inside, writer_failures}
 use Rattle.sentry_envelope.specs.EnvelopeView.{header_of}
-use Rattle.sentry_text.specs.Moments.{moment_cell}
+use Rattle.sentry_moments.specs.Moments.{moment_cell}
 use Rattle.sentry_env.specs.Run.{left_outcome, left_text, stream}
 use Rattle.sentry_env.proofs.RunLemmas.{left_unsent, read, refused}
 use Rattle.sentry_env.proofs.run.run.Goals as goal

@@ -1,7 +1,7 @@
 use Rattle.std.proofs.Common.{◌≢◌, [], true≢false, subst, sym, inl, inr}
 use Rattle.std.proofs.lemmas.Result.{err_from_is_err_and}
 use Rattle.sentry_envelope.specs.EnvelopeFault.{BodyIsAtFault}
-use Rattle.sentry_text.specs.Moments.{moment_cell}
+use Rattle.sentry_moments.specs.Moments.{moment_cell}
 use Rattle.sentry_envelope.specs.SentryProfile.{profile}
 use Rattle.sentry_envelope.specs.View.{frame_of}
 use Rattle.sentry_envelope.proofs.ItemReads.{framing_at_fault, payload_at_fault, one_more}

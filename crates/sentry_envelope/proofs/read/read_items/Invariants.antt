@@ -2,7 +2,7 @@ use Rattle.std.proofs.Common.{length}
 use Rattle.std.specs.Prelude.{map}
 use Rattle.sentry_envelope.specs.Envelope.{ItemsStand}
 use Rattle.sentry_envelope.specs.EnvelopeView.{item_view}
-use Rattle.sentry_text.specs.Moments.{moment_cell}
+use Rattle.sentry_moments.specs.Moments.{moment_cell}
 use Rattle.sentry_envelope.specs.SentryProfile.{profile}
 use Rattle.sentry_envelope.proofs.read.read_items.Given as goal
 

@@ -1,15 +1,14 @@
 use Rattle.std.specs.Prelude.{map}
-use Rattle.std.proofs.Common.{◌≡◌, ◌++◌, [], sym, ap, ◌∙◌}
 use Rattle.sentry_envelope.specs.EnvelopeView.{item_view}
 use Rattle.sentry_envelope.specs.HeaderFields.{headers_cell}
 use Rattle.sentry_envelope.proofs.Sent.{envelope_begun, item_written}
 use Rattle.sentry_envelope.proofs.write.write_envelope.Goals as goal
 
 pub loop-item-init : goal.loop-item-init
-loop-item-init c =
+loop-item-init c = λ ready.
     envelope_begun (headers_cell c.args.headers.now) (map item_view c.args.items.now) _ c.push.new.self.items
-    (rw c.new-out.ensures.items at c.in_ok-write_headers.ensures) c.in_ok-push.ensures.items
+    (rw c.new-out.ensures.items at c.in_ok-write_headers.ensures ready) c.in_ok-push.ensures.items
 
 pub loop-item-preserved : goal.loop-item-preserved
-loop-item-preserved c =
-    item_written c.args.items.now c.loop-item.item-index c.item-item.result c.loop-item.out.items c.write_item.new.out.items _ c.loop-item-test.true c.item-item.is c.in_ok-write_item.ensures c.loop-item.invariant
+loop-item-preserved c = λ ready.
+    item_written c.args.items.now c.loop-item.item-index c.item-item.result c.loop-item.out.items c.write_item.new.out.items _ c.loop-item-test.true c.item-item.is c.in_ok-write_item.ensures (c.loop-item.invariant ready)

@@ -1,7 +1,8 @@
-use Rattle.sentry_words.specs.Written.{written}
-use Rattle.sentry_envelope.proofs.HeaderValues.{header_whole, with_whole}
+use Rattle.sentry_rows.specs.Written.{written}
+use Rattle.sentry_envelope.specs.HeaderFields.{headers_cell}
+use Rattle.sentry_envelope.proofs.HeaderValues.{header_whole, with_ready}
 use Rattle.sentry_envelope.proofs.write.write_headers.Goals as goal
 
 pub returns : goal.returns
 unfolding written
-returns c = with_whole c.write_text.result _ _ (header_whole c.args.headers.now.event_id) c.write_text.ensures.ok
+returns c = with_ready c.write_text.result _ _ _ (header_whole (headers_cell c.args.headers.now)) c.write_text.ensures.ok

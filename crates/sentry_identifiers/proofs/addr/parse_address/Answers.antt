@@ -1,4 +1,4 @@
-use Rattle.std.proofs.Common.{◌≡◌, ℕ, List, ◌∷◌, refl, sym, ap, ◌∙◌, inl, inr}
+use Rattle.std.proofs.Common.{ℕ, List, ◌∷◌, refl, sym, ap, ◌∙◌, inl, inr}
 use Rattle.sentry_identifiers.proofs.Addresses.{hex_address, decimal_address}
 use Rattle.sentry_identifiers.proofs.addr.parse_address.Goals as goal
 

@@ -1,4 +1,4 @@
-use Rattle.std.proofs.Common.{◌≡◌, ◌∙◌, ap, ℕ, List, ◌++◌, rules, string_bytes, lit<}
+use Rattle.std.proofs.Common.{◌∙◌, ap, ℕ, List, ◌++◌, rules, string_bytes, lit<}
 use Rattle.std.proofs.lemmas.Str.Ascii.{encode_ascii}
 use Rattle.sentry_identifiers.proofs.CrontabParts.{starts_with}
 use Rattle.sentry_identifiers.proofs.CrontabWords.{nothing_joined, first_word, next_word, all_joined}

@@ -1,9 +1,7 @@
-use Rattle.std.proofs.Common.{◌≡◌, ◌≢◌, ℕ, List, ◌∷◌, get_or, sym, ap, ◌∙◌, arith, lit<, rules, Some}
-use Rattle.std.proofs.lemmas.Str.Parse.{without_leading_plus_none}
+use Rattle.std.proofs.Common.{ℕ, List, ◌∷◌, sym, ap, ◌∙◌, arith, lit<, rules}
 use Rattle.std.proofs.lemmas.Str.Pattern.{starts_char}
-use Rattle.std.specs.Str.Parse.{IsNumeral, digits_value}
 use Rattle.sentry_identifiers.proofs.NumberTexts.{no_plus}
-use Rattle.sentry_identifiers.proofs.DebugIds.{Fits, no_tail, no_hyphen, digits_read, digits_refused, number_read, number_refused}
+use Rattle.sentry_identifiers.proofs.DebugIds.{no_tail, no_hyphen, digits_refused, number_read, number_refused}
 use Rattle.std.proofs.lemmas.Bool.{true≢false}
 use Rattle.sentry_identifiers.proofs.debug_id.read_appendix.Goals as goal
 use Rattle.sentry_identifiers.proofs.debug_id.read_appendix.Goals.{then-digits-gt8-via-then-digits-gt8, then-digits-gt8-via-else-digits-gt8+then-starts_with}

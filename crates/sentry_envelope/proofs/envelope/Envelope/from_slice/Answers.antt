@@ -2,7 +2,7 @@ use Rattle.std.proofs.Common.{sym, subst, inl, inr}
 use Rattle.std.proofs.lemmas.Result.{err_from_is_err_and}
 use Rattle.sentry_envelope.specs.EnvelopeFault.{Fault}
 use Rattle.sentry_envelope.specs.HeaderFields.{headers_cell}
-use Rattle.sentry_text.specs.Moments.{moment_cell}
+use Rattle.sentry_moments.specs.Moments.{moment_cell}
 use Rattle.sentry_envelope.specs.SentryProfile.{profile}
 use Rattle.sentry_envelope.proofs.WholeReads.{line_at_fault, body_at_fault, whole_spelled, spelled_stored}
 use Rattle.sentry_envelope.proofs.envelope.Envelope.from_slice.Goals as goal

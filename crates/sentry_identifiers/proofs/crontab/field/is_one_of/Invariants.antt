@@ -1,4 +1,4 @@
-use Rattle.std.proofs.Common.{◌≡◌, ℕ, ◌↔◌, map, drop}
+use Rattle.std.proofs.Common.{◌↔◌, map, drop}
 use Rattle.sentry_identifiers.specs.Crontab.{IsOneOf}
 use Rattle.sentry_identifiers.proofs.crontab.field.is_one_of.Given as goal
 

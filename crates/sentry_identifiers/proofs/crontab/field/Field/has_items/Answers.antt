@@ -1,8 +1,8 @@
-use Rattle.std.proofs.Common.{◌≡◌, ℕ, List, ◌↔◌, IsTrue, rules, tests}
+use Rattle.std.proofs.Common.{rules, tests}
 use Rattle.std.proofs.Common.{lit<}
 use Rattle.std.proofs.lemmas.Iterator.{cases_from_all}
 use Rattle.std.proofs.lemmas.Iterator.Splits.{YieldsList-from_str_split}
-use Rattle.sentry_identifiers.specs.Crontab.{IsItem, AreItems}
+use Rattle.sentry_identifiers.specs.Crontab.{IsItem}
 use Rattle.sentry_identifiers.proofs.CrontabItems.{items_answer}
 use Rattle.sentry_identifiers.proofs.crontab.field.Field.has_items.Goals as goal
 

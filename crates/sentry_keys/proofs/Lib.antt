@@ -1,0 +1,11 @@
+pub mod DsnCuts
+pub mod DsnSplits
+pub mod DsnAnswers
+pub mod DsnHosts
+pub mod DsnTrees
+pub mod AuthItems
+pub mod AuthLaws
+pub mod AuthPairs
+pub mod AuthReadBack
+pub mod AuthTexts
+pub mod AuthTrees

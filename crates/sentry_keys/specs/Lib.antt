@@ -1,0 +1,11 @@
+pub mod DsnScheme
+pub mod DsnPath
+pub mod Dsn
+pub mod DsnApi
+pub mod DsnAuth
+pub mod DsnOrganization
+pub mod DsnTree
+pub mod Auth
+pub mod AuthClean
+pub mod AuthFields
+pub mod AuthText

@@ -1,0 +1,80 @@
+// An authentication as JSON. The moment that the client told never stands in it.
+
+ghost use Rattle.std.specs.Prelude.{◌≡◌, None, IfOk};
+ghost use Rattle.serde_json.specs.View.{view};
+ghost use Rattle.sentry_rows.specs.Reading.{Reads};
+ghost use Rattle.sentry_keys.specs.AuthFields.{auth_table, rows_cell};
+
+use crate::auth::Auth;
+use json::Writer;
+use sentry_rows::rows::{object, optional_or_null, required};
+use sentry_rows::table::{table_tree, write_table};
+use sentry_rows::{FromTree, Member, Sink, Table, TreeError};
+use serde_json::Value;
+use std::alloc::{AllocError, Global};
+
+impl Table for Auth {
+    ghost use Rattle.sentry_keys.specs.AuthFields.{auth_fields, auth_in_order};
+
+    ghost lines = { auth_fields };
+
+    fn rows<S: Sink>(&self, sink: &mut S) -> Result<(), AllocError> {
+        sink.optional_or_null("sentry_client", &self.client)?;
+        sink.required("sentry_key", &self.key)?;
+        sink.optional_or_null("sentry_secret", &self.secret)?;
+        sink.required("sentry_version", &self.version)?;
+        Ok(())
+    }
+
+    ghost ordered = { auth_in_order };
+}
+
+impl Member for Auth {
+    ghost use Rattle.sentry_keys.specs.AuthFields.{auth_kind, auth_cell};
+
+    ghost kind = { auth_kind };
+
+    ghost cell_of = { auth_cell };
+
+    #[tactic(auto, using(crate::proofs::AuthTrees::tree_is))]
+    fn to_tree(&self, alloc: Global) -> Result<Value, AllocError> {
+        table_tree(self, alloc)
+    }
+
+    #[tactic(auto, using(crate::proofs::AuthTrees::tree_wrote))]
+    fn write(&self, out: &mut Writer) -> Result<(), AllocError> {
+        write_table(self, out)
+    }
+
+    #[tactic(auto, using(crate::proofs::AuthTrees::same_cells))]
+    fn copy(&self) -> Result<Auth, AllocError> {
+        self.clone()
+    }
+
+    fn is_plain(&self) -> bool {
+        self.version.is_plain()
+    }
+}
+
+// What the rows of a tree show, without a moment.
+#[tactic(auto, using(sentry_rows::proofs::Answering::table_fails, sentry_rows::proofs::Answering::not_object), unfolding(crate::specs::AuthFields::auth_table))]
+fn read_rows(alloc: Global, tree: &Value) -> Result<Auth, TreeError>
+    ensures rows { Reads auth_table rows_cell (view tree.now) result }
+    ensures untimed { IfOk result (λ auth. auth.timestamp ≡ None) }
+{
+    object(tree)?;
+    Ok(Auth {
+        timestamp: None,
+        client: optional_or_null(alloc, tree, "sentry_client")?,
+        key: required(alloc, tree, "sentry_key")?,
+        secret: optional_or_null(alloc, tree, "sentry_secret")?,
+        version: required(alloc, tree, "sentry_version")?,
+    })
+}
+
+impl FromTree for Auth {
+    #[tactic(auto, using(crate::proofs::AuthTrees::auth_read))]
+    fn from_tree(alloc: Global, tree: &Value) -> Result<Auth, TreeError> {
+        read_rows(alloc, tree)
+    }
+}

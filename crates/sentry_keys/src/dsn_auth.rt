@@ -1,0 +1,34 @@
+//! What a client with a DSN authenticates itself with.
+
+ghost use Rattle.std.specs.Prelude.{◌≡◌, IfOk, option_copied};
+
+use crate::auth::{Auth, LATEST};
+use crate::dsn::{Dsn, copy_text};
+use sentry_moments::Moment;
+use std::alloc::{AllocError, Global};
+
+impl Dsn {
+    ghost use Rattle.sentry_keys.specs.Auth.{parts_of};
+    ghost use Rattle.sentry_keys.specs.Dsn.{dsn_parts};
+    ghost use Rattle.sentry_keys.specs.DsnAuth.{auth_of};
+
+    /// What a client authenticates itself with at the moment `now`: the DSN's keys, version
+    /// [`LATEST`], and the client's name, if one is given.
+    ///
+    /// # Errors
+    ///
+    /// `AllocError` where there is no memory for the texts.
+    pub fn to_auth(
+        &self,
+        alloc: Global,
+        now: Moment,
+        client_agent: Option<&str>,
+    ) -> Result<Auth, AllocError>
+        ensures { IfOk result (λ auth. parts_of auth ≡ auth_of (dsn_parts self.now) now (option_copied client_agent.entry)) }
+    {
+        let key = String::from_str(alloc, self.public_key())?;
+        let secret = copy_text(alloc, self.secret_key())?;
+        let client = copy_text(alloc, client_agent)?;
+        Ok(Auth::from_parts(Some(now), client, LATEST, key, secret))
+    }
+}

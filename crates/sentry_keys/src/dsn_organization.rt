@@ -1,0 +1,64 @@
+//! The organization that the host of a DSN names.
+
+ghost use Rattle.std.specs.Prelude.{◌≡◌, ◌↔◌, ◌∷◌, [], ℕ, List, IsTrue, MatchOption};
+ghost use Rattle.sentry_identifiers.specs.ProjectId.{organization_value};
+ghost use Rattle.sentry_keys.specs.DsnOrganization.{labels, sentry, IsSentry, IsIngestHost, IsDigits, NamesOrganization};
+
+use sentry_identifiers::OrganizationId;
+
+// The first label of a host, and the others.
+fn first_label(host: &str) -> Option<(&str, &str)>
+    ensures { MatchOption result (labels host.now ≡ host.now ∷ []) (λ x. labels host.now ≡ x.0.now ∷ labels x.1.now) }
+{
+    host.split_once('.')
+}
+
+fn is_sentry_io(host: &str) -> bool
+    ensures { IsTrue result ↔ (labels host.now ≡ sentry) }
+{
+    host == "sentry.io"
+}
+
+// Whether the host is `sentry.io`, with or without a label before it.
+fn is_sentry(host: &str) -> bool
+    ensures { IsTrue result ↔ IsSentry (labels host.now) }
+{
+    if is_sentry_io(host) {
+        return true;
+    }
+    match first_label(host) {
+        Some((_region, rest)) => is_sentry_io(rest),
+        None => false,
+    }
+}
+
+// The number in a host that takes events, without the `o` before it.
+fn ingest_number(host: &str) -> Option<&str>
+    ensures { MatchOption result ((n : List ℕ) → IsIngestHost (labels host.now) n → ⊥) (λ n. IsIngestHost (labels host.now) n.now) }
+{
+    let (first, rest) = first_label(host)?;
+    let number = first.strip_prefix('o')?;
+    let (second, rest) = first_label(rest)?;
+    if second == "ingest" && is_sentry(rest) {
+        Some(number)
+    } else {
+        None
+    }
+}
+
+// The organization of this number.
+fn numbered(text: &str) -> Option<OrganizationId>
+    ensures { MatchOption result ((n : ℕ) → IsDigits text.now n → ⊥) (λ id. IsDigits text.now (organization_value id)) }
+{
+    if text.starts_with('+') {
+        return None;
+    }
+    text.parse::<OrganizationId>().ok()
+}
+
+// The organization that the host names.
+pub(crate) fn organization_of(host: &str) -> Option<OrganizationId>
+    ensures { MatchOption result ((n : ℕ) → NamesOrganization host.now n → ⊥) (λ id. NamesOrganization host.now (organization_value id)) }
+{
+    numbered(ingest_number(host)?)
+}

@@ -1,0 +1,84 @@
+//! DSNs in trees of JSON, as their texts.
+
+ghost use Rattle.std.specs.Prelude.{◌≡◌, IsUtf8};
+ghost use Rattle.sentry_rows.specs.Spelling.{ReadsSpelling};
+ghost use Rattle.sentry_keys.specs.Dsn.{dsn_parts, dsn_text};
+ghost use Rattle.sentry_keys.specs.DsnTree as spec;
+ghost use Rattle.sentry_keys.specs.DsnTree.{dsn_cell, dsn_kind, dsn_spelling};
+
+use crate::dsn::Dsn;
+use crate::dsn_error::ParseDsnError;
+use json::Writer;
+use sentry_rows::{FromTree, Member, TreeError};
+use serde_json::Value;
+use std::alloc::{AllocError, Global};
+
+impl Dsn {
+    // Nothing; the parts of a DSN are texts.
+    fn hold(&self)
+        ensures { IsUtf8 (dsn_text (dsn_parts self.now)) }
+    {
+        let _port = self.port();
+    }
+}
+
+// The error of a tree with a text that was refused.
+fn tree_error(error: ParseDsnError) -> TreeError
+    ensures { result ≡ spec.tree_error error }
+{
+    match error {
+        ParseDsnError::Memory => TreeError::Memory,
+        ParseDsnError::InvalidUrl
+        | ParseDsnError::InvalidScheme
+        | ParseDsnError::NoUsername
+        | ParseDsnError::NoProjectId
+        | ParseDsnError::InvalidProjectId(_) => TreeError::Misfit,
+    }
+}
+
+// The DSN of a text in a tree.
+fn dsn_of_text(alloc: Global, text: &str) -> Result<Dsn, TreeError>
+    ensures { ReadsSpelling dsn_spelling dsn_cell text.now result }
+{
+    match Dsn::from_str(alloc, text) {
+        Ok(dsn) => {
+            dsn.hold();
+            Ok(dsn)
+        }
+        Err(error) => Err(tree_error(error)),
+    }
+}
+
+impl Member for Dsn {
+    ghost kind = { dsn_kind };
+
+    ghost cell_of = { dsn_cell };
+
+    fn to_tree(&self, alloc: Global) -> Result<Value, AllocError> {
+        Value::try_from_str(alloc, self.to_string(alloc)?.as_str())
+    }
+
+    fn write(&self, out: &mut Writer) -> Result<(), AllocError> {
+        let text = self.to_string(self.allocator())?;
+        out.string(text.as_str())
+    }
+
+    fn copy(&self) -> Result<Dsn, AllocError> {
+        self.clone()
+    }
+
+    fn is_plain(&self) -> bool {
+        self.hold();
+        true
+    }
+}
+
+impl FromTree for Dsn {
+    #[tactic(auto, using(sentry_rows::proofs::Spellings::text_read, sentry_rows::proofs::Spellings::not_text))]
+    fn from_tree(alloc: Global, tree: &Value) -> Result<Dsn, TreeError> {
+        match tree.as_str() {
+            Some(text) => dsn_of_text(alloc, text),
+            None => Err(TreeError::Misfit),
+        }
+    }
+}

@@ -1,0 +1,119 @@
+//! The forms of moments in trees.
+
+ghost use Rattle.std.specs.Prelude.{◌≡◌, IfOk};
+ghost use Rattle.sentry_moments.specs.Moments.{moment_cell};
+ghost use Rattle.sentry_moments.specs.MomentForms.{moment_text, rfc3339_kind, seconds_kind};
+
+use crate::moment::Moment;
+use json::Writer;
+use sentry_rows::spelled::{Room, printed};
+use sentry_rows::{Codec, ReadCodec, TreeError};
+use serde_json::Value;
+use std::alloc::{AllocError, Global};
+
+/// The form of a moment that is an RFC 3339 text.
+///
+/// It is read as [`Moment::from_rfc3339`] reads it, and is written as the moment is printed.
+///
+/// <https://www.rfc-editor.org/rfc/rfc3339>
+pub struct Rfc3339;
+
+/// The form of a moment that is the whole seconds since 1970-01-01T00:00:00Z, or an RFC 3339 text.
+///
+/// It is written as a number where it has no nanoseconds, and else as a text.
+///
+/// <https://develop.sentry.dev/sdk/data-model/event-payloads/#required-attributes>
+pub struct Seconds;
+
+// The RFC 3339 text of a moment.
+fn text<'a>(moment: &Moment, room: &'a mut Room) -> Result<&'a str, AllocError>
+    ensures { IfOk result (λ s. s.now ≡ moment_text (moment_cell moment.now)) }
+{
+    printed(moment, room)
+}
+
+impl Codec<Moment> for Rfc3339 {
+    ghost kind = { rfc3339_kind };
+
+    ghost cell_of = { moment_cell };
+
+    #[tactic(auto, using(sentry_rows::proofs::Spellings::text_tree))]
+    fn to_tree(value: &Moment, alloc: Global) -> Result<Value, AllocError> {
+        let mut room = Room::new();
+        Value::try_from_str(alloc, text(value, &mut room)?)
+    }
+
+    #[tactic(auto, using(sentry_rows::proofs::Spellings::spelling_wrote))]
+    fn write(value: &Moment, out: &mut Writer) -> Result<(), AllocError> {
+        let mut room = Room::new();
+        out.string(text(value, &mut room)?)
+    }
+
+    fn copy(value: &Moment) -> Result<Moment, AllocError> {
+        Ok(*value)
+    }
+
+    #[tactic(auto, using(crate::proofs::MomentRange::moment_in_range))]
+    fn is_plain(value: &Moment) -> bool {
+        let _moment = *value;
+        true
+    }
+}
+
+impl ReadCodec<Moment> for Rfc3339 {
+    #[tactic(auto, using(crate::proofs::MomentsShown::named_shown, crate::proofs::MomentsShown::not_named, sentry_rows::proofs::Spellings::not_text))]
+    fn from_tree(_alloc: Global, tree: &Value) -> Result<Moment, TreeError> {
+        match tree.as_str() {
+            Some(text) => match Moment::from_rfc3339(text) {
+                Some(moment) => Ok(moment),
+                None => Err(TreeError::Misfit),
+            },
+            None => Err(TreeError::Misfit),
+        }
+    }
+}
+
+impl Codec<Moment> for Seconds {
+    ghost kind = { seconds_kind };
+
+    ghost cell_of = { moment_cell };
+
+    #[tactic(auto, using(crate::proofs::MomentsWritten::whole_tree))]
+    fn to_tree(value: &Moment, alloc: Global) -> Result<Value, AllocError> {
+        if value.nanos() == 0 {
+            Ok(Value::from(value.secs()))
+        } else {
+            Rfc3339::to_tree(value, alloc)
+        }
+    }
+
+    #[tactic(auto, using(crate::proofs::MomentsWritten::whole_wrote, crate::proofs::MomentsWritten::part_wrote))]
+    fn write(value: &Moment, out: &mut Writer) -> Result<(), AllocError> {
+        if value.nanos() == 0 {
+            out.u64(value.secs())
+        } else {
+            Rfc3339::write(value, out)
+        }
+    }
+
+    fn copy(value: &Moment) -> Result<Moment, AllocError> {
+        Rfc3339::copy(value)
+    }
+
+    fn is_plain(value: &Moment) -> bool {
+        Rfc3339::is_plain(value)
+    }
+}
+
+impl ReadCodec<Moment> for Seconds {
+    #[tactic(auto, using(crate::proofs::MomentsShown::seconds_shown, crate::proofs::MomentsShown::past_the_range, crate::proofs::MomentsShown::without_number))]
+    fn from_tree(alloc: Global, tree: &Value) -> Result<Moment, TreeError> {
+        match tree.as_u64() {
+            Some(secs) => match Moment::new(secs, 0) {
+                Some(moment) => Ok(moment),
+                None => Err(TreeError::Misfit),
+            },
+            None => Rfc3339::from_tree(alloc, tree),
+        }
+    }
+}

@@ -1,0 +1,366 @@
+//! Where the members of one object go, key by key.
+
+ghost use Rattle.std.specs.Prelude.{◌≡◌, OnOk, IfOk};
+ghost use Rattle.serde_json.specs.Data.{Members, no_members, member, null, string, object};
+ghost use Rattle.serde_json.specs.View.{view, members_view};
+ghost use Rattle.sentry_tables.specs.Written.{put_all};
+ghost use Rattle.sentry_tables.specs.Cell.{Cell, text as text_of};
+ghost use Rattle.sentry_tables.specs.Kind.{must, may, may_null, may_strict, default, always, draw, at_once, list as list_kind, map as map_kind, values as values_kind};
+ghost use Rattle.sentry_rows.specs.Cells.{option_cell, list_cell, map_cell, empty_list, empty_map};
+ghost use Rattle.sentry_rows.specs.Kinds.{text_kind};
+ghost use Rattle.sentry_rows.specs.Given.{both, row_given};
+ghost use Rattle.sentry_rows.specs.Written.{written, WritesMembers};
+
+use crate::codec::{Codec, DefaultedCodec, Own};
+use crate::draw::Drawn;
+use crate::kept::copy_others;
+use crate::member::{Defaulted, Member, Usual};
+use crate::values::Values;
+use json::Writer;
+use serde_json::{Map, Value, put};
+use std::alloc::{AllocError, Global};
+use std::convert::AsStr;
+
+/// What takes the members of one object.
+pub trait Sink {
+    // from one state to a later one these members were taken
+    ghost Adds: { Self → Self → Members → Type 0 };
+
+    /// A member that holds a value. It fails where memory runs out.
+    fn member<F: Codec<T>, T>(&mut self, key: &str, value: &T) -> Result<(), AllocError>
+        ensures { OnOk result (Adds self.old self.new (member key.now (written F.kind (F.cell_of value.now)) no_members)) };
+
+    /// A member that is null. It fails where memory runs out.
+    fn null(&mut self, key: &str) -> Result<(), AllocError>
+        ensures { OnOk result (Adds self.old self.new (member key.now null no_members)) };
+
+    /// A member that is a text. It fails where memory runs out.
+    fn word(&mut self, key: &str, text: &str) -> Result<(), AllocError>
+        ensures { OnOk result (Adds self.old self.new (member key.now (string text.now) no_members)) };
+
+    /// A row that has to be there.
+    #[tactic(auto, unfolding(crate::specs::Given::row_given))]
+    final fn required_as<F: Codec<T>, T>(&mut self, key: &str, value: &T) -> Result<(), AllocError>
+        ensures { OnOk result (Adds self.old self.new (row_given key.now must F.kind (F.cell_of value.now))) }
+    {
+        self.member::<F, T>(key, value)
+    }
+
+    /// A row that has to be there.
+    final fn required<T: Member>(&mut self, key: &str, value: &T) -> Result<(), AllocError>
+        ensures { OnOk result (Adds self.old self.new (row_given key.now must T.kind (T.cell_of value.now))) }
+    {
+        self.required_as::<Own, T>(key, value)
+    }
+
+    /// A row that is left out where there is no value.
+    #[tactic(auto, unfolding(crate::specs::Given::row_given))]
+    final fn optional_as<F: Codec<T>, T>(
+        &mut self,
+        key: &str,
+        value: &Option<T>,
+    ) -> Result<(), AllocError>
+        ensures { OnOk result (Adds self.old self.new (row_given key.now may F.kind (option_cell F.cell_of value.now))) }
+    {
+        match value {
+            Some(value) => self.member::<F, T>(key, value),
+            None => Ok(()),
+        }
+    }
+
+    /// A row that is left out where there is no value.
+    final fn optional<T: Member>(&mut self, key: &str, value: &Option<T>) -> Result<(), AllocError>
+        ensures { OnOk result (Adds self.old self.new (row_given key.now may T.kind (option_cell T.cell_of value.now))) }
+    {
+        self.optional_as::<Own, T>(key, value)
+    }
+
+    /// A row that is null where there is no value.
+    #[tactic(auto, unfolding(crate::specs::Given::row_given))]
+    final fn optional_or_null_as<F: Codec<T>, T>(
+        &mut self,
+        key: &str,
+        value: &Option<T>,
+    ) -> Result<(), AllocError>
+        ensures { OnOk result (Adds self.old self.new (row_given key.now may_null F.kind (option_cell F.cell_of value.now))) }
+    {
+        match value {
+            Some(value) => self.member::<F, T>(key, value),
+            None => self.null(key),
+        }
+    }
+
+    /// A row that is null where there is no value.
+    final fn optional_or_null<T: Member>(
+        &mut self,
+        key: &str,
+        value: &Option<T>,
+    ) -> Result<(), AllocError>
+        ensures { OnOk result (Adds self.old self.new (row_given key.now may_null T.kind (option_cell T.cell_of value.now))) }
+    {
+        self.optional_or_null_as::<Own, T>(key, value)
+    }
+
+    /// A row that is left out where there is no value, and may not be null.
+    #[tactic(auto, unfolding(crate::specs::Given::row_given))]
+    final fn optional_strict_as<F: Codec<T>, T>(
+        &mut self,
+        key: &str,
+        value: &Option<T>,
+    ) -> Result<(), AllocError>
+        ensures { OnOk result (Adds self.old self.new (row_given key.now may_strict F.kind (option_cell F.cell_of value.now))) }
+    {
+        match value {
+            Some(value) => self.member::<F, T>(key, value),
+            None => Ok(()),
+        }
+    }
+
+    /// A row that is left out where there is no value, and may not be null.
+    final fn optional_strict<T: Member>(
+        &mut self,
+        key: &str,
+        value: &Option<T>,
+    ) -> Result<(), AllocError>
+        ensures { OnOk result (Adds self.old self.new (row_given key.now may_strict T.kind (option_cell T.cell_of value.now))) }
+    {
+        self.optional_strict_as::<Own, T>(key, value)
+    }
+
+    /// A row with a default that is written whatever it holds.
+    #[tactic(auto, unfolding(crate::specs::Given::row_given))]
+    final fn always_as<F: Codec<T>, T>(&mut self, key: &str, value: &T) -> Result<(), AllocError>
+        ensures { OnOk result ((e : Cell) → Adds self.old self.new (row_given key.now (always e) F.kind (F.cell_of value.now))) }
+    {
+        self.member::<F, T>(key, value)
+    }
+
+    /// A row with a default that is written whatever it holds.
+    final fn always<T: Member>(&mut self, key: &str, value: &T) -> Result<(), AllocError>
+        ensures { OnOk result ((e : Cell) → Adds self.old self.new (row_given key.now (always e) T.kind (T.cell_of value.now))) }
+    {
+        self.always_as::<Own, T>(key, value)
+    }
+
+    /// A row whose default is the moment of reading, written whatever it holds.
+    #[tactic(auto, unfolding(crate::specs::Given::row_given))]
+    final fn at_once_as<F: Codec<T>, T>(&mut self, key: &str, value: &T) -> Result<(), AllocError>
+        ensures { OnOk result (Adds self.old self.new (row_given key.now at_once F.kind (F.cell_of value.now))) }
+    {
+        self.member::<F, T>(key, value)
+    }
+
+    /// A row whose default is the moment of reading, written whatever it holds.
+    final fn at_once<T: Member>(&mut self, key: &str, value: &T) -> Result<(), AllocError>
+        ensures { OnOk result (Adds self.old self.new (row_given key.now at_once T.kind (T.cell_of value.now))) }
+    {
+        self.at_once_as::<Own, T>(key, value)
+    }
+
+    /// A row whose default is drawn, written whatever it holds.
+    #[tactic(auto, unfolding(crate::specs::Given::row_given))]
+    final fn drawn_as<F: Drawn<T>, T>(&mut self, key: &str, value: &T) -> Result<(), AllocError>
+        ensures { OnOk result (Adds self.old self.new (row_given key.now (draw F.IsDrawn) F.kind (F.cell_of value.now))) }
+    {
+        self.member::<F, T>(key, value)
+    }
+
+    /// A list that is left out where it is empty.
+    #[tactic(auto, unfolding(crate::specs::Given::row_given))]
+    final fn list<T: Member>(&mut self, key: &str, list: &Vec<T>) -> Result<(), AllocError>
+        ensures { OnOk result (Adds self.old self.new
+            (row_given key.now (default empty_list) (list_kind T.kind) (list_cell T.cell_of list.now.items))) }
+    {
+        if list.is_empty() {
+            Ok(())
+        } else {
+            self.member::<Own, Vec<T>>(key, list)
+        }
+    }
+
+    /// A list with an empty default that is written whatever it holds.
+    #[tactic(auto, unfolding(crate::specs::Given::row_given))]
+    final fn written_list<T: Member>(&mut self, key: &str, list: &Vec<T>) -> Result<(), AllocError>
+        ensures { OnOk result (Adds self.old self.new
+            (row_given key.now (always empty_list) (list_kind T.kind) (list_cell T.cell_of list.now.items))) }
+    {
+        self.member::<Own, Vec<T>>(key, list)
+    }
+
+    /// A map that is left out where it is empty.
+    #[tactic(auto, unfolding(crate::specs::Given::row_given))]
+    final fn map<T: Member>(&mut self, key: &str, map: &Map<String, T>) -> Result<(), AllocError>
+        ensures { OnOk result (Adds self.old self.new
+            (row_given key.now (default empty_map) (map_kind T.kind) (map_cell T.cell_of map.now.entries))) }
+    {
+        if map.is_empty() {
+            Ok(())
+        } else {
+            self.member::<Own, Map<String, T>>(key, map)
+        }
+    }
+
+    /// A list under the key `values` that is left out where it is empty.
+    #[tactic(auto, unfolding(crate::specs::Given::row_given))]
+    final fn values<T: Member>(&mut self, key: &str, list: &Values<T>) -> Result<(), AllocError>
+        ensures { OnOk result (Adds self.old self.new
+            (row_given key.now (default empty_list) (values_kind T.kind) (list_cell T.cell_of list.now.values.items))) }
+    {
+        if list.values.is_empty() {
+            Ok(())
+        } else {
+            self.member::<Own, Values<T>>(key, list)
+        }
+    }
+
+    /// A text that is left out where it is the usual one.
+    #[tactic(auto, unfolding(crate::specs::Given::row_given, crate::specs::Written::written))]
+    final fn text_unless<T: AsStr>(
+        &mut self,
+        key: &str,
+        value: &T,
+        usual: &str,
+    ) -> Result<(), AllocError>
+        ensures { OnOk result (Adds self.old self.new
+            (row_given key.now (default (text_of usual.now)) text_kind (text_of (T.text value.now)))) }
+    {
+        let text = value.as_str();
+        if text == usual {
+            Ok(())
+        } else {
+            self.word(key, text)
+        }
+    }
+
+    /// A value that is left out where it is the usual one.
+    #[tactic(auto, unfolding(crate::specs::Given::row_given))]
+    final fn unless<T: Usual>(&mut self, key: &str, value: &T, usual: &T) -> Result<(), AllocError>
+        ensures { OnOk result (Adds self.old self.new
+            (row_given key.now (default (T.cell_of usual.now)) T.kind (T.cell_of value.now))) }
+    {
+        if value.is(usual) {
+            Ok(())
+        } else {
+            self.member::<Own, T>(key, value)
+        }
+    }
+
+    /// A value that is left out where it is the usual one of its form.
+    #[tactic(auto, unfolding(crate::specs::Given::row_given))]
+    final fn unless_usual_as<F: DefaultedCodec<T>, T>(
+        &mut self,
+        key: &str,
+        value: &T,
+    ) -> Result<(), AllocError>
+        ensures { OnOk result (Adds self.old self.new
+            (row_given key.now (default F.usual) F.kind (F.cell_of value.now))) }
+    {
+        if F::is_usual(value) {
+            Ok(())
+        } else {
+            self.member::<F, T>(key, value)
+        }
+    }
+
+    /// A value that is left out where it is the usual one of its type.
+    final fn unless_usual<T: Defaulted>(&mut self, key: &str, value: &T) -> Result<(), AllocError>
+        ensures { OnOk result (Adds self.old self.new
+            (row_given key.now (default T.usual) T.kind (T.cell_of value.now))) }
+    {
+        self.unless_usual_as::<Own, T>(key, value)
+    }
+
+    ghost nothing: { (s : Self) → Adds s s no_members };
+
+    ghost joined: { (a b c : Self) (ms ns : Members) → Adds a b ms → Adds b c ns → Adds a c (both ms ns) };
+}
+
+impl Sink for Writer {
+    ghost use Rattle.sentry_rows.specs.Joined.{no_members_wrote, members_join};
+
+    ghost Adds = { λ a b ms. WritesMembers ms a b };
+
+    fn member<F: Codec<T>, T>(&mut self, key: &str, value: &T) -> Result<(), AllocError> {
+        self.key(key)?;
+        F::write(value, self)
+    }
+
+    fn null(&mut self, key: &str) -> Result<(), AllocError> {
+        self.key(key)?;
+        Writer::null(self)
+    }
+
+    fn word(&mut self, key: &str, text: &str) -> Result<(), AllocError> {
+        self.key(key)?;
+        self.string(text)
+    }
+
+    ghost nothing = { λ s. no_members_wrote s };
+
+    ghost joined = { λ a b c ms ns x y. members_join ms ns a b c x y };
+}
+
+/// The members of a tree.
+#[derive(Drop)]
+pub struct TreeRows {
+    alloc: Global,
+    members: Map<String, Value>,
+}
+
+impl TreeRows {
+    ghost use Rattle.sentry_rows.specs.Sinks.{members_so_far};
+
+    /// No members yet.
+    pub fn new(alloc: Global) -> TreeRows
+        ensures { members_so_far result ≡ no_members }
+    {
+        TreeRows {
+            alloc,
+            members: Map::new(alloc),
+        }
+    }
+
+    /// The members of a map. It fails where memory runs out.
+    pub fn with_others(alloc: Global, others: &Map<String, Value>) -> Result<TreeRows, AllocError>
+        ensures { IfOk result (λ r. members_so_far r ≡ members_view others.now.entries) }
+    {
+        Ok(TreeRows {
+            alloc,
+            members: copy_others(others)?,
+        })
+    }
+
+    /// The object of the members.
+    pub fn into_tree(self) -> Value
+        ensures { view result ≡ object (members_so_far self) }
+    {
+        let TreeRows { alloc: _, members } = self;
+        Value::from(members)
+    }
+}
+
+impl Sink for TreeRows {
+    ghost use Rattle.std.specs.Prelude.{refl};
+    ghost use Rattle.sentry_rows.specs.Joined.{put_both};
+    ghost use Rattle.sentry_rows.specs.Sinks.{members_so_far};
+
+    ghost Adds = { λ a b ms. members_so_far b ≡ put_all ms (members_so_far a) };
+
+    fn member<F: Codec<T>, T>(&mut self, key: &str, value: &T) -> Result<(), AllocError> {
+        let tree = F::to_tree(value, self.alloc)?;
+        put(&mut self.members, self.alloc, key, tree)
+    }
+
+    fn null(&mut self, key: &str) -> Result<(), AllocError> {
+        put(&mut self.members, self.alloc, key, Value::Null)
+    }
+
+    fn word(&mut self, key: &str, text: &str) -> Result<(), AllocError> {
+        let tree = Value::try_from_str(self.alloc, text)?;
+        put(&mut self.members, self.alloc, key, tree)
+    }
+
+    ghost nothing = { λ s. refl };
+
+    ghost joined = { λ a b c ms ns x y. put_both ms ns _ _ _ x y };
+}

@@ -1,0 +1,224 @@
+ghost use Rattle.std.specs.Prelude.{◌≡◌, [], ◌∷◌, codes, refl};
+ghost use Rattle.sentry_tables.specs.Fields.{field};
+ghost use Rattle.sentry_tables.specs.Kind.{may};
+ghost use Rattle.sentry_rows.specs.Cells.{text_cell, option_cell};
+ghost use Rattle.sentry_rows.specs.Kinds.{text_kind};
+
+use crate::kept::others_are_plain;
+use crate::member::Member;
+use crate::sink::{Sink, TreeRows};
+use crate::table::{
+    Table, case_tree, kept_case_tree, kept_tree, table_tree, write_case, write_kept,
+    write_kept_case, write_table,
+};
+use crate::text::{text_of, write_text};
+use crate::values::Values;
+use json::Writer;
+use serde_json::{Map, Value};
+use std::alloc::{AllocError, Global};
+use std::borrow::CowStr;
+use std::test::Fail;
+
+#[derive(Drop)]
+struct System {
+    name: Option<String>,
+}
+
+impl Table for System {
+    ghost lines = { field (codes "name") may text_kind (λ v. option_cell text_cell v.name) ∷ [] };
+
+    fn rows<S: Sink>(&self, sink: &mut S) -> Result<(), AllocError> {
+        sink.optional("name", &self.name)?;
+        Ok(())
+    }
+
+    ghost ordered = { refl };
+}
+
+#[derive(Drop)]
+struct Unknown;
+
+impl Table for Unknown {
+    ghost lines = { [] };
+
+    fn rows<S: Sink>(&self, _sink: &mut S) -> Result<(), AllocError> {
+        Ok(())
+    }
+
+    ghost ordered = { refl };
+}
+
+fn written<T: Member>(alloc: Global, value: &T) -> Result<String, Fail> {
+    let text = String::from_utf8(text_of(alloc, value)?)?;
+    let tree = value.copy()?.to_tree(alloc)?.to_string(alloc)?;
+    if text.as_str() == tree.as_str() {
+        Ok(text)
+    } else {
+        Err("two texts")?
+    }
+}
+
+#[test]
+fn leaves_are_written(rt: HostRuntime) -> Result<(), Fail> {
+    let alloc = rt.alloc();
+    assert_eq!(rt;
+        written(alloc, &String::from_str(alloc, "a\"\n\u{1}é")?)?.as_str(),
+        "\"a\\\"\\n\\u0001é\""
+    );
+    assert_eq!(rt;
+        written(alloc, &CowStr::Borrowed("other"))?.as_str(),
+        "\"other\""
+    );
+    assert_eq!(rt; written(alloc, &true)?.as_str(), "true");
+    assert_eq!(rt; written(alloc, &u8::MAX)?.as_str(), "255");
+    assert_eq!(rt; written(alloc, &u16::MAX)?.as_str(), "65535");
+    assert_eq!(rt; written(alloc, &u32::MAX)?.as_str(), "4294967295");
+    assert_eq!(rt; written(alloc, &u64::MAX)?.as_str(), "18446744073709551615");
+    assert_eq!(rt; written(alloc, &i32::MIN)?.as_str(), "-2147483648");
+    assert_eq!(rt; written(alloc, &i64::MIN)?.as_str(), "-9223372036854775808");
+    assert_eq!(rt; written(alloc, &(1u64, 2u64))?.as_str(), "[1,2]");
+    Ok(())
+}
+
+fn tree(alloc: Global, text: &str) -> Result<Value, Fail> {
+    Ok(Value::from_str(alloc, text)?)
+}
+
+fn members(alloc: Global, text: &str) -> Result<Map<String, Value>, Fail> {
+    match Value::from_str(alloc, text)? {
+        Value::Object(members) => Ok(members),
+        _ => Err("no object")?,
+    }
+}
+
+#[test]
+fn lists_and_trees_are_written(rt: HostRuntime) -> Result<(), Fail> {
+    let alloc = rt.alloc();
+    let text = "{\"a\":[null,true,-1,{}],\"b\":{\"c\":18446744073709551615,\"d\":\"\"}}";
+    assert_eq!(rt; written(alloc, &tree(alloc, text)?)?.as_str(), text);
+    let members = members(alloc, text)?;
+    assert_eq!(rt; written(alloc, &members)?.as_str(), text);
+    let list = Values {
+        values: Vec::from_array(alloc, [members, Map::new(alloc)])?,
+    };
+    assert_eq!(rt; written(alloc, &list)?.len(), text.len() + 16);
+    assert!(rt; list.is_plain());
+    assert!(rt; !tree(alloc, "[0.5]")?.is_plain());
+    Ok(())
+}
+
+#[test]
+fn text_is_written_after_what_stands_there(rt: HostRuntime) -> Result<(), Fail> {
+    let mut out = Vec::from_array(rt.alloc(), [b'1', b'\n'])?;
+    write_text(&tree(rt.alloc(), "{\"a\":[]}")?, &mut out)?;
+    assert_eq!(rt; String::from_utf8(out)?.as_str(), "1\n{\"a\":[]}");
+    Ok(())
+}
+
+// A system's context, and one of no known type: its tag is written, and goes among other members.
+#[test]
+fn cases_are_written(rt: HostRuntime) -> Result<(), Fail> {
+    let alloc = rt.alloc();
+    let system = System {
+        name: Some(String::from_str(alloc, "L")?),
+    };
+    let others = members(alloc, "{\"a\":1}")?;
+    let mut out: Writer = Writer::new(Vec::new(alloc));
+    out.begin_array()?;
+    write_table(&system, &mut out)?;
+    write_case(&system, "os", &mut out)?;
+    write_kept(&system, &others, &mut out)?;
+    write_kept_case(&Unknown, "unknown", &others, &mut out)?;
+    out.end_array()?;
+    let wanted =
+        "[{\"name\":\"L\"},{\"name\":\"L\",\"type\":\"os\"},{\"a\":1,\"name\":\"L\"},{\"a\":1,\"type\":\"unknown\"}]";
+    assert_eq!(rt; String::from_utf8(out.into_inner())?.as_str(), wanted);
+    let trees = Vec::from_array(
+        alloc,
+        [
+            table_tree(&system, alloc)?,
+            case_tree(&system, "os", alloc)?,
+            kept_tree(&system, &others, alloc)?,
+            kept_case_tree(&Unknown, "unknown", &others, alloc)?,
+        ],
+    )?;
+    assert_eq!(rt; Value::Array(trees).to_string(alloc)?.as_str(), wanted);
+    Ok(())
+}
+
+fn each_rule<S: Sink>(alloc: Global, sink: &mut S) -> Result<(), AllocError> {
+    let none: Option<u64> = None;
+    let other: CowStr<'_> = CowStr::Borrowed("other");
+    let native: CowStr<'_> = CowStr::Borrowed("native");
+    sink.required("a", &1u64)?;
+    sink.optional("b", &none)?;
+    sink.optional("c", &Some(2u64))?;
+    sink.optional_or_null("d", &none)?;
+    sink.optional_or_null("e", &Some(3u64))?;
+    sink.optional_strict("f", &none)?;
+    sink.optional_strict("g", &Some(4u64))?;
+    sink.always("h", &0u64)?;
+    sink.at_once("i", &5u64)?;
+    sink.list("j", &Vec::<u64>::new(alloc))?;
+    sink.list("k", &Vec::from_array(alloc, [6u64])?)?;
+    sink.written_list("l", &Vec::<u64>::new(alloc))?;
+    sink.map("m", &Map::<String, u64>::new(alloc))?;
+    sink.values(
+        "n",
+        &Values {
+            values: Vec::<u64>::new(alloc),
+        },
+    )?;
+    sink.values(
+        "o",
+        &Values {
+            values: Vec::from_array(alloc, [7u64])?,
+        },
+    )?;
+    sink.text_unless("p", &other, "other")?;
+    sink.text_unless("q", &native, "other")?;
+    sink.unless("r", &false, &false)?;
+    sink.unless("s", &true, &false)?;
+    sink.unless("t", &8u32, &0)?;
+    sink.unless("u", &0u64, &0)?;
+    sink.null("v")?;
+    sink.word("w", "x")
+}
+
+#[test]
+fn rules_leave_out_what_is_usual(rt: HostRuntime) -> Result<(), Fail> {
+    let alloc = rt.alloc();
+    let wanted =
+        "{\"a\":1,\"c\":2,\"d\":null,\"e\":3,\"g\":4,\"h\":0,\"i\":5,\"k\":[6],\"l\":[],\"o\":{\"values\":[7]},\"q\":\"native\",\"s\":true,\"t\":8,\"v\":null,\"w\":\"x\"}";
+    let mut rows = TreeRows::new(alloc);
+    each_rule(alloc, &mut rows)?;
+    assert_eq!(rt; rows.into_tree().to_string(alloc)?.as_str(), wanted);
+    let mut out: Writer = Writer::new(Vec::new(alloc));
+    out.begin_object()?;
+    each_rule(alloc, &mut out)?;
+    out.end_object()?;
+    assert_eq!(rt; String::from_utf8(out.into_inner())?.as_str(), wanted);
+    Ok(())
+}
+
+#[test]
+fn a_clash_goes_to_the_row(rt: HostRuntime) -> Result<(), Fail> {
+    let alloc = rt.alloc();
+    let system = System {
+        name: Some(String::from_str(alloc, "L")?),
+    };
+    let others = members(alloc, "{\"name\":1,\"type\":2,\"z\":3}")?;
+    assert!(rt; !others_are_plain(&others, &["name"]));
+    assert!(rt; others_are_plain(&others, &["n"]));
+    let mut out: Writer = Writer::new(Vec::new(alloc));
+    write_kept_case(&system, "os", &others, &mut out)?;
+    let wanted = "{\"name\":\"L\",\"type\":\"os\",\"z\":3}";
+    assert_eq!(rt; String::from_utf8(out.into_inner())?.as_str(), wanted);
+    assert_eq!(rt;
+        kept_case_tree(&system, "os", &others, alloc)?
+            .to_string(alloc)?
+            .as_str(),
+        wanted
+    );
+    Ok(())
+}

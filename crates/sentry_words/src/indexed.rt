@@ -1,0 +1,20 @@
+//! Enums whose variants stand in an order.
+
+ghost use Rattle.std.specs.Prelude.{◌≡◌, ◌<◌, ℕ, List, Some, length, slice_get};
+
+/// An enum whose variants stand in an order, each at an index of its own.
+pub trait IndexedEnum: Sized + 'static {
+    ghost variants: { List Self };
+
+    ghost index_of: { Self → ℕ };
+
+    /// All variants, in order.
+    const VARIANTS: &'static [Self];
+
+    /// The variant's place in [`IndexedEnum::VARIANTS`].
+    fn as_index(&self) -> usize
+        ensures place { result ≡ index_of self.now }
+        ensures within { result < length variants };
+
+    ghost in_place: { (variant : Self) → slice_get variants (index_of variant) ≡ Some variant };
+}

@@ -1,0 +1,113 @@
+//! Truth values as texts.
+
+ghost use Rattle.std.specs.Prelude.{◌≡◌};
+ghost use Rattle.sentry_rows.specs.Spelling.{ReadsSpelling};
+ghost use Rattle.sentry_words.specs.Sampled.{sampled_word, sampled_kind, sampled_spelling, sampled_cell};
+
+use json::Writer;
+use sentry_rows::{Codec, ReadCodec, TreeError};
+use serde_json::Value;
+use std::alloc::{AllocError, Global};
+
+/// The form of a truth value that is a text, `true` or `false`.
+///
+/// So is `sampled` in the trace header of an envelope:
+/// <https://develop.sentry.dev/sdk/telemetry/traces/dynamic-sampling-context/>.
+pub struct Sampled;
+
+/// The text of a truth value.
+fn word(truth: bool) -> &'static str
+    ensures { result.now ≡ sampled_word truth }
+{
+    if truth { "true" } else { "false" }
+}
+
+/// The truth value that a text spells.
+fn truth_of(text: &str) -> Result<bool, TreeError>
+    ensures { ReadsSpelling sampled_spelling sampled_cell text.now result }
+{
+    match text {
+        "true" => Ok(true),
+        "false" => Ok(false),
+        _ => Err(TreeError::Misfit),
+    }
+}
+
+impl Codec<bool> for Sampled {
+    ghost kind = { sampled_kind };
+
+    ghost cell_of = { sampled_cell };
+
+    #[tactic(auto, unfolding(sentry_rows::specs::Written::written))]
+    fn to_tree(value: &bool, alloc: Global) -> Result<Value, AllocError> {
+        Value::try_from_str(alloc, word(*value))
+    }
+
+    #[tactic(auto, using(sentry_rows::proofs::Spellings::spelling_wrote))]
+    fn write(value: &bool, out: &mut Writer) -> Result<(), AllocError> {
+        out.string(word(*value))
+    }
+
+    fn copy(value: &bool) -> Result<bool, AllocError> {
+        Ok(*value)
+    }
+
+    #[tactic(auto, using(crate::proofs::SampledLaws::sampled_stored))]
+    fn is_plain(_value: &bool) -> bool {
+        true
+    }
+}
+
+impl ReadCodec<bool> for Sampled {
+    #[tactic(auto, using(sentry_rows::proofs::Spellings::text_read, sentry_rows::proofs::Spellings::not_text))]
+    fn from_tree(_alloc: Global, tree: &Value) -> Result<bool, TreeError> {
+        match tree.as_str() {
+            Some(text) => truth_of(text),
+            None => Err(TreeError::Misfit),
+        }
+    }
+}
+
+#[cfg(test)]
+mod tests {
+    use super::*;
+    use sentry_rows::read_tree;
+    use sentry_rows::rows::required_as;
+    use std::test::Fail;
+
+    #[test]
+    fn read_and_written(rt: HostRuntime) -> Result<(), Fail> {
+        let alloc = rt.alloc();
+        let tree = read_tree(alloc, b"{\"yes\":\"true\",\"no\":\"false\"}")?;
+        assert!(rt; required_as::<Sampled, bool>(alloc, &tree, "yes")?);
+        assert!(rt; !required_as::<Sampled, bool>(alloc, &tree, "no")?);
+        let written = <Sampled as Codec<bool>>::to_tree(&true, alloc)?;
+        assert_eq!(rt; written.to_string(alloc)?.as_str(), "\"true\"");
+        let mut out = Writer::new(Vec::new(alloc));
+        <Sampled as Codec<bool>>::write(&false, &mut out)?;
+        let text = String::from_utf8(out.into_inner())?;
+        assert_eq!(rt; text.as_str(), "\"false\"");
+        Ok(())
+    }
+
+    #[test]
+    fn refused(rt: HostRuntime) -> Result<(), Fail> {
+        let alloc = rt.alloc();
+        for line in [
+            "{\"a\":true}",
+            "{\"a\":null}",
+            "{\"a\":1}",
+            "{\"a\":\"True\"}",
+            "{\"a\":\"\"}",
+            "{\"a\":\"true \"}",
+            "{}",
+        ] {
+            let tree = read_tree(alloc, line.as_bytes())?;
+            assert!(rt;
+                required_as::<Sampled, bool>(alloc, &tree, "a").is_err(),
+                "{line}"
+            );
+        }
+        Ok(())
+    }
+}
