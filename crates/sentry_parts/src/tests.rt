@@ -56,6 +56,9 @@ fn software_has_its_fields(rt: HostRuntime) -> Result<(), Fail> {
     assert!(rt; info.is_plain());
     assert_eq!(rt; info.name.as_str(), "a");
     assert_eq!(rt; info.version.as_str(), "1");
-    assert!(rt; info.packages[0].clone()? == package);
+    let Some(first) = info.packages.first() else {
+        return Err("no package")?;
+    };
+    assert!(rt; first.clone()? == package);
     Ok(())
 }
