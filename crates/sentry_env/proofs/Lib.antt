@@ -3,3 +3,4 @@ pub mod SumLemmas
 pub mod LossLemmas
 pub mod RunLemmas
 pub mod PlainLemmas
+pub mod OutcomeLemmas

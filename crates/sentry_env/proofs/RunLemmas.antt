@@ -10,8 +10,8 @@ use Rattle.sentry_envelope.specs.EnvelopeView.{header_of, structured}
 use Rattle.sentry_envelope.specs.Filter.{structured_in}
 use Rattle.sentry_envelope.specs.SentryProfile.{profile}
 use Rattle.sentry_envelope.specs.declared.envelope.Envelope.{Envelope}
-use Rattle.sentry_envelope.specs.declared.error.EnvelopeError.{EnvelopeError}
-use Rattle.sentry_envelope.specs.declared.error.EnvelopeError.TheVariants as fault
+use Rattle.sentry_framing.specs.declared.error.EnvelopeError.{EnvelopeError}
+use Rattle.sentry_framing.specs.declared.error.EnvelopeError.TheVariants as fault
 use Rattle.sentry_env.specs.Ending.{refusal_of}
 use Rattle.sentry_env.specs.Run.{IsDue, Runs, ReadsEnvelope, Sends, Stays, Stream}
 use Rattle.sentry_env.specs.declared.ending.Outcome.{Outcome}

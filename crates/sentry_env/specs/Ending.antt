@@ -1,7 +1,7 @@
 -- How the program ends: the status of each answer, and the line that standard error gets.
 use Rattle.std.specs.Prelude.{ℕ, List, [], Result, Ok, Err, codes}
-use Rattle.sentry_envelope.specs.declared.error.EnvelopeError.{EnvelopeError}
-use Rattle.sentry_envelope.specs.declared.error.EnvelopeError.TheVariants as fault
+use Rattle.sentry_framing.specs.declared.error.EnvelopeError.{EnvelopeError}
+use Rattle.sentry_framing.specs.declared.error.EnvelopeError.TheVariants as fault
 use Rattle.sentry_env.specs.declared.read_all.ReadError.{ReadError}
 use Rattle.sentry_env.specs.declared.read_all.ReadError.TheVariants as reading
 use Rattle.sentry_env.specs.declared.ending.Outcome.{Outcome}

@@ -12,7 +12,7 @@ use Rattle.sentry_envelope.specs.Filter.{chosen, kept, handed, first_id_of}
 use Rattle.sentry_envelope.specs.HeaderFields.{put_id}
 use Rattle.sentry_envelope.specs.SentryProfile.{profile}
 use Rattle.sentry_envelope.specs.declared.envelope.Envelope.{Envelope}
-use Rattle.sentry_envelope.specs.declared.error.EnvelopeError.{EnvelopeError}
+use Rattle.sentry_framing.specs.declared.error.EnvelopeError.{EnvelopeError}
 use Rattle.sentry_env.specs.Listed.{AnswersFor}
 use Rattle.sentry_env.specs.Table.{table_of}
 use Rattle.sentry_env.specs.declared.ending.Outcome.{Outcome}
@@ -125,6 +125,16 @@ Runs kinds keep now input input' out out' table table' (Err Write) = WritesPart 
 abbrev pub reads_failed : Result Outcome RunError → ℕ
 reads_failed (Err Read) = 1
 reads_failed _ = 0
+
+-- ---- one outcome
+
+-- The bytes that were read, the moment, the kinds and whether the header stays settle both texts that are due, and the outcome.
+abbrev pub DueIsSettled : Type 0
+DueIsSettled = (bytes : List ℕ) (now : Cell) (kinds : List Kind) (keep : Bool) (header header' : Cell) (items items' : List EnvelopeItem)
+    (out out' table table' : List ℕ) (outcome outcome' : Outcome)
+    → Spells profile bytes now (model header items) → Spells profile bytes now (model header' items')
+    → IsDue kinds keep header items out table outcome → IsDue kinds keep header' items' out' table' outcome'
+    → (out ≡ out') × (table ≡ table') × (outcome ≡ outcome')
 
 -- ---- parts of a run
 

@@ -21,6 +21,8 @@ mod run;
 #[cfg(test)]
 mod run_tests;
 #[cfg(test)]
+mod runs;
+#[cfg(test)]
 mod tests;
 
 use args::{Args, program_args};
@@ -30,6 +32,7 @@ use rand_core::SeedableRng;
 use rand_pcg::Pcg32;
 use run::run;
 use sentry_envelope::{CountedReader, CountedWriter};
+use std::alloc::AllocError;
 use std::fs;
 use std::io::Read;
 use std::process::ExitCode;
@@ -67,12 +70,17 @@ where
     )
 }
 
-fn main(rt: HostRuntime) -> ExitCode {
-    let (status, line) = match program_args(&rt) {
-        Ok(Some(args)) => ending(&answer_call(&rt, &args)),
+// The program's status and its line for standard error, by what its words ask for.
+fn end_of_call(rt: &HostRuntime, call: Result<Option<Args>, AllocError>) -> (u8, &'static str) {
+    match call {
+        Ok(Some(args)) => ending(&answer_call(rt, &args)),
         Ok(None) => usage(),
         Err(_) => ending(&Err(RunError::Memory)),
-    };
+    }
+}
+
+fn main(rt: HostRuntime) -> ExitCode {
+    let (status, line) = end_of_call(&rt, program_args(&rt));
     if !line.is_empty() {
         let _ = rt.eprintln(line);
     }

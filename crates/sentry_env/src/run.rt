@@ -1,4 +1,4 @@
-ghost use Rattle.std.specs.Prelude.{◌≡◌, ◌+◌, ◌-◌, ◌^◌, ◌<◌, List, Some, IfOk, IsSomeAnd, string_bytes};
+ghost use Rattle.std.specs.Prelude.{◌≡◌, ◌+◌, ◌-◌, ◌^◌, ◌<◌, List, Some, IfErr, IfOk, IsSomeAnd, string_bytes};
 ghost use Rattle.sentry_items.specs.Counted.{reader_inside, reader_failures, writer_inside, writer_failures};
 ghost use Rattle.sentry_items.specs.declared.item.EnvelopeItem.{EnvelopeItem};
 ghost use Rattle.sentry_envelope.specs.Envelope.{IsEnvelopePlain};
@@ -28,6 +28,7 @@ struct Rewritten {
 }
 
 // Filters an envelope by the call that keeps the fields of its header, or by the one that drops them.
+// Where memory is refused it is handed back, and the filter isn't called.
 fn filtered<F: EnvelopeFilter>(
     alloc: Global,
     envelope: Envelope,
@@ -35,7 +36,8 @@ fn filtered<F: EnvelopeFilter>(
     filter: &mut F,
 ) -> Result<Option<Envelope>, Envelope>
     requires { F.can_filter filter.old }
-    ensures { IfOk result (FiltersEnvelope (header_left keep (header_of envelope)) F.ask F.hand envelope filter.old filter.new) }
+    ensures filtered { IfOk result (FiltersEnvelope (header_left keep (header_of envelope)) F.ask F.hand envelope filter.old filter.new) }
+    ensures refused { IfErr result (λ back. (back ≡ envelope) × (filter.new ≡ filter.old)) }
 {
     if keep {
         envelope.filter_keep_headers(alloc, filter)

@@ -1,24 +1,15 @@
 use crate::clock::{moment_after, seed_at, time_since_1970};
-use crate::ending::{Outcome, RunError};
+use crate::ending::ending;
 use crate::kind::Kind;
 use crate::losses::LossSums;
-use crate::run::run;
-use rand_core::SeedableRng;
-use rand_pcg::Pcg32;
-use sentry_envelope::{CountedReader, CountedWriter, EnvelopeError, Moment};
+use crate::runs::{INPUT, REWRITTEN, Ran, run_on};
+use sentry_envelope::Moment;
 use sentry_items::{Category, ItemLoss, Reason};
 use std::alloc::{AllocError, Global};
 use std::io;
 use std::io::{ErrorKind, Read, Write};
 use std::rt::Clock;
-use std::test::Fail;
 use std::time::Duration;
-
-const INPUT: &str =
-    "{\"event_id\":\"9ec79c33ec9942ab8353589fcb2e04dc\"}\n{\"type\":\"attachment\"}\nhelloworld";
-
-const REWRITTEN: &str =
-    "{\"event_id\":\"9ec79c33-ec99-42ab-8353-589fcb2e04dc\"}\n{\"attachment_type\":\"event.attachment\",\"content_type\":\"application/octet-stream\",\"filename\":\"\",\"length\":10,\"type\":\"attachment\"}\nhelloworld\n";
 
 // An attachment and a recording.
 const TWO: &str =
@@ -26,14 +17,12 @@ const TWO: &str =
 
 const RECORDING: &str = "{}\n{\"length\":3,\"type\":\"replay_recording\"}\nabc\n";
 
-// What a run answered, what it wrote, and how many of its calls failed.
-#[derive(Drop)]
-struct Ran {
-    answer: Result<Outcome, RunError>,
-    out: Full,
-    table: Full,
-    failures: (u64, u64, u64),
-}
+// The same below a header of two fields.
+const HEADED: &str =
+    "{\"dsn\":\"https://username:@domain/42\",\"event_id\":\"22d00b3f-d1b1-4b5d-8d20-49d138cd8a9c\"}\n{\"type\":\"attachment\"}\nab\n{\"type\":\"replay_recording\",\"length\":3}\nabc";
+
+const HEADED_RECORDING: &str =
+    "{\"dsn\":\"https://username:@domain/42\"}\n{\"length\":3,\"type\":\"replay_recording\"}\nabc\n";
 
 // Takes some bytes, one at a time, and then fails: by an error, or by taking none.
 #[derive(Drop)]
@@ -79,12 +68,13 @@ impl Write for Full {
 #[derive(Drop)]
 struct Broken<'a> {
     left: &'a [u8],
+    error: ErrorKind,
 }
 
 impl Read for Broken<'_> {
     fn read(&mut self, buffer: &mut [u8]) -> io::Result<usize> {
         let Some((byte, left)) = self.left.split_first() else {
-            return Err(io::Error::from(ErrorKind::Interrupted));
+            return Err(io::Error::from(self.error));
         };
         let Some(place) = buffer.first_mut() else {
             return Ok(0);
@@ -95,198 +85,184 @@ impl Read for Broken<'_> {
     }
 }
 
-fn run_with<R: Read>(
-    alloc: Global,
-    source: R,
-    kinds: &[Kind],
-    keep: bool,
-    out: Full,
-    table: Full,
-) -> Ran
-where
-    R: Drop,
-{
-    let mut reader = CountedReader::new(source);
-    let mut out = CountedWriter::new(out);
-    let mut table = CountedWriter::new(table);
-    let mut ids = Pcg32::seed_from_u64(7);
-    let answer = run(
-        alloc,
-        &mut reader,
-        kinds,
-        keep,
-        moment_after(Duration::ZERO),
-        &mut ids,
-        &mut out,
-        &mut table,
-    );
-    let failures = (reader.failures(), out.failures(), table.failures());
-    Ran {
-        answer,
-        out: out.into_inner(),
-        table: table.into_inner(),
-        failures,
-    }
-}
-
-fn run_on(alloc: Global, input: &str, kinds: &[Kind], keep: bool) -> Ran {
-    let out = Full::endless(alloc);
-    let table = Full::endless(alloc);
-    run_with(alloc, input.as_bytes(), kinds, keep, out, table)
-}
-
-fn wrote(ran: &Ran, out: &str, table: &str) -> bool {
-    wrote_bytes(ran, out.as_bytes(), table.as_bytes())
-}
-
-fn wrote_bytes(ran: &Ran, out: &[u8], table: &[u8]) -> bool {
+// Whether these bytes stand in the two writers.
+fn wrote(ran: &Ran<Full>, out: &[u8], table: &[u8]) -> bool {
     ran.out.taken.as_slice() == out && ran.table.taken.as_slice() == table
 }
 
+// A run, and what comes of it.
+struct Row {
+    input: &'static str,
+    kinds: &'static [Kind],
+    keep: bool,
+    ending: (u8, &'static str),
+    out: &'static str,
+    table: &'static str,
+}
+
+const ROWS: &[Row] = &[
+    Row {
+        input: INPUT,
+        kinds: &[],
+        keep: false,
+        ending: (0, ""),
+        out: REWRITTEN,
+        table: "",
+    },
+    Row {
+        input: INPUT,
+        kinds: &[],
+        keep: true,
+        ending: (0, ""),
+        out: REWRITTEN,
+        table: "",
+    },
+    Row {
+        input: INPUT,
+        kinds: &[Kind::Attachment],
+        keep: false,
+        ending: (1, ""),
+        out: "",
+        table: "attachment none 10\n",
+    },
+    Row {
+        input: TWO,
+        kinds: &[Kind::Attachment, Kind::Attachment],
+        keep: false,
+        ending: (0, ""),
+        out: RECORDING,
+        table: "attachment none 12\n",
+    },
+    Row {
+        input: TWO,
+        kinds: &[Kind::Event, Kind::Attachment],
+        keep: false,
+        ending: (0, ""),
+        out: RECORDING,
+        table: "attachment none 12\n",
+    },
+    // No event and no transaction is left beside the attachment.
+    Row {
+        input: TWO,
+        kinds: &[Kind::Log],
+        keep: false,
+        ending: (0, ""),
+        out: RECORDING,
+        table: "attachment none 12\n",
+    },
+    Row {
+        input: TWO,
+        kinds: &[Kind::ReplayRecording],
+        keep: true,
+        ending: (1, ""),
+        out: "",
+        table: "attachment none 12\nreplay none 1\n",
+    },
+    Row {
+        input: "{}\n",
+        kinds: &[Kind::Log],
+        keep: false,
+        ending: (1, ""),
+        out: "",
+        table: "",
+    },
+    Row {
+        input: HEADED,
+        kinds: &[Kind::Attachment],
+        keep: true,
+        ending: (0, ""),
+        out: HEADED_RECORDING,
+        table: "attachment none 2\n",
+    },
+    Row {
+        input: HEADED,
+        kinds: &[Kind::Attachment],
+        keep: false,
+        ending: (0, ""),
+        out: RECORDING,
+        table: "attachment none 2\n",
+    },
+    Row {
+        input: "{}\n{\"type\":\"attachment\",\"length\":4}\nabc",
+        kinds: &[Kind::Attachment],
+        keep: false,
+        ending: (2, "sentry_env: unexpected end of file"),
+        out: "",
+        table: "",
+    },
+    Row {
+        input: "{",
+        kinds: &[],
+        keep: false,
+        ending: (2, "sentry_env: invalid envelope header"),
+        out: "",
+        table: "",
+    },
+];
+
 #[test]
-fn without_kinds_all_is_written(rt: HostRuntime) {
-    for keep in [false, true] {
-        let ran = run_on(rt.alloc(), INPUT, &[], keep);
-        assert!(rt; matches!(ran.answer, Ok(Outcome::Written)));
-        assert!(rt; wrote(&ran, REWRITTEN, ""));
+fn runs_end_as_they_should(rt: HostRuntime) {
+    let alloc = rt.alloc();
+    for row in ROWS {
+        let source = row.input.as_bytes();
+        let (out, table) = (Full::endless(alloc), Full::endless(alloc));
+        let ran = run_on(alloc, source, row.kinds, row.keep, out, table);
+        assert_eq!(rt; ending(&ran.answer), row.ending);
+        assert!(rt; wrote(&ran, row.out.as_bytes(), row.table.as_bytes()));
         assert_eq!(rt; ran.failures, (0, 0, 0));
     }
-}
-
-#[test]
-fn an_attachment_is_taken_out(rt: HostRuntime) {
-    for keep in [false, true] {
-        let ran = run_on(rt.alloc(), INPUT, &[Kind::Attachment], keep);
-        assert!(rt; matches!(ran.answer, Ok(Outcome::NothingLeft)));
-        assert!(rt; wrote(&ran, "", "attachment none 10\n"));
-        assert_eq!(rt; ran.failures, (0, 0, 0));
-    }
-}
-
-#[test]
-fn what_is_left_is_written(rt: HostRuntime) {
-    let alloc = rt.alloc();
-    for kinds in [
-        [Kind::Attachment, Kind::Attachment].as_slice(),
-        [Kind::Event, Kind::Attachment].as_slice(),
-        // No event and no transaction is left beside the attachment.
-        [Kind::Log].as_slice(),
-    ] {
-        let ran = run_on(alloc, TWO, kinds, false);
-        assert!(rt; matches!(ran.answer, Ok(Outcome::Written)));
-        assert!(rt; wrote(&ran, RECORDING, "attachment none 12\n"));
-    }
-    let ran = run_on(alloc, TWO, &[Kind::ReplayRecording], true);
-    assert!(rt; matches!(ran.answer, Ok(Outcome::NothingLeft)));
-    assert!(rt; wrote(&ran, "", "attachment none 12\nreplay none 1\n"));
-    let ran = run_on(alloc, "{}\n", &[Kind::Log], false);
-    assert!(rt; matches!(ran.answer, Ok(Outcome::NothingLeft)));
-    assert!(rt; wrote(&ran, "", ""));
-}
-
-#[test]
-fn the_header_stays_on_wish(rt: HostRuntime) {
-    let alloc = rt.alloc();
-    let input =
-        "{\"dsn\":\"https://username:@domain/42\",\"event_id\":\"22d00b3f-d1b1-4b5d-8d20-49d138cd8a9c\"}\n{\"type\":\"attachment\"}\nab\n{\"type\":\"replay_recording\",\"length\":3}\nabc";
-    let kept =
-        "{\"dsn\":\"https://username:@domain/42\"}\n{\"length\":3,\"type\":\"replay_recording\"}\nabc\n";
-    let ran = run_on(alloc, input, &[Kind::Attachment], true);
-    assert!(rt; matches!(ran.answer, Ok(Outcome::Written)));
-    assert!(rt; wrote(&ran, kept, "attachment none 2\n"));
-    let ran = run_on(alloc, input, &[Kind::Attachment], false);
-    assert!(rt; matches!(ran.answer, Ok(Outcome::Written)));
-    assert!(rt; wrote(&ran, RECORDING, "attachment none 2\n"));
-}
-
-#[test]
-fn other_bytes_are_refused(rt: HostRuntime) {
-    let ran = run_on(rt.alloc(), "{", &[], false);
-    assert!(rt;
-        matches!(
-            ran.answer,
-            Err(RunError::Refused(EnvelopeError::InvalidHeader))
-        )
-    );
-    assert!(rt; wrote(&ran, "", ""));
-    let ran = run_on(
-        rt.alloc(),
-        "{}\n{\"type\":\"attachment\",\"length\":4}\nabc",
-        &[Kind::Attachment],
-        false,
-    );
-    assert!(rt;
-        matches!(
-            ran.answer,
-            Err(RunError::Refused(EnvelopeError::UnexpectedEof))
-        )
-    );
-    assert!(rt; wrote(&ran, "", ""));
 }
 
 #[test]
 fn a_failed_read_ends_a_run(rt: HostRuntime) {
     let alloc = rt.alloc();
-    for read in [0, 1, 30, INPUT.len()] {
-        let source = Broken {
-            left: &INPUT.as_bytes()[..read],
-        };
-        let ran = run_with(
-            alloc,
-            source,
-            &[Kind::Attachment],
-            false,
-            Full::endless(alloc),
-            Full::endless(alloc),
+    for (read, error) in [
+        (0, ErrorKind::Interrupted),
+        (1, ErrorKind::Other),
+        (30, ErrorKind::Interrupted),
+        (INPUT.len(), ErrorKind::Other),
+    ] {
+        let (left, _) = INPUT.as_bytes().split_at(read);
+        let (out, table) = (Full::endless(alloc), Full::endless(alloc));
+        let kinds = [Kind::Attachment];
+        let ran = run_on(alloc, Broken { left, error }, &kinds, false, out, table);
+        assert_eq!(rt;
+            ending(&ran.answer),
+            (2, "sentry_env: unexpected end of file")
         );
-        assert!(rt; matches!(ran.answer, Err(RunError::Read)));
-        assert!(rt; wrote(&ran, "", ""));
+        assert!(rt; wrote(&ran, b"", b""));
         assert_eq!(rt; ran.failures, (1, 0, 0));
     }
 }
 
-#[test]
-fn a_failed_write_of_the_envelope_ends_a_run(rt: HostRuntime) {
-    let alloc = rt.alloc();
-    let recording = RECORDING.as_bytes();
-    for by_error in [false, true] {
-        for room in 0..recording.len() {
-            let out = Full::new(alloc, room, by_error);
-            let table = Full::endless(alloc);
-            let ran = run_with(
-                alloc,
-                TWO.as_bytes(),
-                &[Kind::Attachment],
-                false,
-                out,
-                table,
-            );
-            assert!(rt; matches!(ran.answer, Err(RunError::Write)));
-            assert!(rt; wrote_bytes(&ran, &recording[..room], b""));
-            assert_eq!(rt; ran.failures, (0, 1, 0));
-        }
-    }
+// A run over an attachment and a recording that takes the attachment out, to writers with room for
+// so many bytes: whether it ends by the failed write, with as much written as there was room for.
+fn breaks(alloc: Global, by_error: bool, out_room: usize, table_room: usize) -> bool {
+    let (source, kinds) = (TWO.as_bytes(), [Kind::Attachment]);
+    let out = Full::new(alloc, out_room, by_error);
+    let table = Full::new(alloc, table_room, by_error);
+    let ran = run_on(alloc, source, &kinds, false, out, table);
+    let text = RECORDING.as_bytes();
+    let written = match text.get(..out_room) {
+        Some(front) => wrote(&ran, front, b"") && ran.failures == (0, 1, 0),
+        None => match LOSSES.as_bytes().get(..table_room) {
+            Some(front) => wrote(&ran, text, front) && ran.failures == (0, 0, 1),
+            None => false,
+        },
+    };
+    written && ending(&ran.answer) == (4, "sentry_env: write failed")
 }
 
+const LOSSES: &str = "attachment none 12\n";
+
 #[test]
-fn a_failed_write_of_the_table_ends_a_run(rt: HostRuntime) {
-    let alloc = rt.alloc();
-    let losses = b"attachment none 12\n".as_slice();
+fn a_failed_write_ends_a_run(rt: HostRuntime) {
     for by_error in [false, true] {
-        for room in 0..losses.len() {
-            let out = Full::endless(alloc);
-            let table = Full::new(alloc, room, by_error);
-            let ran = run_with(
-                alloc,
-                TWO.as_bytes(),
-                &[Kind::Attachment],
-                false,
-                out,
-                table,
-            );
-            assert!(rt; matches!(ran.answer, Err(RunError::Write)));
-            assert!(rt; wrote_bytes(&ran, RECORDING.as_bytes(), &losses[..room]));
-            assert_eq!(rt; ran.failures, (0, 0, 1));
+        for room in 0..RECORDING.len() {
+            assert!(rt; breaks(rt.alloc(), by_error, room, usize::MAX), "{room}");
+        }
+        for room in 0..LOSSES.len() {
+            assert!(rt; breaks(rt.alloc(), by_error, usize::MAX, room), "{room}");
         }
     }
 }

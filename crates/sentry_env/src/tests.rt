@@ -1,15 +1,13 @@
 use crate::args::{Args, program_args, read_args};
+use crate::end_of_call;
 use crate::ending::{Outcome, RunError, ending, usage};
 use crate::kind::Kind;
-use crate::read_all::{ReadError, read_all};
-use sentry_envelope::{CountedReader, EnvelopeError};
+use sentry_envelope::EnvelopeError;
 use std::alloc::{AllocError, Global};
 use std::env::{Env, FillError};
-use std::io;
-use std::io::{ErrorKind, Read};
 use std::test::Fail;
 
-const WORDS: [(&str, Kind); 11] = [
+const WORDS: &[(&str, Kind)] = &[
     ("event", Kind::Event),
     ("session", Kind::Session),
     ("sessions", Kind::Sessions),
@@ -23,15 +21,11 @@ const WORDS: [(&str, Kind); 11] = [
     ("replay_recording", Kind::ReplayRecording),
 ];
 
-fn names(word: &str, kind: Kind) -> bool {
-    Kind::from_word(word) == Some(kind)
-}
-
 #[test]
 fn words_name_kinds(rt: HostRuntime) {
     for (word, kind) in WORDS {
-        assert!(rt; names(word, kind), "{word}");
-        assert_eq!(rt; kind.as_str(), word);
+        assert!(rt; Kind::from_word(word) == Some(*kind), "{word}");
+        assert_eq!(rt; kind.as_str(), *word);
     }
     for word in [
         "", "profile", "Event", "events", "event ", "log\n", "-k", "-f",
@@ -50,75 +44,149 @@ fn asks_for(args: &Args, keep: bool, path: Option<&str>, kinds: &[Kind]) -> bool
     args.keep == keep && same_path && args.kinds.as_slice() == kinds
 }
 
+// Words, and what a call of them asks for: whether the headers stay, the path and the kinds.
+type Call = (
+    &'static [&'static str],
+    bool,
+    Option<&'static str>,
+    &'static [Kind],
+);
+
+const CALLS: &[Call] = &[
+    (&[], false, None, &[]),
+    (&["event"], false, None, &[Kind::Event]),
+    (
+        &["log", "event", "log"],
+        false,
+        None,
+        &[Kind::Log, Kind::Event, Kind::Log],
+    ),
+    (&["-k"], true, None, &[]),
+    (&["-k", "event"], true, None, &[Kind::Event]),
+    (&["-f", "missing"], false, Some("missing"), &[]),
+    (
+        &["-f", "a b", "user_report"],
+        false,
+        Some("a b"),
+        &[Kind::UserReport],
+    ),
+    (
+        &["-k", "-f", "x", "session", "sessions"],
+        true,
+        Some("x"),
+        &[Kind::Session, Kind::Sessions],
+    ),
+    (&["-f", "event"], false, Some("event"), &[]),
+    (&["-f", "-f"], false, Some("-f"), &[]),
+    (&["-f", "-k"], false, Some("-k"), &[]),
+    (&["-k", "-f", "-k", "log"], true, Some("-k"), &[Kind::Log]),
+    // Of the orders of `-k`, `-f` and two words that name kinds, these four are calls.
+    (
+        &["-k", "-f", "log", "event"],
+        true,
+        Some("log"),
+        &[Kind::Event],
+    ),
+    (
+        &["-k", "-f", "event", "log"],
+        true,
+        Some("event"),
+        &[Kind::Log],
+    ),
+    (
+        &["-f", "-k", "log", "event"],
+        false,
+        Some("-k"),
+        &[Kind::Log, Kind::Event],
+    ),
+    (
+        &["-f", "-k", "event", "log"],
+        false,
+        Some("-k"),
+        &[Kind::Event, Kind::Log],
+    ),
+    (&["-f", ""], false, Some(""), &[]),
+];
+
 #[test]
 fn calls_are_read(rt: HostRuntime) -> Result<(), Fail> {
-    let calls: [(&[&str], bool, Option<&str>, &[Kind]); 13] = [
-        (&[], false, None, &[]),
-        (&["event"], false, None, &[Kind::Event]),
-        (
-            &["log", "event", "log"],
-            false,
-            None,
-            &[Kind::Log, Kind::Event, Kind::Log],
-        ),
-        (&["-k"], true, None, &[]),
-        (&["-k", "event"], true, None, &[Kind::Event]),
-        (&["-f", "missing"], false, Some("missing"), &[]),
-        (
-            &["-f", "a b", "user_report"],
-            false,
-            Some("a b"),
-            &[Kind::UserReport],
-        ),
-        (
-            &["-k", "-f", "x", "session", "sessions"],
-            true,
-            Some("x"),
-            &[Kind::Session, Kind::Sessions],
-        ),
-        (&["-f", "event"], false, Some("event"), &[]),
-        (&["-f", "-f"], false, Some("-f"), &[]),
-        (&["-f", "-k"], false, Some("-k"), &[]),
-        (&["-k", "-f", "-k", "log"], true, Some("-k"), &[Kind::Log]),
-        (&["-f", ""], false, Some(""), &[]),
-    ];
-    for (words, keep, path, kinds) in calls {
+    for (words, keep, path, kinds) in CALLS {
         let Some(args) = read_args(rt.alloc(), words)? else {
             panic!(rt; "{words:?} is a call");
         };
-        assert!(rt; asks_for(&args, keep, path, kinds), "{words:?}");
+        assert!(rt; asks_for(&args, *keep, *path, kinds), "{words:?}");
+    }
+    Ok(())
+}
+
+const NO_CALLS: &[&[&str]] = &[
+    &["profile"],
+    &["--help"],
+    &[""],
+    &["Event"],
+    &["event", "profile"],
+    &["profile", "event"],
+    &["-f"],
+    &["-k", "-f"],
+    &["-k", "-k"],
+    &["-k", "event", "-k"],
+    &["event", "-k"],
+    &["event", "-f", "x"],
+    &["event", "-f"],
+    &["-f", "x", "-k"],
+    &["-f", "x", "-k", "event"],
+    &["-f", "x", "-f", "y"],
+    &["-f", "x", "-f"],
+    &["-f", "x", "y"],
+    &["-kf", "x"],
+    &["--", "event"],
+    // `-k`, `-f` and two words that name kinds, in each order that is no call.
+    &["-k", "log", "-f", "event"],
+    &["-k", "log", "event", "-f"],
+    &["-k", "event", "-f", "log"],
+    &["-k", "event", "log", "-f"],
+    &["-f", "log", "-k", "event"],
+    &["-f", "log", "event", "-k"],
+    &["-f", "event", "-k", "log"],
+    &["-f", "event", "log", "-k"],
+    &["log", "-k", "-f", "event"],
+    &["log", "-k", "event", "-f"],
+    &["log", "-f", "-k", "event"],
+    &["log", "-f", "event", "-k"],
+    &["log", "event", "-k", "-f"],
+    &["log", "event", "-f", "-k"],
+    &["event", "-k", "-f", "log"],
+    &["event", "-k", "log", "-f"],
+    &["event", "-f", "-k", "log"],
+    &["event", "-f", "log", "-k"],
+    &["event", "log", "-k", "-f"],
+    &["event", "log", "-f", "-k"],
+];
+
+#[test]
+fn other_words_are_no_call(rt: HostRuntime) -> Result<(), Fail> {
+    for words in NO_CALLS {
+        assert!(rt; read_args(rt.alloc(), words)?.is_none(), "{words:?}");
     }
     Ok(())
 }
 
 #[test]
-fn other_words_are_no_call(rt: HostRuntime) -> Result<(), Fail> {
-    let calls: [&[&str]; 20] = [
-        &["profile"],
-        &["--help"],
-        &[""],
-        &["Event"],
-        &["event", "profile"],
-        &["profile", "event"],
-        &["-f"],
-        &["-k", "-f"],
-        &["-k", "-k"],
-        &["-k", "event", "-k"],
-        &["event", "-k"],
-        &["event", "-f", "x"],
-        &["event", "-f"],
-        &["-f", "x", "-k"],
-        &["-f", "x", "-k", "event"],
-        &["-f", "x", "-f", "y"],
-        &["-f", "x", "-f"],
-        &["-f", "x", "y"],
-        &["-kf", "x"],
-        &["--", "event"],
+fn calls_without_an_envelope_end_by_a_line(rt: HostRuntime) {
+    let alloc = rt.alloc();
+    let no_file = (2, "sentry_env: unexpected end of file");
+    let no_call = (3, "usage: sentry_env [-k] [-f PATH] KIND..");
+    let calls: [(&[&str], (u8, &str)); 4] = [
+        (&["-f", "missing"], no_file),
+        (&["-f", "missing/attachment", "attachment"], no_file),
+        (&["profile"], no_call),
+        (&["-f"], no_call),
     ];
-    for words in calls {
-        assert!(rt; read_args(rt.alloc(), words)?.is_none(), "{words:?}");
+    for (words, end) in calls {
+        assert_eq!(rt; end_of_call(&rt, read_args(alloc, words)), end, "{words:?}");
     }
-    Ok(())
+    let refused = end_of_call(&rt, Err(AllocError));
+    assert_eq!(rt; refused, (4, "sentry_env: out of memory"));
 }
 
 // An environment with arguments of its own.
@@ -239,52 +307,4 @@ fn endings(rt: HostRuntime) {
         assert_eq!(rt; ending(&answer), (status, line));
     }
     assert_eq!(rt; usage(), (3, "usage: sentry_env [-k] [-f PATH] KIND.."));
-}
-
-// Gives its bytes one at a time, and then answers an error for ever.
-#[derive(Drop)]
-struct Broken<'a> {
-    left: &'a [u8],
-    error: ErrorKind,
-}
-
-impl Read for Broken<'_> {
-    fn read(&mut self, buffer: &mut [u8]) -> io::Result<usize> {
-        let Some((byte, left)) = self.left.split_first() else {
-            return Err(io::Error::from(self.error));
-        };
-        let Some(place) = buffer.first_mut() else {
-            return Ok(0);
-        };
-        *place = *byte;
-        self.left = left;
-        Ok(1)
-    }
-}
-
-#[test]
-fn a_failed_read_ends_the_reading(rt: HostRuntime) {
-    for error in [ErrorKind::Interrupted, ErrorKind::Other] {
-        for left in [b"".as_slice(), b"{}\n".as_slice()] {
-            let mut reader = CountedReader::new(Broken { left, error });
-            let bytes = read_all(rt.alloc(), &mut reader);
-            assert!(rt; matches!(bytes, Err(ReadError::Read)));
-            assert_eq!(rt; reader.failures(), 1);
-        }
-    }
-}
-
-#[test]
-fn all_is_read(rt: HostRuntime) -> Result<(), Fail> {
-    let alloc = rt.alloc();
-    let long = vec![in alloc; 7u8; 20_000]?;
-    for text in [b"".as_slice(), b"{}\n".as_slice(), long.as_slice()] {
-        let mut reader = CountedReader::new(text);
-        let Ok(bytes) = read_all(alloc, &mut reader) else {
-            panic!(rt; "all fits");
-        };
-        assert!(rt; bytes.as_slice() == text);
-        assert_eq!(rt; reader.failures(), 0);
-    }
-    Ok(())
 }

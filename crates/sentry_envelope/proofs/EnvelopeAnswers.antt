@@ -3,16 +3,16 @@ use Rattle.std.proofs.Common.{◌≡◌, ◌≢◌, ◌⊎◌, inl, inr, ℕ, Li
 use Rattle.std.proofs.lemmas.List.Elements.{All-nil}
 use Rattle.sentry_tables.specs.Cell.{Cell}
 use Rattle.sentry_tables.specs.Laws.{TextShows}
-use Rattle.sentry_envelope.specs.Framing.{is_space, Frame, IsFirstFrame, AreFrames, IsFault, Verdict, framed, at_fault, IsVerdict, IsLineAndBody}
+use Rattle.sentry_framing.specs.Framing.{is_space, Frame, IsFirstFrame, AreFrames, IsFault, Verdict, framed, at_fault, IsVerdict, IsLineAndBody}
 use Rattle.sentry_envelope.specs.Profile.{Profile, ProfileLaws}
 use Rattle.sentry_envelope.specs.Envelope.{Item, Envelope, reads, ItemsStand, first_id, Spells}
 use Rattle.sentry_envelope.specs.EnvelopeFault.{LineStands, LineIsRefused, FrameStands, FrameIsRefused, FramesStand, IsFirstFault, BodyIsAtFault, Fault}
 use Rattle.sentry_envelope.specs.EnvelopeLaws.{HasOneAnswer}
-use Rattle.sentry_envelope.specs.declared.error.EnvelopeError.{EnvelopeError}
-use Rattle.sentry_envelope.specs.declared.error.EnvelopeError.TheVariants.{InvalidHeader, InvalidItemPayload}
-use Rattle.sentry_envelope.proofs.Opening.{not_blank}
-use Rattle.sentry_envelope.proofs.Outcomes.{frame, fault, same_outcome}
-use Rattle.sentry_envelope.proofs.Verdicts.{same_first, one_verdict}
+use Rattle.sentry_framing.specs.declared.error.EnvelopeError.{EnvelopeError}
+use Rattle.sentry_framing.specs.declared.error.EnvelopeError.TheVariants.{InvalidHeader, InvalidItemPayload}
+use Rattle.sentry_framing.proofs.Opening.{not_blank}
+use Rattle.sentry_framing.proofs.Outcomes.{frame, fault, same_outcome}
+use Rattle.sentry_framing.proofs.Verdicts.{same_first, one_verdict}
 use Rattle.sentry_envelope.proofs.EnvelopeLine.{same_line, some_line}
 use Rattle.sentry_envelope.proofs.EnvelopeShown.{line_sorted, line_not_both, frame_sorted, frame_stands, frame_not_both}
 

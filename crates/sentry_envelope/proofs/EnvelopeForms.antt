@@ -7,8 +7,8 @@ use Rattle.sentry_tables.specs.Written.{tree}
 use Rattle.sentry_tables.specs.Meets.{IsPlain, IsStored}
 use Rattle.sentry_tables.specs.Lawful.{IsMoment}
 use Rattle.sentry_tables.proofs.Laws.{has_laws}
-use Rattle.sentry_envelope.specs.Framing.{with_line}
-use Rattle.sentry_envelope.specs.ItemHeader.{Header}
+use Rattle.sentry_framing.specs.Framing.{with_line}
+use Rattle.sentry_framing.specs.ItemHeader.{Header}
 use Rattle.sentry_envelope.specs.Profile.{words, Profile, ProfileLaws}
 use Rattle.sentry_envelope.specs.Envelope.{Content, Item, item, raw, Envelope, Spells, ContentShowsAt, ItemsStand, first_id, frame_by, frame_at, frame_text, items_text, envelope_text, content_norm_at, items_norm, envelope_norm, ContentDemand, ContentMeets, ContentMeetsAt, ItemsMeet, IsEnvelopeStored, IsEnvelopePlain}
 use Rattle.sentry_envelope.specs.EnvelopeLaws.{IsFit, EnvelopesHaveOneForm, EnvelopesAreRewritten, RewritingTwiceIsOnce}

@@ -3,7 +3,7 @@ use Rattle.std.proofs.Common.{◌≡◌, ◌≢◌, inl, inr, ℕ, List, [], ◌
 use Rattle.std.proofs.lemmas.Bool.{cases_eq}
 use Rattle.std.proofs.lemmas.List.Elements.{All-nil, All-cons, All-head, All-tail}
 use Rattle.sentry_json.specs.Line.{newline, HasNoNewline}
-use Rattle.sentry_envelope.specs.Framing.{EndsLine, IsLineAndBody}
+use Rattle.sentry_framing.specs.Framing.{EndsLine, IsLineAndBody}
 
 same_next : (m n : List ℕ) → newline ∷ m ≡ newline ∷ n → m ≡ n
 same_next m n e = cc

@@ -3,13 +3,13 @@ use Rattle.std.proofs.Common.{◌≡◌, ◌≢◌, inl, inr, ℕ, zero, suc, Li
 use Rattle.sentry_tables.specs.Cell.{Cell, absent}
 use Rattle.sentry_tables.specs.Kind.{Kind}
 use Rattle.sentry_tables.specs.Laws.{TextShows}
-use Rattle.sentry_envelope.specs.Framing.{Frame, IsLineAndBody, IsFirstFrame, IsFault}
-use Rattle.sentry_envelope.specs.ItemHeader.{Header, read_header}
+use Rattle.sentry_framing.specs.Framing.{Frame, IsLineAndBody, IsFirstFrame, IsFault}
+use Rattle.sentry_framing.specs.ItemHeader.{Header, read_header}
 use Rattle.sentry_envelope.specs.Profile.{Form, attachment_form, opaque_form, json_form, container_form, container_kind, ItemType, words, Profile, ProfileLaws}
 use Rattle.sentry_envelope.specs.Envelope.{Content, attached, opaque, value, Item, item, Envelope, reads, attached_by, ContentShows, ContentShowsAt, ItemShows, ItemsStand, given_by, or_else, first_id, Spells}
 use Rattle.sentry_envelope.specs.EnvelopeFault.{FrameStands, FrameIsRefused, IsFirstFault, BodyIsAtFault, Fault}
-use Rattle.sentry_envelope.specs.declared.error.EnvelopeError.{EnvelopeError}
-use Rattle.sentry_envelope.specs.declared.error.EnvelopeError.TheVariants.{InvalidHeader, InvalidItemPayload}
+use Rattle.sentry_framing.specs.declared.error.EnvelopeError.{EnvelopeError}
+use Rattle.sentry_framing.specs.declared.error.EnvelopeError.TheVariants.{InvalidHeader, InvalidItemPayload}
 use Rattle.sentry_envelope.proofs.EnvelopeShown.{no_value, header_shows, line_stands, line_refused, frame_refused}
 use Rattle.sentry_envelope.proofs.EnvelopeAnswers.{some_remain, frames_of_items}
 

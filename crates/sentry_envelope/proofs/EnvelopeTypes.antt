@@ -3,7 +3,7 @@ use Rattle.std.proofs.Common.{◌≡◌, ℕ, zero, suc, List, [], ◌∷◌, Bo
 use Rattle.std.proofs.lemmas.Slice.Eq.{bytes_eq-Decides}
 use Rattle.sentry_tables.specs.Cell.{Cell, absent}
 use Rattle.sentry_tables.specs.Kind.{Kind, has_key}
-use Rattle.sentry_envelope.specs.ItemHeader.{place_of, Header}
+use Rattle.sentry_framing.specs.ItemHeader.{place_of, Header}
 use Rattle.sentry_envelope.specs.Profile.{ItemType, words, FormIsLawful, GivesLawful, TypesAreLawful}
 use Rattle.sentry_envelope.specs.Envelope.{Content, value, ContentShows, ContentShowsAt, given_at, frame_by, frame_at, content_norm, content_norm_at, ContentDemand, ContentMeets, ContentMeetsAt}
 

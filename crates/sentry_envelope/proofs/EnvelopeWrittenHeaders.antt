@@ -11,7 +11,7 @@ use Rattle.sentry_json.proofs.Lines.{tree_of_written, tree_of_sound}
 use Rattle.sentry_tables.specs.Cell.{Cell}
 use Rattle.sentry_tables.proofs.Shown.{SoundIf, found_sound}
 use Rattle.sentry_items.specs.AttachmentWords.{attachment_type_text}
-use Rattle.sentry_envelope.specs.ItemHeader.{◌>>=◌, place_of, optional, whole_number, Header, header_of, read_header}
+use Rattle.sentry_framing.specs.ItemHeader.{◌>>=◌, place_of, optional, whole_number, Header, header_of, read_header}
 use Rattle.sentry_envelope.specs.Profile.{Form, container_form}
 use Rattle.sentry_items.specs.Attached.{Attached, attached_type, attached_content_type, short_header, attachment_header, IsUtf8Option}
 use Rattle.sentry_envelope.specs.Envelope.{Content, attached, opaque, value, item_count, payload_by, container_header}

@@ -9,18 +9,18 @@ use Rattle.sentry_items.specs.declared.attachment.Attachment.{Attachment}
 use Rattle.sentry_items.specs.declared.replay_recording.ReplayRecording.{ReplayRecording}
 use Rattle.sentry_items.specs.declared.item.EnvelopeItem.{EnvelopeItem}
 use Rattle.sentry_items.specs.declared.item.EnvelopeItem.TheVariants as variants
-use Rattle.sentry_envelope.specs.Framing.{Frame, IsFirstFrame, IsFault}
+use Rattle.sentry_framing.specs.Framing.{Frame, IsFirstFrame, IsFault}
 use Rattle.sentry_envelope.specs.EnvelopeFault.{BodyIsAtFault, FrameIsRefused}
 use Rattle.sentry_envelope.specs.Envelope.{item, attached, opaque, reads, attached_by, ItemShows, ItemsStand}
 use Rattle.sentry_envelope.specs.EnvelopeView.{item_view}
-use Rattle.sentry_envelope.specs.HeaderView.{header_view}
-use Rattle.sentry_envelope.specs.ItemHeader.{read_header, stated_length}
-use Rattle.sentry_envelope.specs.ItemWords.{item_words, kind_place}
+use Rattle.sentry_framing.specs.HeaderView.{header_view}
+use Rattle.sentry_framing.specs.ItemHeader.{read_header, stated_length}
+use Rattle.sentry_framing.specs.ItemWords.{item_words, kind_place}
 use Rattle.sentry_envelope.specs.SentryProfile.{profile}
-use Rattle.sentry_envelope.specs.declared.error.EnvelopeError.{EnvelopeError}
-use Rattle.sentry_envelope.specs.declared.error.EnvelopeError.TheVariants.{InvalidItemPayload}
-use Rattle.sentry_envelope.specs.declared.header.ItemHeader.{ItemHeader}
-use Rattle.sentry_envelope.specs.declared.kind.ItemKind.TheVariants as kinds
+use Rattle.sentry_framing.specs.declared.error.EnvelopeError.{EnvelopeError}
+use Rattle.sentry_framing.specs.declared.error.EnvelopeError.TheVariants.{InvalidItemPayload}
+use Rattle.sentry_framing.specs.declared.header.ItemHeader.{ItemHeader}
+use Rattle.sentry_framing.specs.declared.kind.ItemKind.TheVariants as kinds
 use Rattle.sentry_envelope.proofs.EnvelopeReading.{attachment_shows, opaque_shows, items_snoc, body_fault, framing_is_first, payload_is_first}
 use Rattle.sentry_envelope.proofs.SentryProfile.{profile_lawful}
 

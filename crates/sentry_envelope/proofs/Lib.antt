@@ -1,14 +1,3 @@
-pub mod Machine
-pub mod Pieces
-pub mod Scan
-pub mod LineEnds
-pub mod Opening
-pub mod Tails
-pub mod Outcomes
-pub mod Verdicts
-pub mod Faults
-pub mod StatedLengths
-pub mod Written
 pub mod Sent
 pub mod Demands
 pub mod HeaderValues
@@ -29,9 +18,11 @@ pub mod EnvelopeBack
 pub mod EnvelopeNormal
 pub mod EnvelopeForms
 pub mod EnvelopeLaws
+pub mod OneEnvelope
 pub mod EnvelopeWriting
 pub mod EnvelopeFill
 pub mod EnvelopeSample
 pub mod ConservationLemmas
 pub mod LossLemmas
 pub mod FilterLemmas
+pub mod Equal

@@ -6,7 +6,7 @@ use Rattle.serde_json.specs.Written.{compact_text}
 use Rattle.sentry_json.specs.Line.{newline}
 use Rattle.sentry_tables.specs.Cell.{Cell}
 use Rattle.sentry_tables.specs.Written.{tree}
-use Rattle.sentry_envelope.specs.Framing.{Frame}
+use Rattle.sentry_framing.specs.Framing.{Frame}
 use Rattle.sentry_envelope.specs.EnvelopeView.{item_view}
 use Rattle.sentry_envelope.specs.SentryProfile.{without_id, profile}
 use Rattle.sentry_envelope.specs.HeaderFields.{header_kind}

@@ -5,7 +5,7 @@ use Rattle.sentry_tables.proofs.Sound.{ascii_text}
 use Rattle.sentry_tables.specs.Lawful.{IsLawful}
 use Rattle.sentry_envelope.specs.Profile.{ProfileLaws, words}
 use Rattle.sentry_envelope.specs.HeaderFields.{header_kind}
-use Rattle.sentry_envelope.specs.ItemWords.{item_words}
+use Rattle.sentry_framing.specs.ItemWords.{item_words}
 use Rattle.sentry_envelope.specs.SentryProfile.{item_types, profile}
 use Rattle.sentry_keys.proofs.DsnTrees.{dsn_scalar_laws}
 use Rattle.sentry_moments.proofs.MomentSpellings.{rfc3339_refuses_null, rfc3339_scalar_laws}

@@ -5,7 +5,7 @@ use Rattle.sentry_tables.specs.Cell.{Cell, absent}
 use Rattle.sentry_tables.specs.Lawful.{IsMoment}
 use Rattle.sentry_items.specs.declared.item.EnvelopeItem.{EnvelopeItem}
 use Rattle.sentry_items.specs.declared.item.EnvelopeItem.TheVariants as variants
-use Rattle.sentry_envelope.specs.Framing.{IsLineAndBody}
+use Rattle.sentry_framing.specs.Framing.{IsLineAndBody}
 use Rattle.sentry_envelope.specs.Envelope.{Envelope, ItemsStand, Spells, given_by, or_else, first_id, IsEnvelopeStored, IsEnvelopePlain}
 use Rattle.sentry_envelope.specs.EnvelopeFault.{BodyIsAtFault, Fault}
 use Rattle.sentry_envelope.specs.EnvelopeView.{item_view}
@@ -13,8 +13,8 @@ use Rattle.sentry_moments.specs.Moments.{moment_cell}
 use Rattle.sentry_envelope.specs.HeaderFields.{header_kind, fill_id}
 use Rattle.sentry_rows.specs.Reading.{TextShown, TextRefused}
 use Rattle.sentry_envelope.specs.SentryProfile.{item_types, profile}
-use Rattle.sentry_envelope.specs.declared.error.EnvelopeError.{EnvelopeError}
-use Rattle.sentry_envelope.specs.declared.error.EnvelopeError.TheVariants.{InvalidHeader}
+use Rattle.sentry_framing.specs.declared.error.EnvelopeError.{EnvelopeError}
+use Rattle.sentry_framing.specs.declared.error.EnvelopeError.TheVariants.{InvalidHeader}
 use Rattle.sentry_moments.specs.declared.moment.Moment.{Moment}
 use Rattle.sentry_envelope.proofs.EnvelopeLaws.{envelope_laws}
 use Rattle.sentry_envelope.proofs.SentryProfile.{profile_lawful}

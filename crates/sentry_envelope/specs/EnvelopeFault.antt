@@ -3,11 +3,11 @@ use Rattle.std.specs.Prelude.{◌≡◌, ◌≢◌, ◌⊎◌, ℕ, List, [], �
 use Rattle.sentry_tables.specs.Cell.{Cell}
 use Rattle.sentry_tables.specs.Kind.{Kind}
 use Rattle.sentry_tables.specs.Laws.{TextShows}
-use Rattle.sentry_envelope.specs.Framing.{Frame, IsLineAndBody, IsFirstFrame, IsFault}
+use Rattle.sentry_framing.specs.Framing.{Frame, IsLineAndBody, IsFirstFrame, IsFault}
 use Rattle.sentry_envelope.specs.Profile.{Profile}
 use Rattle.sentry_envelope.specs.Envelope.{Item, reads, ItemShows}
-use Rattle.sentry_envelope.specs.declared.error.EnvelopeError.{EnvelopeError}
-use Rattle.sentry_envelope.specs.declared.error.EnvelopeError.TheVariants.{InvalidHeader, InvalidItemPayload}
+use Rattle.sentry_framing.specs.declared.error.EnvelopeError.{EnvelopeError}
+use Rattle.sentry_framing.specs.declared.error.EnvelopeError.TheVariants.{InvalidHeader, InvalidItemPayload}
 
 -- the line shows a value of the kind, at every moment
 abbrev pub LineStands : Kind → List ℕ → Type 0

@@ -5,7 +5,7 @@ use Rattle.sentry_tables.specs.Lawful.{IsMoment}
 use Rattle.sentry_envelope.specs.Profile.{Profile}
 use Rattle.sentry_envelope.specs.Envelope.{Envelope, Spells, envelope_text, envelope_norm, IsEnvelopeStored, IsEnvelopePlain, IsEnvelopeReadable, IsEnvelopeSized}
 use Rattle.sentry_envelope.specs.EnvelopeFault.{Fault}
-use Rattle.sentry_envelope.specs.declared.error.EnvelopeError.{EnvelopeError}
+use Rattle.sentry_framing.specs.declared.error.EnvelopeError.{EnvelopeError}
 
 -- some envelope is spelled, and no error is at fault
 abbrev pub IsSpelled : Profile → List ℕ → Cell → Type 0

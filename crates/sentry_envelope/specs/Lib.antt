@@ -5,13 +5,8 @@ pub mod EnvelopeLaws
 pub mod EnvelopeLosses
 pub mod EnvelopeView
 pub mod Filter
-pub mod Framing
 pub mod HeaderFields
-pub mod HeaderView
-pub mod ItemHeader
-pub mod ItemWords
 pub mod ItemsLeft
+pub mod OneEnvelope
 pub mod Profile
 pub mod SentryProfile
-pub mod Unread
-pub mod View

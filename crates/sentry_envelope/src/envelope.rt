@@ -2,15 +2,15 @@
 ghost use Rattle.std.specs.Prelude.{◌≡◌, map, IfOk};
 ghost use Rattle.sentry_envelope.specs.EnvelopeView.{item_view};
 
-use crate::error::{EnvelopeError, EnvelopeWriteError};
+use crate::error::EnvelopeWriteError;
 use crate::file::read_file;
-use crate::frames::Frames;
 use crate::headers::{EnvelopeHeaders, read_header_line};
 use crate::items::{EnvelopeItemIter, IntoItems};
 use crate::plain::items_are_plain;
 use crate::read::read_items;
 use crate::write::write_envelope;
 use rand_core::Rng;
+use sentry_framing::{EnvelopeError, Frames};
 use sentry_items::EnvelopeItem;
 use sentry_items::counted::{CountedWriter, send, send_plain};
 use sentry_text::{Member, Moment};

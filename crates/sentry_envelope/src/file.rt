@@ -1,7 +1,7 @@
 //! Files.
 ghost use Rattle.std.specs.Prelude.{◌≡◌, ◌⊎◌, IfErr};
 
-use crate::error::EnvelopeError;
+use sentry_framing::EnvelopeError;
 use std::fs;
 use std::io::ErrorKind;
 use std::rt::Files;

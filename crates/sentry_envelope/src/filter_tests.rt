@@ -2,10 +2,11 @@ ghost use Rattle.std.specs.Prelude.{◌≡◌, ◌^◌, ◌-◌, List, Bool, min
 ghost use Rattle.sentry_envelope.specs.EnvelopeView.{no_fields};
 ghost use Rattle.sentry_envelope.specs.Filter.{asked_items, chosen, kept, handed, Leaves};
 
-use crate::envelope::Envelope;
+use crate::envelope::{AddRefused, Envelope};
 use crate::filter::{EnvelopeFilter, EnvelopeFilterCallbacks};
 use crate::headers::EnvelopeHeaders;
-use sentry_items::{Attachment, EnvelopeItem, ReplayRecording};
+use crate::tests::{filtered, recording};
+use sentry_items::{Attachment, EnvelopeItem};
 use std::alloc::{AllocError, Global};
 use std::test::Fail;
 use uuid::Uuid;
@@ -59,127 +60,121 @@ impl EnvelopeFilter for Scribe<'_> {
     }
 }
 
-fn attachment(alloc: Global, name: &str) -> Result<EnvelopeItem, AllocError> {
+/// The item of a name: a recording, or an attachment.
+fn item(alloc: Global, name: &str) -> Result<EnvelopeItem, AllocError> {
+    if name == "recording" {
+        return Ok(recording(alloc));
+    }
     let mut attachment = Attachment::default_in(alloc);
     attachment.filename.push_str(name)?;
     Ok(EnvelopeItem::Attachment(attachment))
 }
 
-fn recording(alloc: Global) -> EnvelopeItem {
-    EnvelopeItem::ReplayRecording(ReplayRecording::default_in(alloc))
-}
-
-/// An envelope of these items, with an id in its header.
-fn envelope_of(alloc: Global, items: Vec<EnvelopeItem>) -> Result<Envelope, Fail> {
+/// An envelope of the items of these names, with an id in its header.
+fn envelope_of(alloc: Global, names: &[&str]) -> Result<Envelope, AddRefused> {
     let headers = EnvelopeHeaders::new().with_event_id(Uuid::from_bytes([7; 16]));
     let mut envelope = Envelope::new(alloc).with_headers(headers);
-    for item in items {
-        envelope.add_item(item)?;
+    for name in names {
+        match item(alloc, name) {
+            Ok(item) => envelope.add_item(item)?,
+            Err(_) => return Err(AddRefused::Memory(EnvelopeItem::Raw)),
+        }
     }
     Ok(envelope)
 }
 
-#[test]
-fn orphans_are_handed_over_last(rt: HostRuntime) -> Result<(), Fail> {
-    let alloc = rt.alloc();
-    let items = vec![in alloc; attachment(alloc, "A")?, attachment(alloc, "B")?]?;
+/// What is left of an envelope by these answers, after just these calls. Its other fields are kept or dropped.
+fn left_by(
+    alloc: Global,
+    envelope: Envelope,
+    answers: &[bool],
+    keep: bool,
+    calls: &str,
+) -> Result<Option<Envelope>, Fail> {
     let mut scribe = Scribe {
-        answers: &[true, false],
+        answers,
         calls: String::new(alloc),
     };
-    let Ok(left) = envelope_of(alloc, items)?.filter_by(alloc, &mut scribe) else {
-        return Err(Fail::from(AllocError));
-    };
-    assert!(rt; left.is_none());
-    assert_eq!(rt; scribe.calls.as_str(), "ask A, ask B, hand B, hand A, ");
+    let left = filtered(alloc, envelope, &mut scribe, keep);
+    if scribe.calls.as_str() != calls {
+        return Err("other calls")?;
+    }
+    match left {
+        Ok(left) => Ok(left),
+        Err(_) => Err(Fail::from(AllocError)),
+    }
+}
+
+/// Whether an envelope holds a recording alone, and no id.
+fn is_a_recording(envelope: Envelope) -> bool {
+    let mut items = envelope.items();
+    matches!(items.next(), Some(EnvelopeItem::ReplayRecording(_)))
+        && items.next().is_none()
+        && envelope.uuid().is_none()
+}
+
+#[test]
+fn orphans_are_handed_over_last(rt: HostRuntime) -> Result<(), Fail> {
+    let envelope = envelope_of(rt.alloc(), &["A", "B"])?;
+    let calls = "ask A, ask B, hand B, hand A, ";
+    assert!(rt; left_by(rt.alloc(), envelope, &[true, false], false, calls)?.is_none());
     Ok(())
 }
 
 #[test]
 fn each_refused_attachment_goes_at_once(rt: HostRuntime) -> Result<(), Fail> {
-    let alloc = rt.alloc();
-    let mut items = Vec::new(alloc);
-    for name in ["A", "B", "C", "D"] {
-        items.push(attachment(alloc, name)?)?;
-    }
-    let mut scribe = Scribe {
-        answers: &[true, false, true, false],
-        calls: String::new(alloc),
-    };
-    let left = envelope_of(alloc, items)?.filter_by(alloc, &mut scribe);
-    assert!(rt; matches!(left, Ok(None)));
+    let envelope = envelope_of(rt.alloc(), &["A", "B", "C", "D"])?;
+    let answers = [true, false, true, false];
     let calls = "ask A, ask B, hand B, ask C, ask D, hand D, hand A, hand C, ";
-    assert_eq!(rt; scribe.calls.as_str(), calls);
+    assert!(rt; left_by(rt.alloc(), envelope, &answers, false, calls)?.is_none());
     Ok(())
 }
 
 #[test]
 fn a_recording_stays_where_attachments_go(rt: HostRuntime) -> Result<(), Fail> {
-    let alloc = rt.alloc();
-    let mut items = vec![in alloc; recording(alloc)]?;
-    for name in ["A", "B", "C"] {
-        items.push(attachment(alloc, name)?)?;
-    }
-    let mut scribe = Scribe {
-        answers: &[true, false, true, false],
-        calls: String::new(alloc),
-    };
-    let Ok(Some(left)) = envelope_of(alloc, items)?.filter_by(alloc, &mut scribe) else {
-        panic!(rt; "nothing left");
-    };
+    let envelope = envelope_of(rt.alloc(), &["recording", "A", "B", "C"])?;
+    let answers = [true, false, true, false];
     let calls = "ask recording, ask A, hand A, ask B, ask C, hand C, hand B, ";
-    assert_eq!(rt; scribe.calls.as_str(), calls);
-    assert!(rt; left.uuid().is_none());
-    let mut items = left.into_items();
-    assert!(rt; items.next() == Some(recording(alloc)));
-    assert!(rt; items.next().is_none());
-    Ok(())
-}
-
-#[test]
-fn no_item_is_no_call(rt: HostRuntime) -> Result<(), Fail> {
-    let alloc = rt.alloc();
-    let mut scribe = Scribe {
-        answers: &[],
-        calls: String::new(alloc),
-    };
-    let left = envelope_of(alloc, Vec::new(alloc))?.filter_by(alloc, &mut scribe);
-    assert!(rt; matches!(left, Ok(None)));
-    let left = envelope_of(alloc, Vec::new(alloc))?.filter_keep_headers(alloc, &mut scribe);
-    assert!(rt; matches!(left, Ok(None)));
-    assert_eq!(rt; scribe.calls.as_str(), "");
-    Ok(())
-}
-
-#[test]
-fn a_raw_envelope_is_asked_about_once(rt: HostRuntime) -> Result<(), Fail> {
-    let alloc = rt.alloc();
-    let mut scribe = Scribe {
-        answers: &[true, false],
-        calls: String::new(alloc),
-    };
-    let left = Envelope::from_bytes_raw(Vec::new(alloc))?.filter_by(alloc, &mut scribe);
-    assert!(rt; left == Ok(Some(Envelope::from_bytes_raw(Vec::new(alloc))?)));
-    assert_eq!(rt; scribe.calls.as_str(), "ask raw, ");
-    let left = Envelope::from_bytes_raw(Vec::new(alloc))?.filter_by(alloc, &mut scribe);
-    assert!(rt; matches!(left, Ok(None)));
-    assert_eq!(rt; scribe.calls.as_str(), "ask raw, ask raw, hand raw, ");
+    assert!(rt; left_by(rt.alloc(), envelope, &answers, false, calls)?.is_some_and(is_a_recording));
     Ok(())
 }
 
 #[test]
 fn the_id_goes_with_its_event(rt: HostRuntime) -> Result<(), Fail> {
+    let envelope = envelope_of(rt.alloc(), &["recording", "A"])?;
+    let calls = "ask recording, ask A, hand A, ";
+    assert!(rt;
+        left_by(rt.alloc(), envelope, &[true, true], true, calls)?.is_some_and(is_a_recording)
+    );
+    Ok(())
+}
+
+#[test]
+fn no_item_is_no_call(rt: HostRuntime) -> Result<(), Fail> {
+    for keep in [false, true] {
+        assert!(rt; left_by(rt.alloc(), envelope_of(rt.alloc(), &[])?, &[], keep, "")?.is_none());
+    }
+    Ok(())
+}
+
+fn raw_envelope(alloc: Global) -> Result<Envelope, Fail> {
+    Ok(Envelope::from_bytes_raw(b"oh stahp!".to_vec(alloc)?)?)
+}
+
+/// Whether a raw envelope is left as it was by a yes.
+fn raw_stays(alloc: Global) -> Result<bool, Fail> {
+    let left = left_by(alloc, raw_envelope(alloc)?, &[true], false, "ask raw, ")?;
+    Ok(left == Some(raw_envelope(alloc)?))
+}
+
+#[test]
+fn a_raw_envelope_is_asked_about_once(rt: HostRuntime) -> Result<(), Fail> {
     let alloc = rt.alloc();
-    let mut scribe = Scribe {
-        answers: &[true, true],
-        calls: String::new(alloc),
-    };
-    let items = vec![in alloc; recording(alloc), attachment(alloc, "A")?]?;
-    let Ok(Some(left)) = envelope_of(alloc, items)?.filter_keep_headers(alloc, &mut scribe) else {
-        panic!(rt; "nothing left");
-    };
-    assert!(rt; left.uuid().is_none());
-    assert_eq!(rt; scribe.calls.as_str(), "ask recording, ask A, hand A, ");
+    assert!(rt; raw_stays(alloc)?);
+    for keep in [false, true] {
+        let calls = "ask raw, hand raw, ";
+        assert!(rt; left_by(alloc, raw_envelope(alloc)?, &[false], keep, calls)?.is_none());
+    }
     Ok(())
 }
 
@@ -214,36 +209,27 @@ fn count_dropped(alloc: Global, envelope: Envelope) -> Result<(Option<Envelope>,
     Ok((left, dropped))
 }
 
-#[test]
-fn closures_count(rt: HostRuntime) -> Result<(), Fail> {
-    let alloc = rt.alloc();
-    for (counts, want) in [(false, 3), (true, 2)] {
-        let mut items = vec![in alloc; recording(alloc)]?;
-        items.push(attachment(alloc, "A")?)?;
-        items.push(attachment(alloc, "B")?)?;
-        let envelope = envelope_of(alloc, items)?;
-        let counted = if counts {
-            count_dropped(alloc, envelope)
-        } else {
-            without_attachments(alloc, envelope)
-        };
-        let Ok((left, count)) = counted else {
-            panic!(rt; "no memory");
-        };
-        let Some(left) = left else {
-            panic!(rt; "nothing left");
-        };
-        assert_eq!(rt; count, want);
-        assert_eq!(rt; left.into_items().count(), 1);
-    }
-    Ok(())
+/// The count, and how many items are left.
+fn counts(counted: Result<(Option<Envelope>, u64), Envelope>) -> Option<(u64, usize)> {
+    let Ok((left, count)) = counted else {
+        return None;
+    };
+    Some((count, left?.into_items().count()))
 }
 
 #[test]
-fn callbacks_collect_what_goes(rt: HostRuntime) -> Result<(), Fail> {
+fn closures_count(rt: HostRuntime) -> Result<(), Fail> {
     let alloc = rt.alloc();
-    let mut items = vec![in alloc; attachment(alloc, "A")?]?;
-    items.push(recording(alloc))?;
+    let names = ["recording", "A", "B"];
+    let asked = without_attachments(alloc, envelope_of(alloc, &names)?);
+    assert!(rt; counts(asked) == Some((3, 1)));
+    let dropped = count_dropped(alloc, envelope_of(alloc, &names)?);
+    assert!(rt; counts(dropped) == Some((2, 1)));
+    Ok(())
+}
+
+/// Keeps attachments, which then go without an event. All that goes is collected.
+fn collected(alloc: Global, envelope: Envelope) -> (Option<Option<Envelope>>, Vec<EnvelopeItem>) {
     let mut dropped = Vec::new(alloc);
     let callbacks = EnvelopeFilterCallbacks::new(
         |item: &EnvelopeItem| matches!(item, EnvelopeItem::Attachment(_)),
@@ -251,11 +237,18 @@ fn callbacks_collect_what_goes(rt: HostRuntime) -> Result<(), Fail> {
             let _ = dropped.push(item);
         },
     );
-    let left = envelope_of(alloc, items)?.filter(alloc, callbacks).ok();
+    let left = envelope.filter(alloc, callbacks).ok();
+    (left, dropped)
+}
+
+#[test]
+fn callbacks_collect_what_goes(rt: HostRuntime) -> Result<(), Fail> {
+    let alloc = rt.alloc();
+    let (left, dropped) = collected(alloc, envelope_of(alloc, &["A", "recording"])?);
     assert!(rt; matches!(left, Some(None)));
-    assert_eq!(rt;
-        dropped,
-        vec![in alloc; recording(alloc), attachment(alloc, "A")?]?
-    );
+    let mut dropped = dropped.into_iter();
+    assert!(rt; dropped.next() == Some(recording(alloc)));
+    assert!(rt; dropped.next() == Some(item(alloc, "A")?));
+    assert!(rt; dropped.next().is_none());
     Ok(())
 }

@@ -4,8 +4,8 @@ ghost use Rattle.std.specs.Prelude.{◌≡◌, ◌≢◌, ◌⊎◌, ◌↔◌, 
 ghost use Rattle.sentry_rows.specs.Reading.{TextShown, TextRefused};
 ghost use Rattle.sentry_envelope.specs.HeaderFields.{header_kind, headers_cell};
 
-use crate::error::EnvelopeError;
 use json::Writer;
+use sentry_framing::EnvelopeError;
 use sentry_keys::Dsn;
 use sentry_moments::{Moment, Rfc3339};
 use sentry_parts::ClientSdkInfo;

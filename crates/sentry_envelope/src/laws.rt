@@ -1,54 +1,31 @@
 // What holds of the definitions alone.
-ghost use Rattle.std.specs.Prelude.{◌≡◌, ◌⊎◌, ◌++◌, [], List, ℕ, Option, Some};
-ghost use Rattle.serde_json.specs.Data.{Data, Members, object};
-ghost use Rattle.serde_json.specs.Written.{compact_text};
-ghost use Rattle.sentry_json.specs.Balanced.{IsBalanced};
+ghost use Rattle.std.specs.Prelude.{◌≡◌, ◌↔◌, true};
+ghost use Rattle.sentry_envelope.specs.declared.envelope.Envelope.{Envelope as Envelopes};
+ghost use Rattle.sentry_envelope.specs.declared.headers.EnvelopeHeaders.{EnvelopeHeaders as Headers};
+ghost use Rattle.sentry_envelope.specs.EnvelopeView.{IsSame};
+ghost use Rattle.sentry_envelope.specs.HeaderFields.{headers_cell};
 ghost use Rattle.sentry_envelope.specs.EnvelopeLaws.{HasOneAnswer, EnvelopesReadBack, EnvelopesAreStable, EnvelopesHaveOneForm, EnvelopesAreRewritten, RewritingTwiceIsOnce};
+ghost use Rattle.sentry_envelope.specs.OneEnvelope.{HasOneEnvelope};
 ghost use Rattle.sentry_envelope.specs.SentryProfile.{profile};
-ghost use Rattle.sentry_envelope.specs.Framing.{Reading, Frame, IsFirstFrame, HasOneVerdict, HasSize, IsLineAndBody, with_line};
 
+use crate::envelope::Envelope;
 pub use crate::filter_laws::{
     each_item_is_kept_or_handed_over, losses_are_conserved, parts_are_conserved,
 };
-
-/// No balanced piece is a proper beginning of another.
-pub fn no_piece_begins_another()
-    ensures { (p q rest : List ℕ) → IsBalanced p → IsBalanced q → p ++ rest ≡ q → rest ≡ [] }
-{}
-
-/// Bytes begin with a balanced piece, or with none.
-pub fn a_piece_or_none()
-    ensures { (bytes : List ℕ) → ((piece rest : List ℕ) × IsBalanced piece × (bytes ≡ piece ++ rest))
-        ⊎ ((piece rest : List ℕ) → IsBalanced piece → bytes ≡ piece ++ rest → ⊥) }
-{}
-
-/// A body has at most one first frame, and one body that follows it.
-pub fn one_first_frame()
-    ensures { (reads : Reading) (body : List ℕ) (f g : Frame) (r s : List ℕ) →
-        IsFirstFrame reads body f r → IsFirstFrame reads body g s → (f ≡ g) × (r ≡ s) }
-{}
-
-/// For each body exactly one holds: it is framed, or one error is at fault.
-pub fn one_verdict()
-    ensures { (reads : Reading) (body : List ℕ) → HasOneVerdict reads body }
-{}
-
-/// A written header line, and what follows it, are read as that line and that body.
-pub fn a_written_line_is_read()
-    ensures { (tree : Data) (body : List ℕ) → IsLineAndBody (with_line (compact_text tree) body) (compact_text tree) body }
-{}
-
-/// A written item is read as the first frame, whatever body follows it.
-pub fn a_written_item_is_read()
-    ensures { (reads : Reading) (members : Members) (stated : Option ℕ) (payload body : List ℕ) →
-        reads (compact_text (object members)) ≡ Some stated → HasSize stated payload →
-        IsFirstFrame reads (with_line (compact_text (object members)) (with_line payload body))
-        (record { header = compact_text (object members); payload = payload }) body }
-{}
+use crate::headers::EnvelopeHeaders;
+pub use sentry_framing::laws::{
+    a_piece_or_none, a_written_item_is_read, a_written_line_is_read, no_piece_begins_another,
+    one_first_frame, one_verdict,
+};
 
 /// For all bytes, at each moment, exactly one holds: some envelope is spelled, or one error is at fault.
 pub fn one_answer()
     ensures { HasOneAnswer profile }
+{}
+
+/// At each moment bytes spell at most one envelope: no item or header that is carried now draws an id.
+pub fn one_envelope()
+    ensures { HasOneEnvelope profile }
 {}
 
 /// At each moment the text of a stored, plain, readable and sized envelope spells its normal form, and nothing else.
@@ -74,4 +51,11 @@ pub fn rewritten()
 /// Reading what is rewritten, and writing again, gives the same bytes.
 pub fn twice()
     ensures { RewritingTwiceIsOnce profile }
+{}
+
+/// Two headers are equal exactly where their fields are the same, and two envelopes where their headers and what
+/// they hold are the same.
+pub fn equal_envelopes()
+    ensures headers { (a b : Headers) → ⟦<EnvelopeHeaders as PartialEq>⟧.eq a b ≡ true ↔ (headers_cell a ≡ headers_cell b) }
+    ensures envelopes { (a b : Envelopes) → ⟦<Envelope as PartialEq>⟧.eq a b ≡ true ↔ IsSame a b }
 {}

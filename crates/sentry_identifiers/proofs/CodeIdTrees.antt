@@ -1,6 +1,7 @@
 -- The spelling of code identifiers is lawful.
 use Rattle.std.proofs.Common.{◌≡◌, ◌<◌, ℕ, List, true, get_or, Some, refl, ap, arith}
 use Rattle.std.proofs.lemmas.Bool.Decides.{nat_tests}
+use Rattle.std.proofs.lemmas.Option.{same_Some}
 use Rattle.std.proofs.lemmas.List.Sums.{AllPass-from_list_all}
 use Rattle.sentry_tables.specs.Cell.{Cell, text}
 use Rattle.sentry_tables.specs.Lawful.{IsLawful, IsNormal, RefusesNull}
@@ -22,16 +23,13 @@ of_digits : (c : Cell) → IsCodeCell c → (s : List ℕ) × Digits s × (text 
 of_digits (text s) h = (s, h, refl)
 of_digits _ h = absurd h
 
-inside : (a b : List ℕ) → Some a ≡ Some b → a ≡ b
-inside a b e = cc
-
 code_values : ValueLaws (λ s. Some (code_digits s)) (λ s. s) Digits text word_of IsCodeCell
 code_values = record {
   value = of_digits;
   stored = λ s h. h;
   text = λ s h. refl;
   back = λ s h. ap Some (digits_are_kept s h);
-  held = λ s ds e. let same = inside (code_digits s) ds e in let kept = kept_are_digits s in cc;
+  held = λ s ds e. let same = same_Some (code_digits s) ds e in let kept = kept_are_digits s in cc;
   utf8 = λ s h. small_utf8 s (small_within 128 s (omega arith) (λ k within. digit_small (get_or s k 0) (AllPass-from_list_all is_code_digit s h k 0 within)));
 }
 

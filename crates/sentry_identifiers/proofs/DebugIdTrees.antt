@@ -1,9 +1,7 @@
 -- The spelling of debug identifiers is lawful.
 use Rattle.std.proofs.Common.{◌≡◌, ◌⊎◌, ◌==◌, ◌&&◌, ◌+◌, ◌*◌, ◌<◌, ◌^◌, ℕ, List, [], ◌∷◌, length, Bool, true, false, cond, get_or, slice_index, Some, None, inl, inr, refl, sym, subst, arith, All, IsUtf8, eqb-true, lit<}
 use Rattle.std.specs.List.{list_all}
-use Rattle.std.specs.Char.{digit_value}
 use Rattle.std.specs.Fmt.{digits}
-use Rattle.std.specs.Str.Parse.{AllDigits}
 use Rattle.std.proofs.lemmas.Bool.{and_parts, cases_eq, cond-true, cond-false, eq-eqb, ne_eqb}
 use Rattle.std.proofs.lemmas.Bool.Decides.{nat_tests}
 use Rattle.std.proofs.lemmas.Fmt.{digits_is_IsNumeral}
@@ -20,7 +18,7 @@ use Rattle.sentry_identifiers.specs.DebugId.{IsAppendix, debug_id_of, debug_id_t
 use Rattle.sentry_identifiers.specs.DebugIdTree.{debug_cell, IsDebugCell, debug_text, debug_spelling, debug_kind}
 use Rattle.sentry_identifiers.proofs.DebugIds.{debug_id_of_iff, written_debug_id, eight_digits}
 use Rattle.sentry_identifiers.proofs.ValueTexts.{ValueLaws, value_laws, value_normal}
-use Rattle.sentry_identifiers.proofs.Bounds.{Small, small_nil, small_cons, small_utf8}
+use Rattle.sentry_identifiers.proofs.Bounds.{small_cons, small_utf8, digits_small}
 
 -- ---- what is read has sixteen bytes and 32 bits
 
@@ -60,13 +58,6 @@ tail_bits s n (inl (none, is)) = omega (arith, is)
 tail_bits s n (inr (rest, e, digits, short, is)) = let small = eight_digits rest (digits, short) in omega (arith, small, is)
 
 -- ---- texts are ASCII
-
-hex_small : (c : ℕ) → digit_value c < 16 → c < 128
-hex_small c h = grind (arith, nat_tests)
-
-digits_small : (ds : List ℕ) → AllDigits 16 ds → Small 128 ds
-digits_small [] all = small_nil 128 (omega arith)
-digits_small (c ∷ ds) all = small_cons 128 c ds (hex_small c all.0) (digits_small ds all.1)
 
 tail_utf8 : (n : ℕ) → n < 2 ^ 32 → IsUtf8 (appendix_text n)
 tail_utf8 n small =

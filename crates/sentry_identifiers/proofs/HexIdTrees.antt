@@ -1,5 +1,5 @@
 -- Ids of spans and traces as texts of trees are lawful.
-use Rattle.std.proofs.Common.{◌≡◌, ◌/◌, ◌%◌, ◌<◌, ℕ, zero, suc, List, [], ◌∷◌, length, slice_index, replicate, Option, Some, None, option_map, refl, ap, subst, arith, IsUtf8}
+use Rattle.std.proofs.Common.{◌≡◌, ◌/◌, ◌%◌, ◌<◌, ℕ, zero, suc, List, [], ◌∷◌, length, slice_index, replicate, refl, ap, arith}
 use Rattle.std.specs.Str.{IsAscii}
 use Rattle.std.proofs.lemmas.Str.{IsUtf8-from_ascii}
 use Rattle.std.proofs.lemmas.Bool.Decides.{nat_tests}
@@ -7,12 +7,11 @@ use Rattle.hex.specs.Hex.{IsBytes, encode_lower, encode_with, lower_digits}
 use Rattle.sentry_tables.specs.Cell.{Cell, octets}
 use Rattle.sentry_tables.specs.Kind.{draw}
 use Rattle.sentry_tables.specs.Lawful.{IsNormal, RuleLaws}
-use Rattle.sentry_tables.proofs.Basic.{WordLaws}
 use Rattle.sentry_rows.specs.Spelling.{SpellingLaws, spelled_kind}
 use Rattle.sentry_rows.proofs.Spellings.{read_as_laws, spelled_refuses_null}
 use Rattle.sentry_identifiers.specs.HexId.{hex_id_of}
 use Rattle.sentry_identifiers.specs.HexIdTree.{IsOctets, hex_text, hex_id_spelling}
-use Rattle.sentry_identifiers.proofs.TextTrees.{read_as_normal}
+use Rattle.sentry_identifiers.proofs.ValueTexts.{ValueLaws, value_laws, value_normal}
 use Rattle.sentry_identifiers.proofs.HexIds.{digit_of, hex_id_of_iff, written_id}
 
 -- ---- the written text is ASCII
@@ -30,43 +29,30 @@ digits_ascii (b ∷ bs) fits (suc (suc i)) = digits_ascii bs (λ k. fits (suc k)
 -- ---- the laws
 
 module _ (n : ℕ) where
-  -- what is stored is n bytes
-  of_bytes : (P : Cell → Type 0) → ((b : List ℕ) → length b ≡ n → IsBytes b → P (octets b)) → (c : Cell) → IsOctets n c → P c
-  of_bytes P f (octets b) h = f b h.0 h.1
-  of_bytes P f _ h = absurd h
+  abbrev AreBytes : List ℕ → Type 0
+  AreBytes bytes = (length bytes ≡ n) × IsBytes bytes
 
-  inside : (a c : Cell) → Some a ≡ Some c → a ≡ c
-  inside a c e = cc
+  of_octets : (c : Cell) → IsOctets n c → (bytes : List ℕ) × AreBytes bytes × (octets bytes ≡ c)
+  of_octets (octets bytes) h = (bytes, h, refl)
+  of_octets _ h = absurd h
 
-  -- and so is what is read
-  read_bytes : (P : Cell → Type 0) → (o : Option (List ℕ)) (c : Cell) → ((b : List ℕ) → o ≡ Some b → P (octets b)) → option_map octets o ≡ Some c → P c
-  read_bytes P None c f e = absurd (cc)
-  read_bytes P (Some b) c f e = subst P (inside (octets b) c e) (f b refl)
-
-  abbrev reads : List ℕ → Option Cell
-  reads text = option_map octets (hex_id_of n text)
-
-  back : (b : List ℕ) → length b ≡ n → IsBytes b → reads (hex_text (octets b)) ≡ Some (octets b)
-  back b long fits = ap (option_map octets) (written_id n b long fits)
-
-  read_is_stored : (text b : List ℕ) → hex_id_of n text ≡ Some b → IsOctets n (octets b)
-  read_is_stored text b e = let id = (hex_id_of_iff n text b).0 e in (id.size, id.are_bytes)
-
-  hex_id_words : WordLaws reads hex_text (IsOctets n)
-  hex_id_words = record {
-    reads = λ c p. (c, of_bytes (λ x. reads (hex_text x) ≡ Some x) back c p);
-    stored = λ text c utf8 e. read_bytes (IsOctets n) (hex_id_of n text) c (read_is_stored text) e;
-    stable = λ text c e. of_bytes (λ x. reads (hex_text x) ≡ Some x) back c (read_bytes (IsOctets n) (hex_id_of n text) c (read_is_stored text) e);
-    utf8 = of_bytes (λ c. IsUtf8 (hex_text c)) (λ b long fits. IsUtf8-from_ascii (encode_lower b) (digits_ascii b fits));
+  id_values : ValueLaws (hex_id_of n) encode_lower AreBytes octets hex_text (IsOctets n)
+  id_values = record {
+    value = of_octets;
+    stored = λ bytes h. h;
+    text = λ bytes h. refl;
+    back = λ bytes h. written_id n bytes h.0 h.1;
+    held = λ s bytes e. let id = (hex_id_of_iff n s bytes).0 e in (id.size, id.are_bytes);
+    utf8 = λ bytes h. IsUtf8-from_ascii (encode_lower bytes) (digits_ascii bytes h.1);
   }
 
   pub hex_id_laws : SpellingLaws (hex_id_spelling n)
-  hex_id_laws = read_as_laws reads hex_text (IsOctets n) hex_id_words
+  hex_id_laws = read_as_laws _ hex_text (IsOctets n) (value_laws (hex_id_of n) encode_lower AreBytes octets hex_text (IsOctets n) id_values)
 
   -- ---- what may be drawn
 
   id_is_normal : (c : Cell) → IsOctets n c → IsNormal (spelled_kind (hex_id_spelling n)) c
-  id_is_normal c p = read_as_normal reads hex_text (IsOctets n) c p (of_bytes (λ x. reads (hex_text x) ≡ Some x) back c p)
+  id_is_normal = value_normal (hex_id_of n) encode_lower AreBytes octets hex_text (IsOctets n) id_values
 
   zeros_are_bytes : (k : ℕ) → IsBytes (replicate k 0)
   zeros_are_bytes zero i = omega arith

@@ -1,10 +1,11 @@
 -- Spellings of values that a function reads from texts.
-use Rattle.std.proofs.Common.{◌≡◌, ℕ, List, Option, Some, option_map, Result, Ok, Err, IfOk, unwrap_or, refl, sym, ap, ◌∙◌, subst, IsUtf8}
+use Rattle.std.proofs.Common.{◌≡◌, ℕ, List, Option, Some, option_map, sym, ap, ◌∙◌, subst, IsUtf8}
 use Rattle.std.proofs.NetLemmas.Options.{map_some}
 use Rattle.sentry_tables.specs.Cell.{Cell}
 use Rattle.sentry_tables.specs.Lawful.{IsNormal}
 use Rattle.sentry_tables.proofs.Basic.{WordLaws}
 use Rattle.sentry_rows.specs.Spelling.{read_as, spelled_kind}
+use Rattle.sentry_rows.proofs.Spellings.{read_as_normal}
 
 -- `A`, which `of` reads and `to` writes, as cells, which `written` writes
 module _ {A : Type 0} (of : List ℕ → Option A) (to : A → List ℕ) (Held : A → Type 0) (cell : A → Cell) (written : Cell → List ℕ) (Stored : Cell → Type 0) where
@@ -40,7 +41,7 @@ module _ {A : Type 0} (of : List ℕ → Option A) (to : A → List ℕ) (Held :
 
     -- each value is its own normal form
     pub value_normal : (c : Cell) → Stored c → IsNormal (spelled_kind (read_as reads written Stored)) c
-    value_normal c p = let v = own.value c p in (p, tt, tt, ap (λ o. unwrap_or o c) (subst (λ x. reads (written x) ≡ Some x) v.2 (back v.0 v.1)))
+    value_normal c p = let v = own.value c p in read_as_normal reads written Stored c p (subst (λ x. reads (written x) ≡ Some x) v.2 (back v.0 v.1))
 
   -- ---- what a reader of the text answers
 
@@ -49,10 +50,3 @@ module _ {A : Type 0} (of : List ℕ → Option A) (to : A → List ℕ) (Held :
 
   pub value_refused : (s : List ℕ) → ((a : A) → of s ≡ Some a → ⊥) → (c : Cell) → reads s ≡ Some c → ⊥
   value_refused s none c e = map_some cell (of s) c e (λ a is same. none a is)
-
--- ---- what `printed` answers
-
-pub printed_as : {B E : Type 0} (bytes : B → List ℕ) (r : Result B E) (shown wanted : List ℕ) → IfOk r (λ s. (text : List ℕ) → Some shown ≡ Some text → bytes s ≡ text) → shown ≡ wanted
-    → IfOk r (λ s. bytes s ≡ wanted)
-printed_as bytes (Ok s) shown wanted h e = h shown refl ∙ e
-printed_as bytes (Err x) shown wanted h e = tt

@@ -1,15 +1,10 @@
 pub mod Number
-pub mod Crontab
-pub mod Address
 pub mod HexId
 pub mod DebugId
 pub mod ProjectId
-pub mod Ip
 pub mod CodeDigits
 pub mod CodeId
 pub mod HexIdTree
-pub mod AddressTree
 pub mod ProjectTree
 pub mod DebugIdTree
 pub mod CodeIdTree
-pub mod IpTree

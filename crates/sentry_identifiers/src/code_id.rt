@@ -88,9 +88,7 @@ impl Spelled for CodeId {
         self.clone()
     }
 
-    fn hold(&self) {
-        let _digits = self.as_str();
-    }
+    fn hold(&self) {}
 }
 
 #[cfg(test)]

@@ -1,9 +1,8 @@
-use crate::{Addr, OrganizationId, OrganizationText, ProjectId, RegVal, SpanId, TraceId};
+use crate::{CodeId, DebugId, OrganizationId, OrganizationText, ProjectId, SpanId, TraceId};
 use json::Writer;
 use rand_core::{Rng, SeedableRng};
 use rand_pcg::Pcg32;
 use sentry_rows::draw::or_drawn_as;
-use sentry_rows::member::Usual;
 use sentry_rows::rows::required_as;
 use sentry_rows::{Codec, FromTree, Member, Own, TreeError, read_line, read_tree, text_of};
 use std::alloc::Global;
@@ -29,42 +28,6 @@ fn is_misfit<T: FromTree>(alloc: Global, line: &str) -> bool {
         read_line::<T>(alloc, line.as_bytes()),
         Err(TreeError::Misfit)
     )
-}
-
-#[test]
-fn addresses(rt: HostRuntime) -> Result<(), Fail> {
-    let alloc = rt.alloc();
-    for (line, shown) in [
-        ("\"0x+2a\"", "\"0x2a\""),
-        ("\"42\"", "\"0x2a\""),
-        ("42", "\"0x2a\""),
-        ("0", "\"0x0\""),
-        ("-1", "\"0xffffffffffffffff\""),
-        ("-9223372036854775808", "\"0x8000000000000000\""),
-        ("18446744073709551615", "\"0xffffffffffffffff\""),
-    ] {
-        assert_eq!(rt; rewritten::<Addr>(alloc, line)?.as_str(), shown, "{line}");
-        assert_eq!(rt; rewritten::<RegVal>(alloc, line)?.as_str(), shown, "{line}");
-    }
-    for line in [
-        "18446744073709551616",
-        "-9223372036854775809",
-        "1.0",
-        "null",
-        "true",
-        "[42]",
-        "\"\"",
-        "\"-1\"",
-        "\"banana\"",
-    ] {
-        assert!(rt; is_misfit::<Addr>(alloc, line), "{line}");
-        assert!(rt; is_misfit::<RegVal>(alloc, line), "{line}");
-    }
-    let top: Addr = read_line(alloc, b"-1")?;
-    assert_eq!(rt; top, Addr::from(-1i32));
-    assert!(rt; Addr(0).is(&Addr::default()));
-    assert!(rt; !top.is(&Addr::default()));
-    Ok(())
 }
 
 #[test]
@@ -160,6 +123,48 @@ fn organization_ids(rt: HostRuntime) -> Result<(), Fail> {
             required_as::<OrganizationText, OrganizationId>(alloc, &tree, key).is_err(),
             "{key}"
         );
+    }
+    Ok(())
+}
+
+#[test]
+fn debug_ids(rt: HostRuntime) -> Result<(), Fail> {
+    let alloc = rt.alloc();
+    for (line, shown) in [
+        (
+            "\"DFB8E43AF2423D73A453AEB6A777EF75-A\"",
+            "\"dfb8e43a-f242-3d73-a453-aeb6a777ef75-a\"",
+        ),
+        (
+            "\"DFB8E43AF2423D73A453AEB6A777EF75-0\"",
+            "\"dfb8e43a-f242-3d73-a453-aeb6a777ef75\"",
+        ),
+    ] {
+        assert_eq!(rt; rewritten::<DebugId>(alloc, line)?.as_str(), shown);
+        assert_eq!(rt; rewritten::<DebugId>(alloc, shown)?.as_str(), shown);
+    }
+    for line in [
+        "null",
+        "7",
+        "{}",
+        "\"\"",
+        "\"DFB8E43AF2423D73A453AEB6A777EF75-+1\"",
+    ] {
+        assert!(rt; is_misfit::<DebugId>(alloc, line), "{line}");
+    }
+    Ok(())
+}
+
+#[test]
+fn code_ids(rt: HostRuntime) -> Result<(), Fail> {
+    let alloc = rt.alloc();
+    assert_eq!(rt;
+        rewritten::<CodeId>(alloc, "\"AB-cd!g1\"")?.as_str(),
+        "\"abcd1\""
+    );
+    assert_eq!(rt; rewritten::<CodeId>(alloc, "\"\"")?.as_str(), "\"\"");
+    for line in ["null", "7", "[]", "false"] {
+        assert!(rt; is_misfit::<CodeId>(alloc, line), "{line}");
     }
     Ok(())
 }

@@ -1,36 +1,32 @@
 //! Laws of the texts: each is read from what writes it and from nothing else, and what is printed is
 //! read back.
 
-ghost use Rattle.std.specs.Prelude.{◌≡◌, ◌<◌, ◌^◌, ◌↔◌, IsTrue, ℕ, List, Some, length, All, decimal};
-ghost use Rattle.sentry_identifiers.specs.declared.ip.IpAddress.{IpAddress};
-ghost use Rattle.std.specs.declared.net.ip_addr.IpAddr.{IpAddr};
-ghost use Rattle.std.specs.Net.Grammar.{IsIpText};
-ghost use Rattle.std.specs.Net.Text.{ip_text};
-ghost use Rattle.sentry_identifiers.specs.Ip.{IsIpAddress, IsStoredIp, IsStoredIpAddress, ip_of, ip_address_of, ip_address_text};
-ghost use Rattle.sentry_identifiers.specs.DebugId.{IsDebugId, debug_id_of, debug_id_text};
+ghost use Rattle.std.specs.Prelude.{◌≡◌, ◌<◌, ◌^◌, ◌↔◌, true, IsTrue, ℕ, List, Some, length, All, decimal};
+ghost use Rattle.sentry_identifiers.specs.DebugId.{IsDebugId, debug_id_of, debug_id_text, debug_parts};
 ghost use Rattle.sentry_identifiers.specs.CodeDigits.{code_digits, are_code_digits};
 ghost use Rattle.hex.specs.Hex.{IsBytes, encode_lower};
-ghost use Rattle.sentry_identifiers.specs.HexId.{IsHexId, hex_id_of};
+ghost use Rattle.sentry_identifiers.specs.HexId.{IsHexId, hex_id_of, span_bytes, trace_bytes};
 ghost use Rattle.sentry_identifiers.specs.Number.{IsNumber, number_of};
-ghost use Rattle.sentry_identifiers.specs.Address.{IsAddress, address_of, address_text};
 ghost use Rattle.sentry_tables.specs.Cell.{Cell};
 ghost use Rattle.sentry_tables.specs.Basic.{IsText};
 ghost use Rattle.sentry_tables.specs.Kind.{draw};
 ghost use Rattle.sentry_tables.specs.Lawful.{IsNormal, RefusesNull, RuleLaws};
 ghost use Rattle.sentry_tables.specs.Laws.{HasLaws};
 ghost use Rattle.sentry_rows.specs.Cells.{natural_cell};
-ghost use Rattle.sentry_identifiers.specs.AddressTree.{address_kind};
 ghost use Rattle.sentry_identifiers.specs.HexIdTree.{IsOctets, span_kind, trace_kind};
 ghost use Rattle.sentry_identifiers.specs.ProjectTree.{project_kind, organization_kind, organization_text_kind};
 ghost use Rattle.sentry_identifiers.specs.DebugIdTree.{IsDebugCell, debug_kind};
 ghost use Rattle.sentry_identifiers.specs.CodeIdTree.{IsCodeCell, code_kind};
-ghost use Rattle.sentry_identifiers.specs.IpTree.{IsIpCell, ip_kind, IsIpAddressCell, ip_address_kind};
+ghost use Rattle.sentry_identifiers.specs.CodeId.{code_text};
+ghost use Rattle.sentry_identifiers.specs.ProjectId.{project_text, organization_value};
+ghost use Rattle.sentry_identifiers.specs.declared.span_id.SpanId.{SpanId as SpanIds};
+ghost use Rattle.sentry_identifiers.specs.declared.trace_id.TraceId.{TraceId as TraceIds};
+ghost use Rattle.sentry_identifiers.specs.declared.debug_id.DebugId.{DebugId as DebugIds};
+ghost use Rattle.sentry_identifiers.specs.declared.code_id.CodeId.{CodeId as CodeIds};
+ghost use Rattle.sentry_identifiers.specs.declared.project_id.ProjectId.{ProjectId as ProjectIds};
+ghost use Rattle.sentry_identifiers.specs.declared.project_id.OrganizationId.{OrganizationId as OrganizationIds};
 
-/// Addresses and register values.
-pub fn addresses()
-    ensures texts { (text : List ℕ) (n : ℕ) → address_of text ≡ Some n ↔ IsAddress text n }
-    ensures read_back { (n : ℕ) → n < 2 ^ 64 → address_of (address_text n) ≡ Some n }
-{}
+use crate::{CodeId, DebugId, OrganizationId, ProjectId, SpanId, TraceId};
 
 /// Ids of spans (8 bytes) and traces (16 bytes).
 pub fn hex_ids()
@@ -52,29 +48,10 @@ pub fn numbers()
     ensures read_back { (n : ℕ) → n < 2 ^ 64 → number_of 10 (decimal n) ≡ Some n }
 {}
 
-/// IP addresses.
-pub fn ips()
-    ensures texts { (text : List ℕ) (ip : IpAddr) → ip_of text ≡ Some ip ↔ IsIpText text ip }
-    ensures read_back { (ip : IpAddr) → IsStoredIp ip → ip_of (ip_text ip) ≡ Some ip }
-{}
-
-/// IP addresses of users.
-pub fn ip_addresses()
-    ensures texts { (text : List ℕ) (a : IpAddress) → ip_address_of text ≡ Some a ↔ IsIpAddress text a }
-    ensures read_back { (a : IpAddress) → IsStoredIpAddress a → ip_address_of (ip_address_text a) ≡ Some a }
-{}
-
 /// Code identifiers.
 pub fn code_ids()
     ensures digits { (text : List ℕ) → IsTrue (are_code_digits (code_digits text)) }
     ensures read_back { (digits : List ℕ) → IsTrue (are_code_digits digits) → code_digits digits ≡ digits }
-{}
-
-/// Addresses and register values in trees; each is its own normal form.
-pub fn address_trees()
-    ensures laws { HasLaws address_kind }
-    ensures no_null { RefusesNull address_kind }
-    ensures normal { (n : ℕ) → n < 2 ^ 64 → IsNormal address_kind (natural_cell n) }
 {}
 
 /// Ids of spans and traces in trees; any bytes may be drawn, and each id is its own normal form.
@@ -116,16 +93,12 @@ pub fn code_id_trees()
     ensures normal { (c : Cell) → IsCodeCell c → IsNormal code_kind c }
 {}
 
-/// IP addresses in trees; each reads back, and is its own normal form.
-pub fn ip_trees()
-    ensures laws { HasLaws ip_kind }
-    ensures no_null { RefusesNull ip_kind }
-    ensures normal { (c : Cell) → IsIpCell c → IsNormal ip_kind c }
-{}
-
-/// IP addresses of users in trees; each reads back, and is its own normal form.
-pub fn ip_address_trees()
-    ensures laws { HasLaws ip_address_kind }
-    ensures no_null { RefusesNull ip_address_kind }
-    ensures normal { (c : Cell) → IsIpAddressCell c → IsNormal ip_address_kind c }
+/// Two ids are equal exactly where their bytes, parts, texts or numbers are the same.
+pub fn equal_ids()
+    ensures spans { (a b : SpanIds) → ⟦<SpanId as PartialEq>⟧.eq a b ≡ true ↔ (span_bytes a ≡ span_bytes b) }
+    ensures traces { (a b : TraceIds) → ⟦<TraceId as PartialEq>⟧.eq a b ≡ true ↔ (trace_bytes a ≡ trace_bytes b) }
+    ensures debug_ids { (a b : DebugIds) → ⟦<DebugId as PartialEq>⟧.eq a b ≡ true ↔ (debug_parts a ≡ debug_parts b) }
+    ensures code_ids { (a b : CodeIds) → ⟦<CodeId as PartialEq>⟧.eq a b ≡ true ↔ (code_text a ≡ code_text b) }
+    ensures projects { (a b : ProjectIds) → ⟦<ProjectId as PartialEq>⟧.eq a b ≡ true ↔ (project_text a ≡ project_text b) }
+    ensures organizations { (a b : OrganizationIds) → ⟦<OrganizationId as PartialEq>⟧.eq a b ≡ true ↔ (organization_value a ≡ organization_value b) }
 {}

@@ -11,8 +11,12 @@ use thiserror::Error;
 #[error("ParseNumberError")]
 pub struct ParseNumberError;
 
-// A number in this base, with or without a plus before its digits.
-pub(crate) fn parse_number(text: &str, base: u32) -> Result<u64, ParseNumberError>
+/// The number that the text writes in this base, with or without a plus before its digits.
+///
+/// # Errors
+///
+/// `ParseNumberError` where the text is no such number, or the number has more than 64 bits.
+pub fn parse_number(text: &str, base: u32) -> Result<u64, ParseNumberError>
     requires low { 2 ≤ base }
     requires high { base ≤ 16 }
     ensures { result_ok result ≡ number_of base text.now }

@@ -3,9 +3,7 @@ use Rattle.std.proofs.Common.{refl}
 use Rattle.sentry_tables.specs.Laws.{HasLaws}
 use Rattle.sentry_rows.specs.Spelling.{SpellingLaws}
 use Rattle.sentry_words.proofs.Enumerations.{ReadsItsWords, words_laws, spelled_has_laws}
-use Rattle.sentry_items.specs.declared.category.Category.{Category}
 use Rattle.sentry_items.specs.declared.category.Category.TheVariants as category
-use Rattle.sentry_items.specs.declared.reason.Reason.{Reason}
 use Rattle.sentry_items.specs.declared.reason.Reason.TheVariants as reason
 use Rattle.sentry_items.specs.Categories.{category_word, category_of, category_spelling, category_kind, reason_word, reason_of, reason_spelling, reason_kind}
 

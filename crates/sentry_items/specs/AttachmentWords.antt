@@ -1,7 +1,8 @@
 -- The types of attachments: five known words, and any other text.
-use Rattle.std.specs.Prelude.{◌≡◌, ℕ, zero, suc, List, [], ◌∷◌, true, codes, cond, IsUtf8}
+use Rattle.std.specs.Prelude.{◌≡◌, ℕ, zero, suc, List, [], ◌∷◌, true, Some, codes, cond, IsUtf8}
 use Rattle.sentry_tables.specs.Cell.{Cell, text, choice}
-use Rattle.sentry_tables.specs.Kind.{has_key}
+use Rattle.sentry_tables.specs.Kind.{Kind, has_key}
+use Rattle.sentry_rows.specs.Spelling.{Spelling, read_as, spelled_kind}
 
 abbrev pub attachment_words : List (List ℕ)
 attachment_words =
@@ -40,3 +41,10 @@ abbrev pub IsAttachmentType : Cell → Type 0
 IsAttachmentType (choice zero c) = IsKnownWord c
 IsAttachmentType (choice (suc zero) c) = IsUtf8Text c
 IsAttachmentType _ = ⊥
+
+-- each text is read as a type, and a type is written as its text
+abbrev pub attachment_type_spelling : Spelling
+attachment_type_spelling = read_as (λ word. Some (attachment_type_of word)) attachment_type_text IsAttachmentType
+
+abbrev pub attachment_type_kind : Kind
+attachment_type_kind = spelled_kind attachment_type_spelling

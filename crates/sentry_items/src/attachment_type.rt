@@ -1,5 +1,6 @@
 //! What an attachment is for.
 
+use sentry_rows::{Room, Spelled, TreeError};
 use std::alloc::{AllocError, Global};
 
 /// The type of an attachment.
@@ -71,5 +72,30 @@ impl AttachmentType {
             AttachmentType::UnrealLogs => Ok(AttachmentType::UnrealLogs),
             AttachmentType::Custom(text) => Ok(AttachmentType::Custom(text.clone()?)),
         }
+    }
+}
+
+impl Spelled for AttachmentType {
+    ghost use Rattle.sentry_items.specs.AttachmentWords.{attachment_type_spelling};
+    ghost use Rattle.sentry_items.specs.View.{attachment_type_cell};
+
+    ghost spelling = { attachment_type_spelling };
+
+    ghost cell_of = { attachment_type_cell };
+
+    fn of_text(alloc: Global, text: &str) -> Result<AttachmentType, TreeError> {
+        Ok(AttachmentType::from_text(alloc, text)?)
+    }
+
+    fn text<'a>(&'a self, _room: &'a mut Room) -> Result<&'a str, AllocError> {
+        Ok(self.as_str())
+    }
+
+    fn copied(&self) -> Result<AttachmentType, AllocError> {
+        self.clone()
+    }
+
+    fn hold(&self) {
+        let _text = self.as_str();
     }
 }

@@ -1,13 +1,23 @@
 //! What holds of the definitions that the contracts of this crate cite.
-ghost use Rattle.std.specs.Prelude.{◌≡◌, Some, slice_get};
+ghost use Rattle.std.specs.Prelude.{◌≡◌, ◌↔◌, true, Some, codes, slice_get};
 ghost use Rattle.sentry_tables.specs.Laws.{HasLaws};
 ghost use Rattle.sentry_words.specs.Lookup.{HasEachOnce};
+ghost use Rattle.sentry_items.specs.AttachmentWords.{attachment_type_kind, known};
+ghost use Rattle.sentry_items.specs.View.{attachment_type_cell, attachment_view, item_view};
+ghost use Rattle.sentry_items.specs.declared.attachment.Attachment.{Attachment as Attachments};
+ghost use Rattle.sentry_items.specs.declared.attachment_type.AttachmentType.{AttachmentType as Types};
+ghost use Rattle.sentry_items.specs.declared.item.EnvelopeItem.{EnvelopeItem as Items};
+ghost use Rattle.sentry_items.specs.declared.replay_recording.ReplayRecording.{ReplayRecording as Recordings};
 ghost use Rattle.sentry_items.specs.declared.category.Category.{Category as Categories};
 ghost use Rattle.sentry_items.specs.declared.reason.Reason.{Reason as Reasons};
 ghost use Rattle.sentry_items.specs.Categories.{categories, category_index, category_words, category_kind, reasons, reason_index, reason_words, reason_kind};
 
+use crate::attachment::Attachment;
+use crate::attachment_type::AttachmentType;
 use crate::category::Category;
+use crate::item::EnvelopeItem;
 use crate::reason::Reason;
+use crate::replay_recording::ReplayRecording;
 use sentry_words::IndexedEnum;
 
 /// All categories: each stands at its index.
@@ -36,4 +46,25 @@ pub fn category_words_read_back()
 pub fn reason_words_read_back()
     ensures once { HasEachOnce reason_words }
     ensures laws { HasLaws reason_kind }
+{}
+
+/// The types of attachments: each is read back from its text, as the known type where the text is its word.
+pub fn attachment_types_read_back()
+    ensures { HasLaws attachment_type_kind }
+{}
+
+/// An attachment without a type is a file without a special meaning.
+pub fn default_attachment_type() -> AttachmentType
+    ensures { attachment_type_cell result ≡ known (codes "event.attachment") }
+{
+    AttachmentType::default()
+}
+
+/// Two types of attachments, attachments, recordings and items are equal exactly where what they hold is the
+/// same: a known type or a custom one's text, the bytes and texts, and for items their type too.
+pub fn equal_items()
+    ensures types { (a b : Types) → ⟦<AttachmentType as PartialEq>⟧.eq a b ≡ true ↔ (attachment_type_cell a ≡ attachment_type_cell b) }
+    ensures attachments { (a b : Attachments) → ⟦<Attachment as PartialEq>⟧.eq a b ≡ true ↔ (attachment_view a ≡ attachment_view b) }
+    ensures recordings { (a b : Recordings) → ⟦<ReplayRecording as PartialEq>⟧.eq a b ≡ true ↔ (a.buffer.items ≡ b.buffer.items) }
+    ensures items { (a b : Items) → ⟦<EnvelopeItem as PartialEq>⟧.eq a b ≡ true ↔ (item_view a ≡ item_view b) }
 {}

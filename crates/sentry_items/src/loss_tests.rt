@@ -1,6 +1,6 @@
 use crate::{
-    Attachment, Category, EnvelopeItem, ItemLoss, ItemLossIter, LossSlice, LossSource, Reason,
-    ReplayRecording,
+    Attachment, AttachmentType, Category, EnvelopeItem, ItemLoss, ItemLossIter, LossSlice,
+    LossSource, Reason, ReplayRecording,
 };
 use sentry_rows::text::text_of;
 use sentry_rows::{FromTree, read_line};
@@ -69,6 +69,20 @@ fn words_in_trees(rt: HostRuntime) -> Result<(), Fail> {
         let line = format!(in alloc; "\"{}\"", reason.as_str())?;
         assert!(rt; is_line_of(alloc, line.as_str(), reason)?);
     }
+    for text in [
+        "event.attachment",
+        "event.minidump",
+        "event.applecrashreport",
+        "unreal.context",
+        "unreal.logs",
+        "Event.Minidump",
+        "",
+    ] {
+        let line = format!(in alloc; "\"{text}\"")?;
+        let ty = AttachmentType::from_text(alloc, text)?;
+        assert!(rt; is_line_of(alloc, line.as_str(), &ty)?);
+    }
+    assert!(rt; read_line::<AttachmentType>(alloc, b"null").is_err());
     for line in ["\"Error\"", "\"none\"", "\"\"", "null", "0"] {
         assert!(rt;
             read_line::<Category>(alloc, line.as_bytes()).is_err(),

@@ -1,15 +1,11 @@
--- The items of a header, cut at `=`, and the digits of a moment.
-use Rattle.std.proofs.Common.{◌≡◌, ◌==◌, ◌<◌, ◌≤◌, ◌+◌, ◌*◌, ◌/◌, ◌%◌, ◌^◌, ℕ, ◌⊎◌, inl, inr, not, Bool, List, [], ◌∷◌, ◌++◌, length, Some, None, sym, ap, ◌∙◌, append_assoc, arith}
-use Rattle.std.specs.Fmt.{decimal}
+-- The items of a header, cut at `=`.
+use Rattle.std.proofs.Common.{◌≡◌, ◌==◌, ◌<◌, ◌≤◌, ℕ, ◌⊎◌, inl, inr, not, Bool, List, [], ◌∷◌, length, Some, None, sym, ap, ◌∙◌, arith}
 use Rattle.std.specs.List.{slice_split, before_first, after_first, position_or_len}
 use Rattle.std.specs.Str.{trim}
-use Rattle.std.proofs.lemmas.Fmt.{decimal_digit, decimal_step}
 use Rattle.std.proofs.lemmas.List.Splits.{slice_split_none, slice_split_first}
 use Rattle.std.proofs.lemmas.Bool.{cases_lt}
 use Rattle.std.proofs.lemmas.List.Sums.{fails_before_first, prefix_len-le-length}
 use Rattle.std.proofs.lemmas.List.{take_all}
-use Rattle.sentry_moments.specs.Decimal.{decimal_text}
-use Rattle.sentry_moments.specs.Digits.{fraction_text}
 use Rattle.sentry_keys.specs.AuthText.{first_two, item_pair}
 
 whole : (p : ℕ → Bool) (xs : List ℕ) → position_or_len p xs ≡ length xs → slice_split p xs ≡ xs ∷ []
@@ -43,14 +39,3 @@ a_pair item key rest value some is after cut =
     slice_split_first (λ b. b == 61) item 0 some ∙ ap (λ k. k ∷ slice_split (λ b. b == 61) (after_first (λ b. b == 61) item)) (sym is)
     ∙ ap (λ r. key ∷ slice_split (λ b. b == 61) r) (sym after) ∙ ap (λ ps. key ∷ ps) (more.parts ∙ ap (λ v. v ∷ more.more) (sym cut)) in
     ap first_two parts
-
--- the digits of a number of seconds, but for the last, and then that with what follows it
-pub last_second : (secs nanos : ℕ) → nanos < 10 ^ 9 → 10 ≤ secs → secs < 2 ^ 64
-    → decimal (secs / 10) ++ decimal_text ((secs % 10 * 10 ^ 9 + nanos) / 10 ^ 9) ((secs % 10 * 10 ^ 9 + nanos) % 10 ^ 9) ≡ decimal_text secs nanos
-last_second secs nanos small many fits =
-    let units : (secs % 10 * 10 ^ 9 + nanos) / 10 ^ 9 ≡ secs % 10 = omega arith in
-    let rest : (secs % 10 * 10 ^ 9 + nanos) % 10 ^ 9 ≡ nanos = omega arith in
-    let digit : decimal (secs % 10) ≡ (48 + secs % 10) ∷ [] = decimal_digit (secs % 10) (omega arith) in
-    ap (λ n. decimal (secs / 10) ++ decimal_text n ((secs % 10 * 10 ^ 9 + nanos) % 10 ^ 9)) units ∙ ap (λ n. decimal (secs / 10) ++ decimal_text (secs % 10) n) rest
-    ∙ ap (λ ds. decimal (secs / 10) ++ (ds ++ fraction_text nanos)) digit ∙ sym (append_assoc (decimal (secs / 10)) ((48 + secs % 10) ∷ []) (fraction_text nanos))
-    ∙ ap (λ ds. ds ++ fraction_text nanos) (sym (decimal_step secs many fits))

@@ -111,7 +111,7 @@ one_refusal url e f g h = let same = sym (failing_refused url e g) ∙ failing_r
 pub not_both : (url : Parts) (d : DsnParts) (e : ParseDsnError) → IsDsn url d → Refuses url e → ⊥
 not_both url d e g h = let same = sym (failing_dsn url d g) ∙ failing_refused url e h in cc
 
-same_scheme : (s t : Scheme) → scheme_text s ≡ scheme_text t → s ≡ t
+pub same_scheme : (s t : Scheme) → scheme_text s ≡ scheme_text t → s ≡ t
 same_scheme Http Http e = refl
 same_scheme Http Https e = absurd (cc)
 same_scheme Https Http e = absurd (cc)

@@ -1,21 +1,23 @@
 -- The spelling of DSNs is lawful.
-use Rattle.std.proofs.Common.{◌≡◌, ◌⊎◌, inl, inr, ⊎_elim, ℕ, ◌<◌, ◌^◌, true, false, List, [], ◌++◌, Option, Some, None, refl, sym, ap, subst, ◌∙◌, arith, IsUtf8}
+use Rattle.std.proofs.Common.{◌≡◌, inl, inr, ⊎_elim, ℕ, ◌<◌, ◌^◌, true, List, [], ◌++◌, Option, Some, None, refl, sym, ap, subst, ◌∙◌, arith, IsUtf8}
 use Rattle.std.specs.Prelude.{codes, decimal, IfSome, unwrap_or, option_map, String, string_bytes, Result, Ok, Err, IfOk}
-use Rattle.std.specs.Str.{is_utf8}
-use Rattle.std.proofs.lemmas.Bool.{cases_Bool, true≢false}
 use Rattle.std.proofs.lemmas.Fmt.{IsAscii-decimal}
-use Rattle.std.proofs.lemmas.Str.{IsUtf8-append, IsUtf8-nil, IsUtf8-from_ascii, IsUtf8-from_is_utf8, is_utf8-from_IsUtf8, IsUtf8-string_bytes}
-use Rattle.serde_json.specs.Data.{string}
+use Rattle.std.proofs.lemmas.Str.{IsUtf8-append, IsUtf8-nil, IsUtf8-from_ascii, IsUtf8-string_bytes}
+use Rattle.serde_json.specs.Data.{Data, string}
+use Rattle.serde_json.specs.Find.{as_str}
+use Rattle.sentry_json.specs.Sound.{IsSound}
 use Rattle.serde_json.specs.View.{view}
 use Rattle.serde_json.specs.declared.value.Value.{Value}
 use Rattle.sentry_rows.specs.Written.{written}
 use Rattle.sentry_tables.specs.Cell.{Cell, text}
 use Rattle.sentry_tables.specs.Lawful.{ScalarLaws, RefusesNull, is_ascii}
 use Rattle.sentry_tables.specs.Laws.{HasLaws}
+use Rattle.sentry_tables.specs.Meets.{IsReadable}
+use Rattle.sentry_tables.specs.Shows.{Shows}
 use Rattle.sentry_tables.proofs.Laws.{has_laws}
 use Rattle.sentry_tables.proofs.Sound.{ascii_text}
 use Rattle.sentry_rows.specs.Cells.{natural_cell, option_cell}
-use Rattle.sentry_rows.specs.Spelling.{SpellingLaws, spelled, ReadsSpelling}
+use Rattle.sentry_rows.specs.Spelling.{Texted, SpellingLaws, spelled, ReadsSpelling}
 use Rattle.sentry_rows.proofs.Spellings.{spelled_laws, spelled_refuses_null, text_tree}
 use Rattle.sentry_keys.specs.declared.scheme.Scheme.{Scheme}
 use Rattle.sentry_keys.specs.declared.scheme.Scheme.TheVariants.{Http, Https}
@@ -26,6 +28,7 @@ use Rattle.sentry_keys.specs.DsnScheme.{scheme_text}
 use Rattle.sentry_keys.specs.Dsn.{DsnParts, dsn_parts, dsn_text, port_text, IsDsnText, IsRefused, UnlessMemory}
 use Rattle.sentry_keys.specs.DsnTree.{parts_cell, dsn_cell, written_text, dsn_spelling, dsn_kind, port_of_cell, text_of, tree_error}
 use Rattle.sentry_keys.proofs.DsnAnswers.{one_dsn_text, not_both_text, some_text_answer}
+use Rattle.sentry_keys.proofs.DsnReadBack.{named_ascii, named_reads_back}
 
 -- ---- the written text
 
@@ -53,27 +56,32 @@ spelled_only c x d e is own was other =
     let same = one_dsn_text (dsn_text d) d e own (subst (λ s. IsDsnText s e) (cell_written c d is) other) in
     sym was ∙ ap parts_cell (sym same) ∙ is
 
-decided : (s : List ℕ) (d : DsnParts) → IsDsnText s d → (is_utf8 (dsn_text d) ≡ true) ⊎ (is_utf8 (dsn_text d) ≡ false) → ((c : Cell) × dsn_spelling.spells s c) ⊎ ((c : Cell) → dsn_spelling.spells s c → ⊥)
-decided s d is (inl utf8) = inl (parts_cell d, (d, (refl, IsUtf8-from_is_utf8 (dsn_text d) utf8), is))
-decided s d is (inr no_utf8) =
-    inr (λ c h.
-    let same = one_dsn_text s h.0 d h.2 is in
-    true≢false (sym (is_utf8-from_IsUtf8 (dsn_text d) (subst (λ x. IsUtf8 (dsn_text x)) same h.1.1)) ∙ no_utf8))
-
 pub dsn_laws : SpellingLaws dsn_spelling
 dsn_laws = record {
-  back = λ c p q. (q.0, (q.1, subst IsUtf8 (sym (cell_written c p.0 p.1.0) ∙ cell_written c q.0 q.1) p.1.1), subst (λ s. IsDsnText s q.0) (sym (cell_written c q.0 q.1)) q.2);
-  only = λ c x p q h. spelled_only c x q.0 h.0 q.1 q.2 h.1.0 h.2;
+  back = λ c p q. (q.0, q.1, subst (λ s. IsDsnText s q.0) (sym (cell_written c q.0 q.1)) q.2);
+  only = λ c x p q h. spelled_only c x q.0 h.0 q.1 q.2 h.1 h.2;
   again = λ c p. refl;
   stored_norm = λ c p. p;
   readable_norm = λ c p q. q;
-  utf8 = λ c p. subst IsUtf8 (sym (cell_written c p.0 p.1.0)) p.1.1;
-  spelled_stored = λ s c utf8 h. (h.0, h.1);
+  utf8 = λ c p. subst IsUtf8 (sym (cell_written c p.0 p.1)) p.2;
+  spelled_stored = λ s c utf8 h. (h.0, h.1, IsUtf8-from_ascii (dsn_text h.0) (named_ascii s h.0 utf8 h.2));
   spelled_written = λ s c utf8 h. refl;
   decide = λ s.
-      ⊎_elim (λ a. decided s a.0 a.1 (cases_Bool (is_utf8 (dsn_text a.0))))
+      ⊎_elim (λ a. inl (parts_cell a.0, (a.0, refl, a.1)))
       (λ a. inr (λ c h. not_both_text s h.0 a.0 h.2 a.1)) (some_text_answer s);
 }
+
+-- what a tree shows is readable
+shown_readable : (o : Option (List ℕ)) (c : Cell) → IfSome o IsUtf8 → Texted dsn_spelling.spells o c → dsn_spelling.readable c
+shown_readable None c utf8 h = absurd h
+shown_readable (Some s) c utf8 h = (h.0, h.1, named_reads_back s h.0 utf8 h.2)
+
+text_utf8 : (d : Data) → IsSound d → IfSome (as_str d) IsUtf8
+text_utf8 (string s) sound = sound
+text_utf8 _ sound = tt
+
+pub dsn_shown_readable : (now : Cell) (d : Data) (c : Cell) → IsSound d → Shows dsn_kind now d c → IsReadable dsn_kind c
+dsn_shown_readable now d c sound h = shown_readable (as_str d) c (text_utf8 d sound) h
 
 pub dsn_scalar_laws : ScalarLaws (spelled dsn_spelling)
 dsn_scalar_laws = spelled_laws dsn_spelling dsn_laws

@@ -1,8 +1,16 @@
 pub mod DsnCuts
 pub mod DsnSplits
+pub mod DsnSingle
 pub mod DsnAnswers
 pub mod DsnHosts
+pub mod DsnPaths
+pub mod DsnAuthorities
+pub mod DsnReadBack
+pub mod DsnUrls
+pub mod Utf8Bytes
 pub mod DsnTrees
+pub mod Equal
+pub mod AuthChoices
 pub mod AuthItems
 pub mod AuthLaws
 pub mod AuthPairs

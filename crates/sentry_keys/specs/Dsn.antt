@@ -112,3 +112,7 @@ abbrev pub dsn_text : DsnParts → List ℕ
 dsn_text d =
     scheme_text d.scheme ++ (codes "://" ++ (d.key ++ (codes ":" ++ (unwrap_or d.secret []
     ++ (codes "@" ++ (d.host ++ (port_text d.port ++ (d.path ++ d.project))))))))
+
+-- the text of the parts is that of a URL with the same parts
+abbrev pub DsnReadsBack : DsnParts → Type 0
+DsnReadsBack d = IsDsnText (dsn_text d) d

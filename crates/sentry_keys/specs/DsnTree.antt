@@ -10,7 +10,7 @@ use Rattle.sentry_keys.specs.declared.dsn_error.ParseDsnError.{ParseDsnError}
 use Rattle.sentry_keys.specs.declared.dsn_error.ParseDsnError.TheVariants.{Memory}
 use Rattle.sentry_keys.specs.declared.dsn.Dsn.{Dsn}
 use Rattle.sentry_keys.specs.DsnScheme.{scheme_text}
-use Rattle.sentry_keys.specs.Dsn.{DsnParts, dsn_parts, dsn_text, IsDsnText}
+use Rattle.sentry_keys.specs.Dsn.{DsnParts, dsn_parts, dsn_text, IsDsnText, DsnReadsBack}
 
 -- a cell for each part
 abbrev pub parts_cell : DsnParts → Cell
@@ -59,18 +59,15 @@ written_text c = cells_text (cells_of c)
 
 -- ---- the spelling
 
--- the cell is that of the parts, and their text is UTF-8
-abbrev pub HasParts : Cell → DsnParts → Type 0
-HasParts c d = (parts_cell d ≡ c) × IsUtf8 (dsn_text d)
-
--- A value is readable where its text is that of the same parts.
+-- The text is that of a URL with the parts. A value's text is UTF-8, and it is readable where that
+-- text is that of a URL with the same parts.
 abbrev pub dsn_spelling : Spelling
 dsn_spelling = record {
-  spells = λ s c. (d : DsnParts) × HasParts c d × IsDsnText s d;
+  spells = λ s c. (d : DsnParts) × (parts_cell d ≡ c) × IsDsnText s d;
   written = written_text;
   norm = λ c. c;
-  stored = λ c. (d : DsnParts) × HasParts c d;
-  readable = λ c. (d : DsnParts) × (parts_cell d ≡ c) × IsDsnText (dsn_text d) d;
+  stored = λ c. (d : DsnParts) × (parts_cell d ≡ c) × IsUtf8 (dsn_text d);
+  readable = λ c. (d : DsnParts) × (parts_cell d ≡ c) × DsnReadsBack d;
 }
 
 abbrev pub dsn_kind : Kind

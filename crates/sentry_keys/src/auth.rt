@@ -6,7 +6,6 @@ ghost use Rattle.std.specs.Prelude.{◌≡◌, ◌⊎◌, ◌==◌, ◌<◌, ◌
 ghost use Rattle.std.specs.List.{before_first};
 ghost use Rattle.std.specs.String.{string_bytes};
 ghost use Rattle.form_urlencoded.specs.Form.{pair_text};
-ghost use Rattle.sentry_moments.specs.Decimal.{decimal_text};
 ghost use Rattle.sentry_keys.specs.Auth.{Pair, parts_of, time_of, IsVersion, IsUnreadable, Tell, ReadsPairs, version_key};
 ghost use Rattle.sentry_keys.specs.AuthText.{item_pair, list_pairs, query_pairs, ReadsHeader, part_text, auth_text, time_text};
 ghost use Rattle.sentry_keys.specs.declared.auth.ParseAuthError.TheVariants.{InvalidVersion, Memory};
@@ -14,7 +13,7 @@ ghost use Rattle.sentry_keys.specs.declared.auth.ParseAuthError.TheVariants.{Inv
 mod tree;
 
 use form_urlencoded::parse;
-use sentry_moments::{Moment, SampleRate};
+use sentry_moments::{Decimal, Moment};
 use std::alloc::{AllocError, Global};
 use std::fmt;
 use thiserror::Error;
@@ -290,27 +289,6 @@ impl Auth {
     }
 }
 
-// The seconds of a moment, as a decimal.
-#[derive(Drop)]
-struct Seconds {
-    moment: Moment,
-}
-
-impl fmt::Display for Seconds {
-    ghost output = { λ s. Some (decimal_text s.moment.secs s.moment.nanos) };
-
-    fn fmt<W: fmt::Write>(&self, f: &mut fmt::Formatter<W>) -> fmt::Result {
-        let (secs, nanos) = (self.moment.secs(), self.moment.nanos());
-        let tens = secs / 10;
-        let rest = SampleRate(secs % 10 * 1_000_000_000 + u64::from(nanos));
-        if tens == 0 {
-            write!(f, "{rest}")
-        } else {
-            write!(f, "{tens}{rest}")
-        }
-    }
-}
-
 // A moment among the parts of the printed text, or nothing.
 #[derive(Drop)]
 struct TimePart {
@@ -326,7 +304,10 @@ impl fmt::Display for TimePart {
         let Some(moment) = self.moment else {
             return Ok(());
         };
-        let seconds = Seconds { moment };
+        let seconds = Decimal {
+            whole: moment.secs(),
+            billionths: moment.nanos(),
+        };
         write!(f, ", sentry_timestamp={seconds}")
     }
 }

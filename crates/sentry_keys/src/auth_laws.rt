@@ -15,12 +15,15 @@ pub fn auth_trees()
     ensures decided { IsDecided auth_kind }
 {}
 
-/// Pairs tell at most one authentication, and none where they are refused.
+/// Each list of pairs tells one authentication, or is refused for one reason: a version that isn't a
+/// number, or a key that is absent or empty.
 pub fn auths_of_pairs()
     ensures one { (pairs : List Pair) (a b : Parts) → IsAuth pairs a → IsAuth pairs b → a ≡ b }
-    ensures told_or_refused { (pairs : List Pair) (a : Parts) → IsAuth pairs a →
-        HasUnreadableVersion pairs ⊎ HasNoKey pairs → ⊥ }
     ensures one_refusal { (pairs : List Pair) → HasUnreadableVersion pairs → HasNoKey pairs → ⊥ }
+    ensures apart { (pairs : List Pair) (a : Parts) → IsAuth pairs a →
+        HasUnreadableVersion pairs ⊎ HasNoKey pairs → ⊥ }
+    ensures decided { (pairs : List Pair) →
+        ((a : Parts) × IsAuth pairs a) ⊎ (HasUnreadableVersion pairs ⊎ HasNoKey pairs) }
 {}
 
 /// The text of an authentication tells the same parts, and no others, where its key isn't empty and

@@ -1,7 +1,7 @@
 //! The text that names where events are sent, and with which key.
 
 ghost use Rattle.std.specs.Prelude.{◌≡◌, [], MatchOption, MatchResult, IfOk, ℕ, Some, None, option_map, option_copied, unwrap_or, string_bytes};
-ghost use Rattle.url.specs.Parts.{Parts};
+ghost use Rattle.url.specs.Parts.{Parts, IsValid};
 ghost use Rattle.sentry_identifiers.specs.ProjectId.{project_text, organization_value};
 ghost use Rattle.sentry_keys.specs.Dsn as spec;
 ghost use Rattle.sentry_keys.specs.DsnOrganization.{NamesOrganization};
@@ -45,7 +45,7 @@ impl Dsn {
     /// The project is the last segment of the URL's path without its outer slashes. The path is a
     /// slash, the segments before the project, and a slash, or one slash where there are none. The
     /// user name is the public key, and a password that is not empty the secret key. The URL's query
-    /// and fragment are ignored.
+    /// and fragment are ignored. What is printed of the DSN is a text of the same DSN.
     ///
     /// # Errors
     ///
@@ -54,8 +54,9 @@ impl Dsn {
     /// name is empty, `InvalidScheme` where the scheme is neither `http` nor `https`, `InvalidUrl` where
     /// there is no host. `Memory` comes where there is no memory, or where the URL would take 4 GB.
     pub fn from_str(alloc: Global, text: &str) -> Result<Dsn, ParseDsnError>
-        ensures { MatchResult result (λ d. spec.IsDsnText text.now (spec.dsn_parts d))
+        ensures parts { MatchResult result (λ d. spec.IsDsnText text.now (spec.dsn_parts d))
             (λ e. spec.UnlessMemory e (spec.IsRefused text.now e)) }
+        ensures reads_back { IfOk result (λ d. spec.DsnReadsBack (spec.dsn_parts d)) }
     {
         match Url::parse(alloc, text) {
             Ok(url) => Dsn::of_url(alloc, &url),
@@ -65,8 +66,9 @@ impl Dsn {
     }
 
     fn of_url(alloc: Global, url: &Url) -> Result<Dsn, ParseDsnError>
-        ensures { MatchResult result (λ d. spec.IsDsn url.now (spec.dsn_parts d))
+        ensures parts { MatchResult result (λ d. spec.IsDsn url.now (spec.dsn_parts d))
             (λ e. spec.UnlessMemory e (spec.Refuses url.now e)) }
+        ensures valid { IsValid url.now }
     {
         if url.path() == "/" {
             return Err(ParseDsnError::NoProjectId);

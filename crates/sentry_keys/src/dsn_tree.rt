@@ -41,10 +41,7 @@ fn dsn_of_text(alloc: Global, text: &str) -> Result<Dsn, TreeError>
     ensures { ReadsSpelling dsn_spelling dsn_cell text.now result }
 {
     match Dsn::from_str(alloc, text) {
-        Ok(dsn) => {
-            dsn.hold();
-            Ok(dsn)
-        }
+        Ok(dsn) => Ok(dsn),
         Err(error) => Err(tree_error(error)),
     }
 }

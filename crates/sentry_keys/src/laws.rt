@@ -1,15 +1,22 @@
 //! What holds of the definitions alone.
 
-ghost use Rattle.std.specs.Prelude.{◌≡◌, ◌⊎◌, ℕ, List};
-ghost use Rattle.url.specs.Parts.{Parts};
+ghost use Rattle.std.specs.Prelude.{◌≡◌, ◌⊎◌, ◌↔◌, true, ℕ, List, IsAscii, IsUtf8};
+ghost use Rattle.url.specs.Parts.{Parts, IsValid};
+ghost use Rattle.serde_json.specs.Data.{Data};
+ghost use Rattle.sentry_json.specs.Sound.{IsSound};
+ghost use Rattle.sentry_tables.specs.Cell.{Cell};
 ghost use Rattle.sentry_tables.specs.Laws.{HasLaws};
 ghost use Rattle.sentry_tables.specs.Lawful.{RefusesNull};
+ghost use Rattle.sentry_tables.specs.Meets.{IsReadable, IsStored};
+ghost use Rattle.sentry_tables.specs.Shows.{Shows};
+ghost use Rattle.sentry_keys.specs.declared.dsn.Dsn.{Dsn as Dsns};
 ghost use Rattle.sentry_keys.specs.declared.dsn_error.ParseDsnError.{ParseDsnError};
-ghost use Rattle.sentry_keys.specs.Dsn.{DsnParts, IsDsn, IsDsnText, Refuses, IsRefused};
+ghost use Rattle.sentry_keys.specs.Dsn.{DsnParts, IsDsn, IsDsnText, Refuses, IsRefused, dsn_parts, dsn_text, DsnReadsBack};
 ghost use Rattle.sentry_keys.specs.DsnOrganization.{NamesOrganization};
-ghost use Rattle.sentry_keys.specs.DsnTree.{dsn_kind};
+ghost use Rattle.sentry_keys.specs.DsnTree.{dsn_kind, parts_cell};
 
 pub use crate::auth_laws::{auth_texts, auth_trees, auths_of_pairs};
+use crate::dsn::Dsn;
 
 /// Each URL is that of one DSN, or is refused with one error.
 pub fn dsns()
@@ -27,10 +34,30 @@ pub fn dsn_texts()
     ensures decided { (text : List ℕ) → ((d : DsnParts) × IsDsnText text d) ⊎ ((e : ParseDsnError) × IsRefused text e) }
 {}
 
-/// A DSN in a tree is read back from what it is written as.
+/// The text of a DSN of any valid URL is ASCII, and is that of a URL with the same parts, also where
+/// the DSN has no secret key: then the text has a colon after the public key, which the URL's own
+/// text has not. The same holds of each DSN that a text of UTF-8 names, since its URL is valid.
+pub fn dsns_read_back()
+    ensures ascii { (url : Parts) (d : DsnParts) → IsValid url → IsDsn url d → IsAscii (dsn_text d) }
+    ensures back { (url : Parts) (d : DsnParts) → IsValid url → IsDsn url d → DsnReadsBack d }
+    ensures named { (text : List ℕ) (d : DsnParts) → IsUtf8 text → IsDsnText text d →
+        IsAscii (dsn_text d) × DsnReadsBack d }
+{}
+
+/// A DSN in a tree is read back from what it is written as, where it is readable. Each DSN that a tree
+/// shows is, and so is each DSN of a valid URL.
 pub fn dsn_trees()
     ensures laws { HasLaws dsn_kind }
     ensures null { RefusesNull dsn_kind }
+    ensures shown { (now : Cell) (tree : Data) (c : Cell) → IsSound tree → Shows dsn_kind now tree c →
+        IsReadable dsn_kind c }
+    ensures valid { (url : Parts) (d : DsnParts) → IsValid url → IsDsn url d →
+        IsStored dsn_kind (parts_cell d) × IsReadable dsn_kind (parts_cell d) }
+{}
+
+/// Two DSNs are equal exactly where their parts are the same.
+pub fn equal_dsns()
+    ensures { (a b : Dsns) → ⟦<Dsn as PartialEq>⟧.eq a b ≡ true ↔ (dsn_parts a ≡ dsn_parts b) }
 {}
 
 /// A host names at most one organization.

@@ -12,8 +12,8 @@ pub mod MomentsWritten
 pub mod Numerals
 pub mod Padding
 pub mod Places
-pub mod Printed
 pub mod Rfc3339ReadBack
+pub mod Rfc3339Single
 pub mod Rfc3339Texts
 pub mod SamplingSpellings
 pub mod Shifts

@@ -189,11 +189,16 @@ pub(crate) fn read(text: &str, limit: u128) -> Result<u128, DecimalError>
     }
 }
 
-/// Whole units and billionths of one, as a decimal without closing zeros.
-#[derive(Drop)]
-pub(crate) struct Decimal {
-    pub(crate) whole: u64,
-    pub(crate) billionths: u32,
+/// A number that is printed as a decimal of at most nine places, without closing zeros: `1`, `1.5`,
+/// `0.00000021`.
+///
+/// So the seconds of moments and sample rates are printed.
+#[derive(Clone, Copy, Debug, PartialEq, Eq)]
+pub struct Decimal {
+    /// The whole units.
+    pub whole: u64,
+    /// The billionths of a unit, fewer than 10^9.
+    pub billionths: u32,
     pub ghost small: { billionths < 10 ^ 9 },
 }
 
@@ -208,5 +213,27 @@ impl fmt::Display for Decimal {
             },
         );
         write!(f, "{whole}{fraction}")
+    }
+}
+
+#[cfg(test)]
+mod tests {
+    use super::*;
+    use std::test::Fail;
+
+    #[test]
+    fn decimals_are_printed(rt: HostRuntime) -> Result<(), Fail> {
+        let printed = [
+            (0, 0, "0"),
+            (1, 500_000_000, "1.5"),
+            (0, 210, "0.00000021"),
+            (10, 10, "10.00000001"),
+            (u64::MAX, 999_999_999, "18446744073709551615.999999999"),
+        ];
+        for (whole, billionths, text) in printed {
+            let number = Decimal { whole, billionths };
+            assert_eq!(rt; format!(in rt.alloc(); "{number}")?.as_str(), text);
+        }
+        Ok(())
     }
 }

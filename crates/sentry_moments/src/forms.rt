@@ -54,8 +54,7 @@ impl Codec<Moment> for Rfc3339 {
     }
 
     #[tactic(auto, using(crate::proofs::MomentRange::moment_in_range))]
-    fn is_plain(value: &Moment) -> bool {
-        let _moment = *value;
+    fn is_plain(_value: &Moment) -> bool {
         true
     }
 }
@@ -100,8 +99,9 @@ impl Codec<Moment> for Seconds {
         Rfc3339::copy(value)
     }
 
-    fn is_plain(value: &Moment) -> bool {
-        Rfc3339::is_plain(value)
+    #[tactic(auto, using(crate::proofs::MomentRange::moment_in_range))]
+    fn is_plain(_value: &Moment) -> bool {
+        true
     }
 }
 

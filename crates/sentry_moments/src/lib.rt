@@ -11,7 +11,7 @@ mod rfc3339;
 pub mod sample_rand;
 pub mod sample_rate;
 
-pub use decimal::DecimalError;
+pub use decimal::{Decimal, DecimalError};
 pub use forms::{Rfc3339, Seconds};
 pub use moment::Moment;
 pub use sample_rand::{InvalidSampleRandError, SampleRand};

@@ -128,9 +128,7 @@ impl Spelled for SampleRand {
         Ok(*self)
     }
 
-    fn hold(&self) {
-        let _value = *self;
-    }
+    fn hold(&self) {}
 }
 
 /// The printed text of a value reads as the printed millionths: half to even, and 0.999999 from

@@ -1,1 +1,3 @@
 pub mod ClientSdkLaws
+pub mod ClientSdkSingle
+pub mod Equal

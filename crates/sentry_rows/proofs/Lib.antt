@@ -1,5 +1,6 @@
 pub mod Answering
 pub mod Collections
+pub mod Equal
 pub mod Joining
 pub mod ListsShown
 pub mod Merging
@@ -9,6 +10,7 @@ pub mod RowByRow
 pub mod RowLemmas
 pub mod RowsGiven
 pub mod ScalarsShown
+pub mod Single
 pub mod SoundTrees
 pub mod Soundness
 pub mod Spellings

@@ -7,7 +7,7 @@ use Rattle.serde_json.specs.Data.{Data, string}
 use Rattle.serde_json.specs.Find.{as_str}
 use Rattle.sentry_json.specs.Sound.{IsSound}
 use Rattle.sentry_tables.specs.Cell.{Cell}
-use Rattle.sentry_tables.specs.Lawful.{ScalarLaws, RefusesNull}
+use Rattle.sentry_tables.specs.Lawful.{ScalarLaws, RefusesNull, IsNormal}
 use Rattle.sentry_tables.proofs.Basic.{WordLaws}
 use Rattle.sentry_rows.specs.Reading.{Shown, Refused, Reads}
 use Rattle.sentry_rows.specs.Spelling.{Spelling, Texted, spelled, spelled_kind, SpellingLaws, read_as, word_cell, word_of, IsWord, enumeration, ReadsSpelling}
@@ -115,6 +115,10 @@ module _ (of_text : List ℕ → Option Cell) (to_text : Cell → List ℕ) (Sto
     spelled_written = λ s c utf8 h. ap to_text (sym (ap (λ o. unwrap_or o c) (own.stable s c h)));
     decide = λ s. told (of_text s);
   }
+
+-- a value that its text is read as is its own normal form
+pub read_as_normal : (of_text : List ℕ → Option Cell) (to_text : Cell → List ℕ) (Stored : Cell → Type 0) (c : Cell) → Stored c → of_text (to_text c) ≡ Some c → IsNormal (spelled_kind (read_as of_text to_text Stored)) c
+read_as_normal of_text to_text Stored c stored back = (stored, tt, tt, ap (λ o. unwrap_or o c) back)
 
 -- ---- enumerations
 

@@ -1,6 +1,6 @@
 //! Values that stand in a tree as texts.
 
-ghost use Rattle.std.specs.Prelude.{◌≡◌, ◌↔◌, IfOk, IsTrue, OnOk, List, ℕ, Some};
+ghost use Rattle.std.specs.Prelude.{◌≡◌, IfOk, IfSome, OnOk};
 ghost use Rattle.sentry_tables.specs.Cell.{Cell};
 ghost use Rattle.sentry_rows.specs.Spelling.{Spelling, spelled_kind, ReadsSpelling};
 
@@ -81,7 +81,7 @@ impl<T: Spelled> FromTree for T {
 
 /// The text that a value prints. It fails where the text takes more room.
 pub fn printed<'a, T: Display>(value: &T, room: &'a mut Room) -> Result<&'a str, AllocError>
-    ensures { IfOk result (λ s. (text : List ℕ) → T.output value.now ≡ Some text → s.now ≡ text) }
+    ensures { IfOk result (λ s. IfSome (T.output value.now) (λ text. s.now ≡ text)) }
 {
     room.clear();
     match write!(room, "{value}") {

@@ -11,6 +11,7 @@ pub mod Sound
 pub mod Rewritten
 pub mod Decide
 pub mod Timeless
+pub mod Single
 pub mod Depth
 pub mod Laws
 pub mod Given

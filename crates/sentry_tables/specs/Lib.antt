@@ -7,4 +7,5 @@ pub mod Laws
 pub mod Meets
 pub mod Norm
 pub mod Shows
+pub mod Single
 pub mod Written

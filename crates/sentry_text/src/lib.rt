@@ -3,13 +3,14 @@
 
 pub mod timed;
 
+pub use sentry_addresses::{Addr, IpAddress, IpText, ParseIpError, RegVal};
+pub use sentry_crontab::{CrontabParseError, validate};
 pub use sentry_identifiers::{
-    Addr, CodeId, CrontabParseError, DebugId, FromHexError, IpAddress, IpText, OrganizationId,
-    OrganizationText, ParseDebugIdError, ParseIpError, ParseNumberError, ParseProjectIdError,
-    ProjectId, RegVal, SpanId, TraceId, validate,
+    CodeId, DebugId, FromHexError, OrganizationId, OrganizationText, ParseDebugIdError,
+    ParseNumberError, ParseProjectIdError, ProjectId, SpanId, TraceId,
 };
 pub use sentry_moments::{
-    DecimalError, InvalidSampleRandError, Moment, Rfc3339, SampleRand, SampleRate, Seconds,
+    Decimal, DecimalError, InvalidSampleRandError, Moment, Rfc3339, SampleRand, SampleRate, Seconds,
 };
 pub use sentry_words::{
     Codec, Drawn, FromTree, Hyphenated, IndexedEnum, Level, LogLevel, LogSeverityNumber, Member,

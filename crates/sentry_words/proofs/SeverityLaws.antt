@@ -2,6 +2,7 @@
 use Rattle.std.proofs.Common.{◌≡◌, ◌&&◌, ℕ, pos, negsuc, Bool, true, false, cond, nat_le, Option, Some, None, option_and_then, refl, ap, ◌∙◌, subst, arith, decimal, Result, OnOk}
 use Rattle.std.proofs.lemmas.Bool.{and_parts}
 use Rattle.std.proofs.lemmas.Bool.Decides.{nat_tests}
+use Rattle.std.proofs.lemmas.Option.{same_Some}
 use Rattle.json.specs.Token.{Token}
 use Rattle.json.specs.Written.{Written, Writes}
 use Rattle.serde_json.specs.Data.{unsigned, negative, float, Data, number}
@@ -16,9 +17,6 @@ use Rattle.sentry_rows.specs.Reading.{Shown, Refused}
 use Rattle.sentry_rows.specs.Written.{written, WritesTree}
 use Rattle.sentry_rows.proofs.Tokens.{u8_wrote}
 use Rattle.sentry_words.specs.Severity.{IsSeverity, IsSeverityCell, severity_at, severity_scalar, severity_kind}
-
-inside : (a b : Cell) → Some a ≡ Some b → a ≡ b
-inside a b e = cc
 
 within : (n : ℕ) → IsSeverity n → (nat_le 1 n && nat_le n 24) ≡ true
 within n p = grind (arith, nat_tests, p.0, p.1)
@@ -71,7 +69,7 @@ holds P f (whole (negsuc n)) p = absurd p
 holds P f _ p = absurd p
 
 by_test : (n : ℕ) (b : Bool) (c : Cell) → (nat_le 1 n && nat_le n 24) ≡ b → cond b (Some (whole (pos n))) None ≡ Some c → IsSeverityCell c
-by_test n true c e f = subst IsSeverityCell (inside (whole (pos n)) c f) (within_true n e)
+by_test n true c e f = subst IsSeverityCell (same_Some (whole (pos n)) c f) (within_true n e)
 by_test n false c e f = absurd (cc)
 
 shown : (d : Data) (c : Cell) → IsSound d → severity_of d ≡ Some c → IsSeverityCell c

@@ -1,6 +1,7 @@
 -- Units: the table by its parts, and what their spelling owes.
 use Rattle.std.proofs.Common.{◌≡◌, ℕ, zero, suc, Bool, true, false, ◌||◌, cond, List, [], ◌∷◌, ◌++◌, Option, Some, None, unwrap_or, bytes_eq, codes, refl, ap, subst, IsUtf8}
 use Rattle.std.specs.Prelude.{⊤}
+use Rattle.std.proofs.lemmas.Option.{same_Some}
 use Rattle.std.specs.List.{list_any, AllByRecursion, IsDistinct}
 use Rattle.sentry_tables.specs.Cell.{Cell, text, choice}
 use Rattle.sentry_tables.specs.Lawful.{is_ascii}
@@ -14,9 +15,6 @@ use Rattle.sentry_rows.proofs.Spellings.{read_as_laws, spelled_laws}
 use Rattle.sentry_words.specs.Units.{Row, times, sizes, binary_sizes, shares, units, spellings, known, other, unit_cell, found, unit_of, unit_text, IsUnit, unit_spelling, unit_kind}
 use Rattle.sentry_words.specs.declared.unit.Unit.{Unit}
 use Rattle.sentry_words.specs.declared.unit.Unit.TheVariants
-
-inside : (a b : Cell) → Some a ≡ Some b → a ≡ b
-inside a b e = cc
 
 -- ---- one table after another
 
@@ -53,7 +51,7 @@ unfolding times sizes binary_sizes shares
 names = ((refl, refl), ((refl, refl), ((refl, refl), ((refl, refl), ((refl, refl), ((refl, refl), ((refl, refl), ((refl, refl), ((refl, refl), ((refl, refl), ((refl, refl), ((refl, refl), ((refl, refl), ((refl, refl), ((refl, refl), ((refl, refl), ((refl, refl), ((refl, refl), ((refl, refl), ((refl, refl), ((refl, refl), ((refl, refl), ((refl, refl), ((refl, refl), tt))))))))))))))))))))))))
 
 one_name : (P : Cell → Type 0) → (b : Bool) (name : List ℕ) (o : Option Cell) (c : Cell) → P (known name) → (o ≡ Some c → P c) → cond b (Some (known name)) o ≡ Some c → P c
-one_name P true name o c h f e = subst P (inside (known name) c e) h
+one_name P true name o c h f e = subst P (same_Some (known name) c e) h
 one_name P false name o c h f e = f e
 
 -- what is found is a name
@@ -87,8 +85,8 @@ text_utf8 _ h = absurd h
 unit_words : WordLaws (λ word. Some (unit_of word)) unit_text IsUnit
 unit_words = record {
   reads = λ c p. (unit_of (unit_text c), refl);
-  stored = λ word c utf8 e. subst IsUnit (inside (unit_of word) c e) (by_cases IsUnit (λ name h. h.0) word (λ none. utf8));
-  stable = λ word c e. subst (λ x. Some (unit_of (unit_text x)) ≡ Some x) (inside (unit_of word) c e) (ap Some (unit_back word));
+  stored = λ word c utf8 e. subst IsUnit (same_Some (unit_of word) c e) (by_cases IsUnit (λ name h. h.0) word (λ none. utf8));
+  stable = λ word c e. subst (λ x. Some (unit_of (unit_text x)) ≡ Some x) (same_Some (unit_of word) c e) (ap Some (unit_back word));
   utf8 = text_utf8;
 }
 

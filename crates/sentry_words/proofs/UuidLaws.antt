@@ -7,6 +7,7 @@ use Rattle.std.proofs.lemmas.Bool.Decides.{nat_tests}
 use Rattle.std.proofs.lemmas.List.Sums.{AllPass-from_list_all}
 use Rattle.std.specs.Str.{IsAscii}
 use Rattle.std.proofs.lemmas.Str.{IsUtf8-from_ascii}
+use Rattle.std.proofs.lemmas.Option.{same_Some}
 use Rattle.uuid.specs.Text.{lower, by_index, is_hex_digit, value_of, byte_of_digits, parsed, parsed_simple, parsed_hyphenated, parsed_braced, parsed_urn, digits_of, has_hyphens, has_urn_prefix, open_brace, close_brace}
 use Rattle.uuid.proofs.TextLemmas.{by_index_length, by_index_at, simple_ascii, hyphenated_ascii}
 use Rattle.uuid.proofs.RoundTrips.{parses_simple, parses_hyphenated}
@@ -19,9 +20,6 @@ use Rattle.sentry_tables.proofs.Laws.{has_laws}
 use Rattle.sentry_words.specs.Ids.{IsUuid, uuid_of, hyphenated, simple, hyphenated_kind, simple_kind}
 
 -- ---- what a text is read as has sixteen bytes
-
-inside : (a b : List ℕ) → Some a ≡ Some b → a ≡ b
-inside a b e = cc
 
 same_cell : (c d : Cell) → Some c ≡ Some d → c ≡ d
 same_cell c d e = cc
@@ -57,7 +55,7 @@ simple_bytes hex long digits =
 simple_by : (hex : List ℕ) (c : Bool) → ((length hex == 32) && list_all is_hex_digit hex) ≡ c → Gives (if c then Some (by_index 16 (byte_of_digits hex)) else None)
 simple_by hex true is b e =
     let p = and_parts (length hex == 32) (list_all is_hex_digit hex) is in
-    subst Bytes (inside (by_index 16 (byte_of_digits hex)) b e) (simple_bytes hex (eqb-true (length hex) 32 p.0) p.1)
+    subst Bytes (same_Some (by_index 16 (byte_of_digits hex)) b e) (simple_bytes hex (eqb-true (length hex) 32 p.0) p.1)
 simple_by hex false is b e = absurd (cc)
 
 gives_simple : (hex : List ℕ) → Gives (parsed_simple hex)

@@ -1,13 +1,14 @@
 //! Laws of ids and words: a spelling stands once in a table, what is printed or written is read back, and
 //! each type's form as a tree has the laws of field tables.
 
-ghost use Rattle.std.specs.Prelude.{◌≡◌, ℕ, List, Some, codes, bytes_eq};
+ghost use Rattle.std.specs.Prelude.{◌≡◌, ◌↔◌, ℕ, true, List, Some, codes, bytes_eq};
 ghost use Rattle.std.specs.List.{IsDistinct};
 ghost use Rattle.sentry_tables.specs.Cell.{Cell};
 ghost use Rattle.sentry_tables.specs.Laws.{HasLaws, ReadsBack};
 ghost use Rattle.sentry_tables.specs.Norm.{norm};
 ghost use Rattle.sentry_words.specs.Ids.{IsUuid, uuid_of, hyphenated, simple, hyphenated_kind, simple_kind};
-ghost use Rattle.sentry_words.specs.Units.{units, spellings, known, other, unit_of, unit_text, unit_kind};
+ghost use Rattle.sentry_words.specs.declared.unit.Unit.{Unit as Units};
+ghost use Rattle.sentry_words.specs.Units.{units, spellings, known, other, unit_cell, unit_of, unit_text, unit_kind};
 ghost use Rattle.sentry_words.specs.Sampled.{sampled_kind};
 ghost use Rattle.sentry_words.specs.Lookup.{HasEachOnce};
 ghost use Rattle.sentry_words.specs.declared.level.Level.{Level as Levels};
@@ -32,6 +33,7 @@ use crate::level::Level;
 use crate::log_severity_number::LogSeverityNumber;
 use crate::session_status::SessionStatus;
 use crate::span_status::SpanStatus;
+use crate::unit::Unit;
 use std::fmt::Display;
 
 /// A UUID's text reads back as that UUID, with hyphens and without; and so does its tree, at each of the two kinds.
@@ -57,6 +59,11 @@ pub fn units_read_back()
     ensures norm { (word : List ℕ) → norm unit_kind (other word) ≡ unit_of word }
     ensures again { (word : List ℕ) → unit_of (unit_text (unit_of word)) ≡ unit_of word }
     ensures symbol { norm unit_kind (other (codes "ms")) ≡ known (codes "millisecond") }
+{}
+
+/// Two units are equal exactly where they are the same variant with the same text.
+pub fn equal_units()
+    ensures { (a b : Units) → ⟦<Unit as PartialEq>⟧.eq a b ≡ true ↔ (unit_cell a ≡ unit_cell b) }
 {}
 
 /// A truth value's text shows that truth value, and nothing else.

@@ -1,11 +1,7 @@
 // Each beginning of an envelope's bytes.
-use super::{attachments, read};
+use super::{BYTES, has_attachments, read};
 use crate::EnvelopeError;
 use std::test::Fail;
-
-/// An envelope of 80 bytes: a header line of 47, an item's header of 21, and `helloworld`, each line but the last with its newline.
-const BYTES: &[u8] =
-    b"{\"event_id\":\"9ec79c33ec9942ab8353589fcb2e04dc\"}\n{\"type\":\"attachment\"}\nhelloworld";
 
 #[test]
 fn header_line_that_is_cut(rt: HostRuntime) -> Result<(), Fail> {
@@ -34,18 +30,29 @@ fn item_header_that_is_cut(rt: HostRuntime) -> Result<(), Fail> {
 fn header_line_alone(rt: HostRuntime) -> Result<(), Fail> {
     for length in 47..49 {
         let (front, _) = BYTES.split_at_checked(length).ok_or("short")?;
-        assert_eq!(rt; attachments(rt.alloc(), front)?.len(), 0);
+        assert!(rt; has_attachments(rt.alloc(), front, &[]));
     }
     Ok(())
 }
 
 #[test]
 fn attachment_that_is_cut(rt: HostRuntime) -> Result<(), Fail> {
-    for length in 69..81usize {
+    for (length, buffer) in [
+        (69, ""),
+        (70, ""),
+        (71, "h"),
+        (72, "he"),
+        (73, "hel"),
+        (74, "hell"),
+        (75, "hello"),
+        (76, "hellow"),
+        (77, "hellowo"),
+        (78, "hellowor"),
+        (79, "helloworl"),
+        (80, "helloworld"),
+    ] {
         let (front, _) = BYTES.split_at_checked(length).ok_or("short")?;
-        let found = attachments(rt.alloc(), front)?;
-        assert_eq!(rt; found.len(), 1);
-        assert_eq!(rt; found[0].buffer.len(), length.saturating_sub(70));
+        assert!(rt; has_attachments(rt.alloc(), front, &[buffer]), "{length}");
     }
     Ok(())
 }

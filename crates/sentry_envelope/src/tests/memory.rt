@@ -3,17 +3,13 @@
 // Without a refusal these tests call each function and want its answer. With one request refused, whichever it
 // is (`rt try --test --fail-alloc N`), they pass too: the answer is then want of memory, nothing was done, and
 // the next call is answered.
-use super::{HELLO, ID_LINE, read};
+use super::{BYTES, HELLO, ID_LINE, filtered, read, recording};
 use crate::{CountedWriter, Envelope, EnvelopeError, EnvelopeFilter, EnvelopeWriteError};
-use sentry_items::{EnvelopeItem, ReplayRecording};
+use sentry_items::EnvelopeItem;
 use std::alloc::Global;
 use std::io;
 use std::io::Write;
 use std::test::Fail;
-
-/// An attachment of `helloworld`.
-const BYTES: &[u8] =
-    b"{\"event_id\":\"9ec79c33ec9942ab8353589fcb2e04dc\"}\n{\"type\":\"attachment\"}\nhelloworld";
 
 /// Holds what is written, and takes no memory.
 #[derive(Drop)]
@@ -74,6 +70,10 @@ impl Calls {
             handed: 0,
         }
     }
+
+    fn are(&self, asked: u8, handed: u8) -> bool {
+        self.asked == asked && self.handed == handed
+    }
 }
 
 impl EnvelopeFilter for Calls {
@@ -109,109 +109,124 @@ fn read_at_last(alloc: Global) -> Result<Envelope, EnvelopeError> {
 
 #[test]
 fn refused_when_reading(rt: HostRuntime) -> Result<(), Fail> {
-    let alloc = rt.alloc();
-    let envelope = match read(alloc, BYTES) {
-        Ok(envelope) => envelope,
-        Err(error) => {
-            assert!(rt; matches!(error, EnvelopeError::OutOfMemory));
-            read(alloc, BYTES)?
-        }
-    };
+    let envelope = read_at_last(rt.alloc())?;
     assert!(rt; envelope.uuid().is_some());
     assert_eq!(rt; envelope.items().count(), 1);
     Ok(())
 }
 
+/// Whether the page gets the whole text, after a refusal that wrote nothing at the second try.
+fn is_written_at_last(alloc: Global, envelope: &Envelope, page: &mut Page) -> bool {
+    match envelope.to_writer(alloc, page) {
+        Ok(()) => true,
+        Err(EnvelopeWriteError::Memory) => {
+            page.taken == 0 && envelope.to_writer(alloc, page).is_ok()
+        }
+        Err(_) => false,
+    }
+}
+
 #[test]
 fn refused_when_writing(rt: HostRuntime) -> Result<(), Fail> {
-    let alloc = rt.alloc();
-    let envelope = read_at_last(alloc)?;
+    let envelope = read_at_last(rt.alloc())?;
     let mut page = Page::new();
-    if let Err(error) = envelope.to_writer(alloc, &mut page) {
-        assert!(rt; matches!(error, EnvelopeWriteError::Memory));
-        assert_eq!(rt; page.taken, 0);
-        envelope.to_writer(alloc, &mut page)?;
-    }
+    assert!(rt; is_written_at_last(rt.alloc(), &envelope, &mut page));
     assert!(rt; page.holds_all());
     Ok(())
+}
+
+/// As `is_written_at_last`, at first by a writer that counts failures, and counts none.
+fn is_counted_at_last(alloc: Global, envelope: &Envelope) -> bool {
+    let mut out = CountedWriter::new(Page::new());
+    let answer = envelope.write_counted(alloc, &mut out);
+    let failures = out.failures();
+    let mut page = out.into_inner();
+    let whole = match answer {
+        Ok(()) => true,
+        Err(EnvelopeWriteError::Memory) => {
+            page.taken == 0 && envelope.to_writer(alloc, &mut page).is_ok()
+        }
+        Err(_) => false,
+    };
+    whole && failures == 0 && page.holds_all()
 }
 
 #[test]
 fn refused_when_writing_counted(rt: HostRuntime) -> Result<(), Fail> {
-    let alloc = rt.alloc();
-    let envelope = read_at_last(alloc)?;
-    let mut out = CountedWriter::new(Page::new());
-    let answer = envelope.write_counted(alloc, &mut out);
-    assert_eq!(rt; out.failures(), 0);
-    let mut page = out.into_inner();
-    if let Err(error) = answer {
-        assert!(rt; matches!(error, EnvelopeWriteError::Memory));
-        assert_eq!(rt; page.taken, 0);
-        envelope.to_writer(alloc, &mut page)?;
-    }
-    assert!(rt; page.holds_all());
+    let envelope = read_at_last(rt.alloc())?;
+    assert!(rt; is_counted_at_last(rt.alloc(), &envelope));
     Ok(())
+}
+
+/// Whether all goes, after a refusal that called nothing and left the envelope as it was at the second try.
+fn goes_at_last(alloc: Global, envelope: Envelope) -> Result<bool, Fail> {
+    match envelope.filter(alloc, Calls::none()) {
+        Ok(left) => Ok(left.is_none()),
+        Err((envelope, calls)) => {
+            let unchanged = calls.are(0, 0) && envelope == read(alloc, BYTES)?;
+            Ok(unchanged && matches!(envelope.filter(alloc, calls), Ok(None)))
+        }
+    }
 }
 
 #[test]
 fn refused_when_filtering(rt: HostRuntime) -> Result<(), Fail> {
-    let alloc = rt.alloc();
-    let left = match read_at_last(alloc)?.filter(alloc, Calls::none()) {
+    let envelope = read_at_last(rt.alloc())?;
+    assert!(rt; goes_at_last(rt.alloc(), envelope)?);
+    Ok(())
+}
+
+/// As `goes_at_last`, by a filter that is borrowed, which gets one item.
+fn goes_by_at_last(alloc: Global, envelope: Envelope, keep: bool) -> Result<bool, Fail> {
+    let mut calls = Calls::none();
+    let left = match filtered(alloc, envelope, &mut calls, keep) {
         Ok(left) => left,
-        Err((envelope, calls)) => {
-            assert_eq!(rt; (calls.asked, calls.handed), (0, 0));
-            assert!(rt; envelope == read(alloc, BYTES)?);
-            let Ok(left) = envelope.filter(alloc, calls) else {
-                return Err("refused again")?;
-            };
-            left
+        Err(envelope) => {
+            if !calls.are(0, 0) || envelope != read(alloc, BYTES)? {
+                return Ok(false);
+            }
+            match filtered(alloc, envelope, &mut calls, keep) {
+                Ok(left) => left,
+                Err(_) => return Ok(false),
+            }
         }
     };
-    assert!(rt; left.is_none());
-    Ok(())
+    Ok(left.is_none() && calls.are(1, 1))
 }
 
 #[test]
 fn refused_when_filtering_by(rt: HostRuntime) -> Result<(), Fail> {
-    let alloc = rt.alloc();
     for keep in [false, true] {
-        let mut calls = Calls::none();
-        let left = match filtered(alloc, read_at_last(alloc)?, &mut calls, keep) {
-            Ok(left) => left,
-            Err(envelope) => {
-                assert_eq!(rt; (calls.asked, calls.handed), (0, 0));
-                assert!(rt; envelope == read(alloc, BYTES)?);
-                let Ok(left) = filtered(alloc, envelope, &mut calls, keep) else {
-                    return Err("refused again")?;
-                };
-                left
-            }
-        };
-        assert!(rt; left.is_none());
-        assert_eq!(rt; (calls.asked, calls.handed), (1, 1));
+        let envelope = read_at_last(rt.alloc())?;
+        assert!(rt; goes_by_at_last(rt.alloc(), envelope, keep)?);
     }
     Ok(())
 }
 
-fn filtered(
-    alloc: Global,
-    envelope: Envelope,
-    calls: &mut Calls,
-    keep: bool,
-) -> Result<Option<Envelope>, Envelope> {
-    if keep {
-        envelope.filter_keep_headers(alloc, calls)
-    } else {
-        envelope.filter_by(alloc, calls)
-    }
-}
-
-/// An attachment of so many bytes.
-fn bytes_of(alloc: Global, length: usize) -> Result<Vec<u8>, Fail> {
+/// An envelope of an attachment of so many bytes and a recording.
+fn large(alloc: Global, length: usize) -> Result<Envelope, Fail> {
     let header = format!(in alloc; "{ID_LINE}{{\"type\":\"attachment\",\"length\":{length}}}\n")?;
     let mut bytes = header.as_bytes().to_vec(alloc)?;
     bytes.extend_from_slice(&vec![in alloc; b'x'; length]?)?;
-    Ok(bytes)
+    let mut envelope = read(alloc, &bytes)?;
+    envelope.add_item(recording(alloc))?;
+    Ok(envelope)
+}
+
+/// Whether an envelope is written as more bytes than these, and the same by a writer that counts.
+fn is_longer(alloc: Global, envelope: &Envelope, length: usize) -> Result<bool, Fail> {
+    let mut out = Vec::new(alloc);
+    envelope.to_writer(alloc, &mut out)?;
+    let mut counted = CountedWriter::new(Vec::new(alloc));
+    envelope.write_counted(alloc, &mut counted)?;
+    Ok(out.len() > length && counted.into_inner() == out)
+}
+
+/// Whether an item is left of an envelope of two.
+fn keeps_an_item(alloc: Global, envelope: Envelope, keep: bool) -> bool {
+    let mut calls = Calls::none();
+    let left = filtered(alloc, envelope, &mut calls, keep);
+    matches!(left, Ok(Some(_))) && calls.are(2, 1)
 }
 
 /// Wants no memory answered by any call.
@@ -219,22 +234,11 @@ fn bytes_of(alloc: Global, length: usize) -> Result<Vec<u8>, Fail> {
 fn none_refused(rt: HostRuntime) -> Result<(), Fail> {
     let alloc = rt.alloc();
     for length in [10, 1_000_000] {
-        let bytes = bytes_of(alloc, length)?;
-        let mut envelope = read(alloc, &bytes)?;
-        envelope.add_item(EnvelopeItem::ReplayRecording(ReplayRecording::default_in(alloc)))?;
-        let mut out = Vec::new(alloc);
-        envelope.to_writer(alloc, &mut out)?;
-        assert!(rt; out.len() > length);
-        let mut counted = CountedWriter::new(Vec::new(alloc));
-        envelope.write_counted(alloc, &mut counted)?;
-        assert!(rt; counted.into_inner() == out);
-        assert!(rt; matches!(envelope.clone()?.filter(alloc, Calls::none()), Ok(Some(_))));
-        for keep in [false, true] {
-            let mut calls = Calls::none();
-            let left = filtered(alloc, envelope.clone()?, &mut calls, keep);
-            assert!(rt; matches!(left, Ok(Some(_))));
-            assert_eq!(rt; (calls.asked, calls.handed), (2, 1));
-        }
+        let envelope = large(alloc, length)?;
+        assert!(rt; is_longer(alloc, &envelope, length)?);
+        assert!(rt; keeps_an_item(alloc, envelope.clone()?, false));
+        assert!(rt; keeps_an_item(alloc, envelope.clone()?, true));
+        assert!(rt; matches!(envelope.filter(alloc, Calls::none()), Ok(Some(_))));
     }
     Ok(())
 }

@@ -1,5 +1,5 @@
 // Bytes that spell envelopes, and bytes that don't.
-use super::{HELLO, ID_LINE, attachments, read, written};
+use super::{HELLO, ID_LINE, has_attachments, is_rewritten, is_written, read};
 use crate::EnvelopeError::{InvalidHeader, InvalidItemHeader, MissingNewline, UnexpectedEof};
 use crate::{Envelope, EnvelopeError, Moment};
 use rand_pcg::Pcg32;
@@ -9,20 +9,24 @@ use std::fs;
 use std::test::Fail;
 use uuid::Uuid;
 
+/// The id in the header, where bytes spell an envelope without items.
+fn id_alone(alloc: Global, bytes: &str) -> Result<Option<Uuid>, Fail> {
+    let envelope = read(alloc, bytes.as_bytes())?;
+    if envelope.items().next().is_some() {
+        return Err("items")?;
+    }
+    Ok(envelope.uuid().copied())
+}
+
 #[test]
 fn header_alone(rt: HostRuntime) -> Result<(), Fail> {
     let alloc = rt.alloc();
-    let bytes = b"{\"event_id\":\"9ec79c33ec9942ab8353589fcb2e04dc\"}";
-    let envelope = read(alloc, bytes)?;
+    let line = "{\"event_id\":\"9ec79c33ec9942ab8353589fcb2e04dc\"}";
     let id = Uuid::parse_str("9ec79c33ec9942ab8353589fcb2e04dc")?;
-    assert_eq!(rt; envelope.uuid().copied(), Some(id));
-    assert_eq!(rt; envelope.items().count(), 0);
-    assert_eq!(rt; written(alloc, &envelope)?.as_str(), ID_LINE);
-    let blank = read(alloc, b"{}\r\n")?;
-    assert!(rt; blank.uuid().is_none());
-    assert_eq!(rt; blank.items().count(), 0);
-    let null = read(alloc, b"{\"event_id\":null,\"x\":[1]}\n")?;
-    assert_eq!(rt; written(alloc, &null)?.as_str(), "{}\n");
+    assert_eq!(rt; id_alone(alloc, line)?, Some(id));
+    assert!(rt; is_rewritten(alloc, line, ID_LINE));
+    assert!(rt; id_alone(alloc, "{}\r\n")?.is_none());
+    assert!(rt; is_rewritten(alloc, "{\"event_id\":null,\"x\":[1]}\n", "{}\n"));
     Ok(())
 }
 
@@ -30,25 +34,18 @@ fn header_alone(rt: HostRuntime) -> Result<(), Fail> {
 fn one_attachment(rt: HostRuntime) -> Result<(), Fail> {
     let alloc = rt.alloc();
     let text = format!(in alloc; "{ID_LINE}{HELLO}")?;
-    for end in ["", "\n"] {
-        let bytes = format!(in alloc;
-            "{{\"event_id\":\"9ec79c33ec9942ab8353589fcb2e04dc\"}}\n{{\"type\":\"attachment\"}}\nhelloworld{end}"
-        )?;
-        let found = attachments(alloc, bytes.as_bytes())?;
-        assert_eq!(rt; found.len(), 1);
-        assert_eq!(rt; found[0].buffer.len(), 10);
-        assert_eq!(rt; found[0].buffer.as_slice(), b"helloworld".as_slice());
-        assert_eq!(rt;
-            written(alloc, &read(alloc, bytes.as_bytes())?)?.as_str(),
-            text.as_str()
-        );
+    for bytes in [
+        "{\"event_id\":\"9ec79c33ec9942ab8353589fcb2e04dc\"}\n{\"type\":\"attachment\"}\nhelloworld",
+        "{\"event_id\":\"9ec79c33ec9942ab8353589fcb2e04dc\"}\n{\"type\":\"attachment\"}\nhelloworld\n",
+    ] {
+        assert!(rt; has_attachments(alloc, bytes.as_bytes(), &["helloworld"]));
+        assert!(rt; is_rewritten(alloc, bytes, text.as_str()));
     }
     Ok(())
 }
 
 #[test]
-fn payloads(rt: HostRuntime) -> Result<(), Fail> {
-    let alloc = rt.alloc();
+fn payloads(rt: HostRuntime) {
     for (bytes, payload) in [
         ("{}\n\n{\"type\":\"attachment\"}\na", "a"),
         (
@@ -60,43 +57,57 @@ fn payloads(rt: HostRuntime) -> Result<(), Fail> {
             "helloworld\n",
         ),
     ] {
-        let found = attachments(alloc, bytes.as_bytes())?;
-        assert_eq!(rt; found.len(), 1);
-        assert_eq!(rt; found[0].buffer.as_slice(), payload.as_bytes());
+        assert!(rt; has_attachments(rt.alloc(), bytes.as_bytes(), &[payload]));
     }
-    let named = attachments(
-        alloc,
-        b"{}\n{\n\"filename\":\"}{\\\"\",\"type\":\"attachment\"}\nx",
-    )?;
-    assert_eq!(rt; named.len(), 1);
-    assert_eq!(rt; named[0].filename.as_str(), "}{\"");
-    for end in ["", "\n"] {
-        let empty = "{\"type\":\"attachment\",\"length\":0}";
-        let bytes = format!(in alloc;
-            "{{\"event_id\":\"9ec79c33ec9942ab8353589fcb2e04dc\"}}\n{empty}\n\n{empty}{end}"
-        )?;
-        let found = attachments(alloc, bytes.as_bytes())?;
-        assert_eq!(rt; found.len(), 2);
-        assert!(rt; found[0].buffer.is_empty() && found[1].buffer.is_empty());
-    }
-    Ok(())
 }
 
 #[test]
-fn a_recording(rt: HostRuntime) -> Result<(), Fail> {
-    let alloc = rt.alloc();
-    let bytes = b"{}\n{\"length\":5,\"type\":\"replay_recording\"}\na\nb\0}\n";
-    let envelope = read(alloc, bytes)?;
-    let mut out = Vec::new(alloc);
-    envelope.to_writer(alloc, &mut out)?;
-    assert_eq!(rt; out.as_slice(), bytes.as_slice());
-    let mut items = envelope.into_items();
-    let Some(EnvelopeItem::ReplayRecording(recording)) = items.next() else {
-        return Err("no recording")?;
+fn two_empty_payloads(rt: HostRuntime) {
+    for bytes in [
+        "{\"event_id\":\"9ec79c33ec9942ab8353589fcb2e04dc\"}\n{\"type\":\"attachment\",\"length\":0}\n\n{\"type\":\"attachment\",\"length\":0}",
+        "{\"event_id\":\"9ec79c33ec9942ab8353589fcb2e04dc\"}\n{\"type\":\"attachment\",\"length\":0}\n\n{\"type\":\"attachment\",\"length\":0}\n",
+    ] {
+        assert!(rt; has_attachments(rt.alloc(), bytes.as_bytes(), &["", ""]));
+    }
+}
+
+/// Whether bytes spell an envelope whose first item is an attachment of this name.
+fn is_named(alloc: Global, bytes: &[u8], name: &str) -> bool {
+    let Ok(envelope) = read(alloc, bytes) else {
+        return false;
     };
-    assert_eq!(rt; recording.buffer.as_slice(), b"a\nb\0}".as_slice());
-    assert!(rt; items.next().is_none());
-    Ok(())
+    match envelope.items().next() {
+        Some(EnvelopeItem::Attachment(attachment)) => attachment.filename.as_str() == name,
+        _ => false,
+    }
+}
+
+#[test]
+fn a_name_with_braces(rt: HostRuntime) {
+    let bytes = b"{}\n{\n\"filename\":\"}{\\\"\",\"type\":\"attachment\"}\nx";
+    assert!(rt; is_named(rt.alloc(), bytes, "}{\""));
+}
+
+/// Whether bytes spell an envelope of one recording of these bytes.
+fn has_recording(alloc: Global, bytes: &[u8], buffer: &[u8]) -> bool {
+    let Ok(envelope) = read(alloc, bytes) else {
+        return false;
+    };
+    let mut items = envelope.into_items();
+    match items.next() {
+        Some(EnvelopeItem::ReplayRecording(recording)) => {
+            recording.buffer.as_slice() == buffer && items.next().is_none()
+        }
+        _ => false,
+    }
+}
+
+#[test]
+fn a_recording(rt: HostRuntime) {
+    let alloc = rt.alloc();
+    let text = "{}\n{\"length\":5,\"type\":\"replay_recording\"}\na\nb\0}\n";
+    assert!(rt; has_recording(alloc, text.as_bytes(), b"a\nb\0}"));
+    assert!(rt; is_rewritten(alloc, text, text));
 }
 
 fn is_refused(alloc: Global, bytes: &str, error: EnvelopeError) -> bool {
@@ -172,27 +183,30 @@ fn nesting(rt: HostRuntime) -> Result<(), Fail> {
     Ok(())
 }
 
+/// How many items the envelope of a file has.
+fn items_in(rt: &HostRuntime, path: &str) -> Result<usize, EnvelopeError> {
+    let Some(now) = Moment::new(0, 0) else {
+        return Err(EnvelopeError::InvalidItemPayload);
+    };
+    let envelope = Envelope::from_path(rt, path, now, &mut Pcg32::new(42, 54))?;
+    Ok(envelope.items().count())
+}
+
+/// Whether a file's raw envelope shows no items, and is written as this text.
+fn is_raw_text(rt: &HostRuntime, path: &str, text: &str) -> Result<bool, EnvelopeError> {
+    let envelope = Envelope::from_path_raw(rt, path)?;
+    Ok(envelope.items().next().is_none() && is_written(rt.alloc(), &envelope, text))
+}
+
 #[test]
 fn files(rt: HostRuntime) -> Result<(), Fail> {
     let path = "an_envelope";
-    fs::write(&rt, path, "{}\n{\"type\":\"attachment\"}\na")?;
-    let now = Moment::new(0, 0).ok_or("no moment")?;
-    let mut ids = Pcg32::new(42, 54);
-    let envelope = Envelope::from_path(&rt, path, now, &mut ids)?;
-    assert_eq!(rt; envelope.items().count(), 1);
-    let raw = Envelope::from_path_raw(&rt, path)?;
-    assert_eq!(rt; raw.items().count(), 0);
-    assert_eq!(rt;
-        written(rt.alloc(), &raw)?.as_str(),
-        "{}\n{\"type\":\"attachment\"}\na"
-    );
+    let text = "{}\n{\"type\":\"attachment\"}\na";
+    fs::write(&rt, path, text)?;
+    assert!(rt; matches!(items_in(&rt, path), Ok(1)));
+    assert!(rt; matches!(is_raw_text(&rt, path, text), Ok(true)));
     fs::remove_file(&rt, path)?;
-    assert!(rt;
-        matches!(
-            Envelope::from_path(&rt, path, now, &mut ids),
-            Err(UnexpectedEof)
-        )
-    );
-    assert!(rt; matches!(Envelope::from_path_raw(&rt, path), Err(UnexpectedEof)));
+    assert!(rt; matches!(items_in(&rt, path), Err(UnexpectedEof)));
+    assert!(rt; matches!(is_raw_text(&rt, path, text), Err(UnexpectedEof)));
     Ok(())
 }

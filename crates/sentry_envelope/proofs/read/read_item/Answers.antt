@@ -1,5 +1,5 @@
 use Rattle.sentry_moments.specs.Moments.{moment_cell}
-use Rattle.sentry_envelope.specs.View.{frame_of}
+use Rattle.sentry_framing.specs.View.{frame_of}
 use Rattle.sentry_envelope.proofs.ItemReads.{attachment_read, recording_read}
 use Rattle.sentry_envelope.proofs.read.read_item.Goals as goal
 

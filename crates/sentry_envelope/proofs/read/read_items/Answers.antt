@@ -3,7 +3,7 @@ use Rattle.std.proofs.lemmas.Result.{err_from_is_err_and}
 use Rattle.sentry_envelope.specs.EnvelopeFault.{BodyIsAtFault}
 use Rattle.sentry_moments.specs.Moments.{moment_cell}
 use Rattle.sentry_envelope.specs.SentryProfile.{profile}
-use Rattle.sentry_envelope.specs.View.{frame_of}
+use Rattle.sentry_framing.specs.View.{frame_of}
 use Rattle.sentry_envelope.proofs.ItemReads.{framing_at_fault, payload_at_fault, one_more}
 use Rattle.sentry_envelope.proofs.read.read_items.Goals as goal
 

@@ -1,0 +1,5 @@
+pub mod Addresses
+pub mod Ips
+pub mod AddressTrees
+pub mod IpRanges
+pub mod IpTrees

@@ -1,0 +1,4 @@
+pub mod Address
+pub mod Ip
+pub mod AddressTree
+pub mod IpTree

@@ -1,0 +1,337 @@
+//! Addresses and register values.
+
+ghost use Rattle.std.specs.Prelude.{◌≡◌, ◌↔◌, IfOk, IsTrue, Some};
+ghost use Rattle.std.specs.Int.{w64, cast_unsigned};
+ghost use Rattle.std.specs.Result.{result_ok};
+ghost use Rattle.sentry_identifiers.specs.Number.{ReadsAs};
+ghost use Rattle.sentry_addresses.specs.Address.{address_of, address_text};
+ghost use Rattle.serde_json.specs.View.{view, number_view};
+ghost use Rattle.sentry_rows.specs.Cells.{natural_cell};
+ghost use Rattle.sentry_addresses.specs.AddressTree.{address_in, address_kind, number_address};
+
+use json::Writer;
+use sentry_identifiers::{ParseNumberError, parse_number};
+use sentry_rows::member::Usual;
+use sentry_rows::spelled::printed;
+use sentry_rows::{FromTree, Member, Room, TreeError};
+use serde_json::{Number, Value};
+use std::alloc::{AllocError, Global};
+use std::fmt;
+use std::str::FromStr;
+
+/// A memory address, as frames and debug images have it.
+///
+/// It is read from `0x` or `0X` and base 16 digits, or from decimal digits, with or without a `+`
+/// before the digits, and is written as `0x` and lower case digits.
+#[derive(Clone, Copy, Debug, Default, PartialEq, Eq, PartialOrd, Ord, Hash)]
+pub struct Addr(pub u64);
+
+/// The value of a register, read and written as an [`Addr`] is.
+#[derive(Clone, Copy, Debug, Default, PartialEq, Eq, PartialOrd, Ord, Hash)]
+pub struct RegVal(pub u64);
+
+fn parse_address(text: &str) -> Result<u64, ParseNumberError>
+    ensures { result_ok result ≡ address_of text.now }
+{
+    match text.strip_prefix("0x") {
+        Some(digits) => parse_number(digits, 16),
+        None => match text.strip_prefix("0X") {
+            Some(digits) => parse_number(digits, 16),
+            None => parse_number(text, 10),
+        },
+    }
+}
+
+impl Addr {
+    /// Whether this is the null pointer.
+    pub fn is_null(&self) -> bool
+        ensures { IsTrue result ↔ (self.now.0 ≡ 0) }
+    {
+        self.0 == 0
+    }
+}
+
+impl FromStr for Addr {
+    type Err = ParseNumberError;
+
+    ghost from_str_gives = { ReadsAs address_of (λ a. a.0) };
+
+    fn from_str(text: &str) -> Result<Addr, ParseNumberError> {
+        Ok(Addr(parse_address(text)?))
+    }
+}
+
+impl FromStr for RegVal {
+    type Err = ParseNumberError;
+
+    ghost from_str_gives = { ReadsAs address_of (λ a. a.0) };
+
+    fn from_str(text: &str) -> Result<RegVal, ParseNumberError> {
+        Ok(RegVal(parse_address(text)?))
+    }
+}
+
+impl fmt::Display for Addr {
+    ghost output = { λ a. Some (address_text a.0) };
+
+    fn fmt<W: fmt::Write>(&self, f: &mut fmt::Formatter<W>) -> fmt::Result {
+        write!(f, "0x{:x}", self.0)
+    }
+}
+
+impl fmt::Display for RegVal {
+    ghost output = { λ a. Some (address_text a.0) };
+
+    fn fmt<W: fmt::Write>(&self, f: &mut fmt::Formatter<W>) -> fmt::Result {
+        fmt::Display::fmt(&Addr(self.0), f)
+    }
+}
+
+impl From<u64> for Addr {
+    ghost from_gives = { λ n a. a.0 ≡ n };
+
+    fn from(number: u64) -> Addr {
+        Addr(number)
+    }
+}
+
+impl From<u32> for Addr {
+    ghost from_gives = { λ n a. a.0 ≡ n };
+
+    fn from(number: u32) -> Addr {
+        Addr(u64::from(number))
+    }
+}
+
+impl From<usize> for Addr {
+    ghost from_gives = { λ n a. a.0 ≡ n };
+
+    fn from(number: usize) -> Addr {
+        Addr(number as u64)
+    }
+}
+
+impl From<i32> for Addr {
+    // the sign is extended to 64 bits
+    ghost from_gives = { λ n a. a.0 ≡ cast_unsigned w64 n };
+
+    fn from(number: i32) -> Addr {
+        Addr(i64::from(number).cast_unsigned())
+    }
+}
+
+impl From<Addr> for u64 {
+    ghost from_gives = { λ a n. n ≡ a.0 };
+
+    fn from(addr: Addr) -> u64 {
+        addr.0
+    }
+}
+
+impl From<u64> for RegVal {
+    ghost from_gives = { λ n a. a.0 ≡ n };
+
+    fn from(number: u64) -> RegVal {
+        RegVal(number)
+    }
+}
+
+impl From<u32> for RegVal {
+    ghost from_gives = { λ n a. a.0 ≡ n };
+
+    fn from(number: u32) -> RegVal {
+        RegVal(u64::from(number))
+    }
+}
+
+impl From<usize> for RegVal {
+    ghost from_gives = { λ n a. a.0 ≡ n };
+
+    fn from(number: usize) -> RegVal {
+        RegVal(number as u64)
+    }
+}
+
+impl From<i32> for RegVal {
+    // the sign is extended to 64 bits
+    ghost from_gives = { λ n a. a.0 ≡ cast_unsigned w64 n };
+
+    fn from(number: i32) -> RegVal {
+        RegVal(i64::from(number).cast_unsigned())
+    }
+}
+
+impl From<RegVal> for u64 {
+    ghost from_gives = { λ a n. n ≡ a.0 };
+
+    fn from(value: RegVal) -> u64 {
+        value.0
+    }
+}
+
+// The address that a number of a tree stands for.
+#[tactic(auto, using(crate::proofs::AddressTrees::natural_address, crate::proofs::AddressTrees::negative_address, crate::proofs::AddressTrees::no_number_address))]
+fn number_address(number: &Number) -> Option<u64>
+    ensures { result ≡ number_address (number_view number.now) }
+{
+    match number.as_u64() {
+        Some(natural) => Some(natural),
+        None => match number.as_i64() {
+            Some(negative) => Some(negative.cast_unsigned()),
+            None => None,
+        },
+    }
+}
+
+// The address that a tree shows.
+#[tactic(auto, using(crate::proofs::AddressTrees::text_address, crate::proofs::AddressTrees::of_number, crate::proofs::AddressTrees::no_address))]
+fn address_in(tree: &Value) -> Option<u64>
+    ensures { result ≡ address_in (view tree.now) }
+{
+    match tree.as_str() {
+        Some(text) => parse_address(text).ok(),
+        None => match tree.as_number() {
+            Some(number) => number_address(number),
+            None => None,
+        },
+    }
+}
+
+impl Addr {
+    // The text of the address, in `room`.
+    fn text<'a>(&self, room: &'a mut Room) -> Result<&'a str, AllocError>
+        ensures { IfOk result (λ s. s.now ≡ address_text self.now.0) }
+    {
+        printed(self, room)
+    }
+}
+
+/// An address is written as its text. It is read from its text, or from a whole number: a negative
+/// one stands for its 64 bits in two's complement.
+impl Member for Addr {
+    ghost kind = { address_kind };
+
+    ghost cell_of = { λ a. natural_cell a.0 };
+
+    #[tactic(auto, using(crate::proofs::AddressTrees::address_tree_is))]
+    fn to_tree(&self, alloc: Global) -> Result<Value, AllocError> {
+        let mut room = Room::new();
+        Value::try_from_str(alloc, self.text(&mut room)?)
+    }
+
+    #[tactic(auto, using(crate::proofs::AddressTrees::address_wrote))]
+    fn write(&self, out: &mut Writer) -> Result<(), AllocError> {
+        let mut room = Room::new();
+        out.string(self.text(&mut room)?)
+    }
+
+    fn copy(&self) -> Result<Addr, AllocError> {
+        Ok(*self)
+    }
+
+    fn is_plain(&self) -> bool {
+        let _number = self.0;
+        true
+    }
+}
+
+impl FromTree for Addr {
+    #[tactic(auto, using(crate::proofs::AddressTrees::address_found, crate::proofs::AddressTrees::address_refused))]
+    fn from_tree(_alloc: Global, tree: &Value) -> Result<Addr, TreeError> {
+        match address_in(tree) {
+            Some(address) => Ok(Addr(address)),
+            None => Err(TreeError::Misfit),
+        }
+    }
+}
+
+impl Usual for Addr {
+    fn is(&self, usual: &Addr) -> bool {
+        *self == *usual
+    }
+}
+
+/// The value of a register is written and read as an address is.
+impl Member for RegVal {
+    ghost kind = { address_kind };
+
+    ghost cell_of = { λ a. natural_cell a.0 };
+
+    fn to_tree(&self, alloc: Global) -> Result<Value, AllocError> {
+        Addr(self.0).to_tree(alloc)
+    }
+
+    fn write(&self, out: &mut Writer) -> Result<(), AllocError> {
+        Addr(self.0).write(out)
+    }
+
+    fn copy(&self) -> Result<RegVal, AllocError> {
+        Ok(*self)
+    }
+
+    fn is_plain(&self) -> bool {
+        Addr(self.0).is_plain()
+    }
+}
+
+impl FromTree for RegVal {
+    fn from_tree(alloc: Global, tree: &Value) -> Result<RegVal, TreeError> {
+        Ok(RegVal(Addr::from_tree(alloc, tree)?.0))
+    }
+}
+
+#[cfg(test)]
+mod tests {
+    use super::*;
+    use std::test::Fail;
+
+    #[test]
+    fn printed(rt: HostRuntime) -> Result<(), Fail> {
+        for (text, shown) in [
+            ("0", "0x0"),
+            ("42", "0x2a"),
+            ("0x2a", "0x2a"),
+            ("0X2A", "0x2a"),
+            ("0x+2a", "0x2a"),
+            ("+42", "0x2a"),
+            ("18446744073709551615", "0xffffffffffffffff"),
+        ] {
+            let addr: Addr = text.parse()?;
+            assert_eq!(rt; addr.to_string(rt.alloc())?.as_str(), shown, "{text}");
+            let value: RegVal = text.parse()?;
+            assert_eq!(rt; value.to_string(rt.alloc())?.as_str(), shown, "{text}");
+        }
+        Ok(())
+    }
+
+    #[test]
+    fn refused(rt: HostRuntime) {
+        for text in [
+            "",
+            "0x",
+            "+",
+            "-1",
+            "0x-1",
+            "+0x2a",
+            "2a",
+            "18446744073709551616",
+            "0x10000000000000000",
+        ] {
+            assert!(rt; text.parse::<Addr>().is_err(), "{text}");
+            assert!(rt; text.parse::<RegVal>().is_err(), "{text}");
+        }
+    }
+
+    #[test]
+    fn numbers(rt: HostRuntime) -> Result<(), Fail> {
+        let top = Addr::from(-1i32);
+        assert_eq!(rt; top.to_string(rt.alloc())?.as_str(), "0xffffffffffffffff");
+        assert_eq!(rt; u64::from(RegVal::from(-2i32)), 18446744073709551614);
+        assert_eq!(rt; Addr::from(7u32), Addr::from(7u64));
+        assert_eq!(rt; u64::from(Addr::from(7usize)), 7);
+        assert!(rt; Addr::default().is_null());
+        assert!(rt; !top.is_null());
+        assert!(rt; Addr(1) < Addr(2));
+        Ok(())
+    }
+}

@@ -1,0 +1,190 @@
+//! IP addresses of users.
+
+ghost use Rattle.std.specs.Prelude.{◌≡◌, ◌↔◌, IsTrue, Some, None};
+ghost use Rattle.std.specs.Net.Grammar.{Parses};
+ghost use Rattle.sentry_addresses.specs.declared.ip.IpAddress.TheVariants.{Exact};
+ghost use Rattle.sentry_addresses.specs.Ip.{IsStoredIpAddress};
+
+use crate::ip_text::hold_ip;
+use sentry_rows::spelled::printed;
+use sentry_rows::{Room, Spelled, TreeError};
+use std::alloc::{AllocError, Global};
+use std::cmp::Ordering;
+use std::fmt;
+use std::net::IpAddr;
+use std::str::FromStr;
+use thiserror::Error;
+
+/// The IP address of a user.
+///
+/// It is read from `{{auto}}` or an IPv4 or IPv6 address, and written as that. An IPv6 address is
+/// written in lower case without leading zeros, with `::` for its longest run of two or more zero
+/// groups; one that holds an IPv4 address as `::ffff:` and that address.
+#[derive(Clone, Copy, Debug, Default, PartialEq, Eq, PartialOrd, Ord, Hash)]
+pub enum IpAddress {
+    /// The address that the user's connection has.
+    #[default]
+    Auto,
+    /// This address.
+    Exact(IpAddr),
+}
+
+/// The text is neither `{{auto}}` nor an IP address.
+#[derive(Debug, Drop, Error)]
+#[error("ParseIpError")]
+pub struct ParseIpError;
+
+impl IpAddress {
+    /// Whether this is that very address; `Auto` is none.
+    pub fn eq_ip(&self, other: &IpAddr) -> bool
+        ensures { IsTrue result ↔ (self.now ≡ Exact other.now) }
+    {
+        match self {
+            IpAddress::Auto => false,
+            IpAddress::Exact(ip) => *ip == *other,
+        }
+    }
+
+    /// How this address and the other one are ordered: IPv4 before IPv6, and then by their numbers.
+    /// `Auto` is not ordered.
+    pub fn partial_cmp_ip(&self, other: &IpAddr) -> Option<Ordering>
+        ensures auto { self.now ≡ IpAddress.Auto → result ≡ None }
+        ensures exact { (ip : IpAddr) → self.now ≡ Exact ip → result ≡ Some (⟦<IpAddr as Ord>⟧.cmp ip other.now) }
+    {
+        match self {
+            IpAddress::Auto => None,
+            IpAddress::Exact(ip) => Some(ip.cmp(other)),
+        }
+    }
+}
+
+impl From<IpAddr> for IpAddress {
+    ghost from_gives = { λ ip a. a ≡ Exact ip };
+
+    fn from(ip: IpAddr) -> IpAddress {
+        Self::Exact(ip)
+    }
+}
+
+impl FromStr for IpAddress {
+    type Err = ParseIpError;
+
+    ghost use Rattle.sentry_addresses.specs.Ip.{IsIpAddress};
+
+    ghost from_str_gives = { Parses IsIpAddress };
+
+    fn from_str(text: &str) -> Result<IpAddress, ParseIpError> {
+        match text {
+            "{{auto}}" => Ok(IpAddress::Auto),
+            _ => match text.parse::<IpAddr>() {
+                Ok(ip) => Ok(IpAddress::Exact(ip)),
+                Err(_) => Err(ParseIpError),
+            },
+        }
+    }
+}
+
+impl fmt::Display for IpAddress {
+    ghost use Rattle.sentry_addresses.specs.Ip.{ip_address_text};
+
+    ghost output = { λ a. Some (ip_address_text a) };
+
+    fn fmt<W: fmt::Write>(&self, f: &mut fmt::Formatter<W>) -> fmt::Result {
+        match self {
+            IpAddress::Auto => f.write_str("{{auto}}"),
+            IpAddress::Exact(ip) => fmt::Display::fmt(ip, f),
+        }
+    }
+}
+
+impl Spelled for IpAddress {
+    ghost use Rattle.sentry_addresses.specs.IpTree.{ip_address_cell, ip_address_spelling};
+
+    ghost spelling = { ip_address_spelling };
+
+    ghost cell_of = { ip_address_cell };
+
+    fn of_text(_alloc: Global, text: &str) -> Result<IpAddress, TreeError> {
+        match text.parse::<IpAddress>() {
+            Ok(address) => Ok(address),
+            Err(_) => Err(TreeError::Misfit),
+        }
+    }
+
+    fn text<'a>(&'a self, room: &'a mut Room) -> Result<&'a str, AllocError> {
+        hold_address(self);
+        printed(self, room)
+    }
+
+    fn copied(&self) -> Result<IpAddress, AllocError> {
+        Ok(*self)
+    }
+
+    fn hold(&self) {
+        hold_address(self);
+    }
+}
+
+// Nothing; an address has numbers in range.
+fn hold_address(address: &IpAddress)
+    ensures { IsStoredIpAddress address.now }
+{
+    match address {
+        IpAddress::Auto => {}
+        IpAddress::Exact(ip) => hold_ip(ip),
+    }
+}
+
+#[cfg(test)]
+mod tests {
+    use super::*;
+    use std::net::Ipv4Addr;
+    use std::test::Fail;
+
+    #[test]
+    fn printed(rt: HostRuntime) -> Result<(), Fail> {
+        for (text, shown) in [
+            ("{{auto}}", "{{auto}}"),
+            ("1.2.3.4", "1.2.3.4"),
+            ("::ffff:1.2.3.4", "::ffff:1.2.3.4"),
+            ("1:0:0:2::", "1:0:0:2::"),
+            ("::1.2.3.4", "::102:304"),
+            ("0:0:1:0:0:0:0:ABcd", "0:0:1::abcd"),
+        ] {
+            let ip: IpAddress = text.parse()?;
+            assert_eq!(rt; ip.to_string(rt.alloc())?.as_str(), shown, "{text}");
+        }
+        Ok(())
+    }
+
+    #[test]
+    fn refused(rt: HostRuntime) {
+        for text in [
+            "",
+            "{{AUTO}}",
+            "auto",
+            "banana",
+            "01.2.3.4",
+            "1.2.3",
+            "1.2.3.256",
+            "1:2",
+            ":::",
+            " ::1",
+        ] {
+            assert!(rt; text.parse::<IpAddress>().is_err(), "{text}");
+        }
+    }
+
+    #[test]
+    fn compared(rt: HostRuntime) {
+        let one = IpAddr::from(Ipv4Addr::new(1, 2, 3, 4));
+        let two = IpAddr::from(Ipv4Addr::new(1, 2, 3, 5));
+        let exact = IpAddress::from(one);
+        assert!(rt; exact.eq_ip(&one) && !exact.eq_ip(&two));
+        assert_eq!(rt; exact.partial_cmp_ip(&two), Some(Ordering::Less));
+        assert_eq!(rt; IpAddress::default(), IpAddress::Auto);
+        assert!(rt; !IpAddress::Auto.eq_ip(&one));
+        assert_eq!(rt; IpAddress::Auto.partial_cmp_ip(&one), None);
+        assert!(rt; IpAddress::Auto < exact);
+    }
+}

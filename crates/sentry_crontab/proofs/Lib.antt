@@ -1,0 +1,3 @@
+pub mod CrontabItems
+pub mod CrontabParts
+pub mod CrontabWords

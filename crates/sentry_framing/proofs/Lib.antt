@@ -1,0 +1,11 @@
+pub mod Machine
+pub mod Pieces
+pub mod Scan
+pub mod LineEnds
+pub mod Opening
+pub mod Tails
+pub mod Outcomes
+pub mod Verdicts
+pub mod Faults
+pub mod StatedLengths
+pub mod Written

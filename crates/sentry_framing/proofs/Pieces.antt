@@ -1,0 +1,151 @@
+-- The scan of a piece against the grammar, in both directions.
+use Rattle.std.proofs.Common.{◌≡◌, ◌≢◌, inl, inr, ℕ, zero, suc, ◌+◌, List, [], ◌∷◌, ◌++◌, Some, None, refl, sym, ◌∙◌, ap, subst, append_assoc, append-nil, add-one}
+use Rattle.std.proofs.lemmas.Bool.{cases_eq}
+use Rattle.std.proofs.lemmas.List.{append_cancel_right}
+use Rattle.sentry_framing.specs.declared.piece.Place.TheVariants.{Plain, InString, AfterBackslash}
+use Rattle.sentry_json.specs.Balanced.{IsStringEnd, closed, byte, pair, IsBalanced, braces, IsInside, nothing, plain, string, piece}
+use Rattle.sentry_framing.proofs.Machine.{rest_after, plain_other, string_other, escaped, plain_quote, plain_open, plain_close, plain_last, nothing_left, string_quote, string_backslash}
+
+-- ---- what the grammar has, the scan passes over
+
+string_passes : {t : List ℕ} → IsStringEnd t → (s : List ℕ) (d : ℕ) → rest_after (t ++ s) InString d ≡ rest_after s Plain d
+string_passes closed s d = string_quote s d
+string_passes (byte {b} {s = t} q e h) s d = string_other b (t ++ s) d q e ∙ string_passes h s d
+string_passes (pair {b} {s = t} h) s d = string_backslash (b ∷ (t ++ s)) d ∙ escaped b (t ++ s) d ∙ string_passes h s d
+
+mutual
+  balanced_passes : {p : List ℕ} → IsBalanced p → (t : List ℕ) (d : ℕ) → rest_after (p ++ t) Plain d ≡ rest_after t Plain d
+  balanced_passes (braces {s} h) t d =
+      plain_open ((s ++ 125 ∷ []) ++ t) d
+      ∙ ap (λ x. rest_after x Plain (d + 1)) (append_assoc s (125 ∷ []) t)
+      ∙ inside_passes h (125 ∷ t) (d + 1)
+      ∙ plain_close t d
+
+  inside_passes : {s : List ℕ} → IsInside s → (t : List ℕ) (d : ℕ) → rest_after (s ++ t) Plain d ≡ rest_after t Plain d
+  inside_passes nothing t d = refl
+  inside_passes (plain {b} {s} q o c h) t d = plain_other b (s ++ t) d q o c ∙ inside_passes h t d
+  inside_passes (string {t = u} {s} e h) t d =
+      plain_quote ((u ++ s) ++ t) d
+      ∙ ap (λ x. rest_after x InString d) (append_assoc u s t)
+      ∙ string_passes e (s ++ t) d
+      ∙ inside_passes h t d
+  inside_passes (piece {p} {s} b h) t d =
+      ap (λ x. rest_after x Plain d) (append_assoc p s t)
+      ∙ balanced_passes b (s ++ t) d
+      ∙ inside_passes h t d
+
+-- ---- what the scan finds, the grammar has
+
+-- what is left once that many braces, opened before, are closed
+abbrev Closes : ℕ → List ℕ → List ℕ → Type 0
+Closes zero s rest = s ≡ rest
+Closes (suc d) s rest = (i : List ℕ) × (m : List ℕ) × IsInside i × (s ≡ i ++ 125 ∷ m) × Closes d m rest
+
+abbrev ClosesString : ℕ → List ℕ → List ℕ → Type 0
+ClosesString d s rest = (t : List ℕ) × (m : List ℕ) × IsStringEnd t × (s ≡ t ++ m) × Closes (suc d) m rest
+
+-- a part of the inside before what closes
+before : (d : ℕ) (f s rest : List ℕ) → ((i : List ℕ) → IsInside i → IsInside (f ++ i)) → Closes (suc d) s rest → Closes (suc d) (f ++ s) rest
+before d f s rest grows (i, m, h, e, more) =
+    (f ++ i, m, grows i h, ap (λ x. f ++ x) e ∙ sym (append_assoc f i (125 ∷ m)), more)
+
+nested : (d : ℕ) (s rest : List ℕ) → Closes (suc (suc d)) s rest → Closes (suc d) (123 ∷ s) rest
+nested d s rest (i, m, h, e, more) =
+    let inner : Closes (suc d) ((123 ∷ (i ++ 125 ∷ [])) ++ m) rest = before d (123 ∷ (i ++ 125 ∷ [])) m rest (λ j k. piece (braces h) k) more in
+    subst (λ x. Closes (suc d) x rest) (sym (ap (λ x. 123 ∷ x) (e ∙ sym (append_assoc i (125 ∷ []) m)))) inner
+
+quoted : (d : ℕ) (s rest : List ℕ) → ClosesString d s rest → Closes (suc d) (34 ∷ s) rest
+quoted d s rest (t, m, h, e, more) =
+    let inner : Closes (suc d) ((34 ∷ t) ++ m) rest = before d (34 ∷ t) m rest (λ j k. string h k) more in
+    subst (λ x. Closes (suc d) x rest) (sym (ap (λ x. 34 ∷ x) e)) inner
+
+longer : (d b : ℕ) (s rest : List ℕ) → b ≢ 34 → b ≢ 92 → ClosesString d s rest → ClosesString d (b ∷ s) rest
+longer d b s rest q n (t, m, h, e, more) = (b ∷ t, m, byte q n h, ap (λ x. b ∷ x) e, more)
+
+escaping : (d b : ℕ) (s rest : List ℕ) → ClosesString d s rest → ClosesString d (92 ∷ b ∷ s) rest
+escaping d b s rest (t, m, h, e, more) = (92 ∷ b ∷ t, m, pair h, ap (λ x. 92 ∷ b ∷ x) e, more)
+
+none_some : {A : Type 0} (x : A) → None ≡ Some x → ⊥
+none_some x e = cc
+
+some_same : {A : Type 0} (x y : A) → Some x ≡ Some y → x ≡ y
+some_same x y e = cc
+
+closing : (s : List ℕ) (d : ℕ) (rest : List ℕ) → ((c : ℕ) → rest_after s Plain c ≡ Some rest → Closes (suc c) s rest)
+    → rest_after (125 ∷ s) Plain d ≡ Some rest → Closes (suc d) (125 ∷ s) rest
+closing s zero rest after e = ([], s, nothing, refl, some_same s rest (sym (plain_last s) ∙ e))
+closing s (suc d) rest after e =
+    let f : rest_after (125 ∷ s) Plain (d + 1) ≡ Some rest = ap (λ x. rest_after (125 ∷ s) Plain x) (add-one d) ∙ e in
+    ([], s, nothing, refl, after d (sym (plain_close s d) ∙ f))
+
+mutual
+  sound_plain : (s : List ℕ) (d : ℕ) (rest : List ℕ) → rest_after s Plain d ≡ Some rest → Closes (suc d) s rest
+  sound_plain [] d rest e = absurd (none_some rest (sym (nothing_left Plain d) ∙ e))
+  sound_plain (b ∷ s) d rest e =
+      elim (cases_eq b 34) [
+        | inl is ↦
+            let f : rest_after (34 ∷ s) Plain d ≡ Some rest = subst (λ x. rest_after (x ∷ s) Plain d ≡ Some rest) is e in
+            subst (λ x. Closes (suc d) (x ∷ s) rest) (sym is) (quoted d s rest (sound_string s d rest (sym (plain_quote s d) ∙ f)))
+        | inr q ↦ elim (cases_eq b 123) [
+          | inl is ↦
+              let f : rest_after (123 ∷ s) Plain d ≡ Some rest = subst (λ x. rest_after (x ∷ s) Plain d ≡ Some rest) is e in
+              let g : rest_after s Plain (suc d) ≡ Some rest = ap (λ x. rest_after s Plain x) (sym (add-one d)) ∙ sym (plain_open s d) ∙ f in
+              subst (λ x. Closes (suc d) (x ∷ s) rest) (sym is) (nested d s rest (sound_plain s (suc d) rest g))
+          | inr o ↦ elim (cases_eq b 125) [
+            | inl is ↦
+                let f : rest_after (125 ∷ s) Plain d ≡ Some rest = subst (λ x. rest_after (x ∷ s) Plain d ≡ Some rest) is e in
+                subst (λ x. Closes (suc d) (x ∷ s) rest) (sym is) (closing s d rest (λ c h. sound_plain s c rest h) f)
+            | inr c ↦ before d (b ∷ []) s rest (λ i h. plain q o c h) (sound_plain s d rest (sym (plain_other b s d q o c) ∙ e))
+          ]
+        ]
+      ]
+
+  sound_string : (s : List ℕ) (d : ℕ) (rest : List ℕ) → rest_after s InString d ≡ Some rest → ClosesString d s rest
+  sound_string [] d rest e = absurd (none_some rest (sym (nothing_left InString d) ∙ e))
+  sound_string (b ∷ s) d rest e =
+      elim (cases_eq b 34) [
+        | inl is ↦
+            let f : rest_after (34 ∷ s) InString d ≡ Some rest = subst (λ x. rest_after (x ∷ s) InString d ≡ Some rest) is e in
+            (34 ∷ [], s, closed, ap (λ x. x ∷ s) is, sound_plain s d rest (sym (string_quote s d) ∙ f))
+        | inr q ↦ elim (cases_eq b 92) [
+          | inl is ↦
+              let f : rest_after (92 ∷ s) InString d ≡ Some rest = subst (λ x. rest_after (x ∷ s) InString d ≡ Some rest) is e in
+              subst (λ x. ClosesString d (x ∷ s) rest) (sym is) (sound_escape s d rest (sym (string_backslash s d) ∙ f))
+          | inr n ↦ longer d b s rest q n (sound_string s d rest (sym (string_other b s d q n) ∙ e))
+        ]
+      ]
+
+  sound_escape : (s : List ℕ) (d : ℕ) (rest : List ℕ) → rest_after s AfterBackslash d ≡ Some rest → ClosesString d (92 ∷ s) rest
+  sound_escape [] d rest e = absurd (none_some rest (sym (nothing_left AfterBackslash d) ∙ e))
+  sound_escape (b ∷ s) d rest e = escaping d b s rest (sound_string s d rest (sym (escaped b s d) ∙ e))
+
+-- ---- pieces at the front of bytes
+
+pub found_inside : (inside rest : List ℕ) → rest_after inside Plain 0 ≡ Some rest → (s : List ℕ) × IsInside s × (inside ≡ s ++ 125 ∷ rest)
+found_inside inside rest e = let (i, m, h, is, same) = sound_plain inside 0 rest e in (i, h, is ∙ ap (λ x. i ++ 125 ∷ x) same)
+
+inside_is : (s rest : List ℕ) → IsInside s → rest_after (s ++ 125 ∷ rest) Plain 0 ≡ Some rest
+inside_is s rest h = inside_passes h (125 ∷ rest) 0 ∙ plain_last rest
+
+-- the bytes after the first are those of a piece and what follows it
+pub after_open : (p rest : List ℕ) → IsBalanced p → (inside : List ℕ) × (p ++ rest ≡ 123 ∷ inside) × (rest_after inside Plain 0 ≡ Some rest)
+after_open p rest (braces {s} h) =
+    (s ++ 125 ∷ rest, ap (λ x. 123 ∷ x) (append_assoc s (125 ∷ []) rest), inside_is s rest h)
+
+same_tail : (a b : ℕ) (x y : List ℕ) → a ∷ x ≡ b ∷ y → x ≡ y
+same_tail a b x y e = cc
+
+-- bytes begin with one piece at most
+pub same_rest : (p q x y : List ℕ) → IsBalanced p → IsBalanced q → p ++ x ≡ q ++ y → x ≡ y
+same_rest p q x y hp hq e =
+    let a = after_open p x hp in
+    let b = after_open q y hq in
+    let same : a.0 ≡ b.0 = same_tail 123 123 a.0 b.0 (sym a.1 ∙ e ∙ b.1) in
+    some_same x y (sym a.2 ∙ ap (λ z. rest_after z Plain 0) same ∙ b.2)
+
+pub same_piece : (p q x y : List ℕ) → IsBalanced p → IsBalanced q → p ++ x ≡ q ++ y → p ≡ q
+same_piece p q x y hp hq e =
+    append_cancel_right p q y (ap (λ z. p ++ z) (sym (same_rest p q x y hp hq e)) ∙ e)
+
+pub not_longer : (p q rest : List ℕ) → IsBalanced p → IsBalanced q → p ++ rest ≡ q → rest ≡ []
+not_longer p q rest hp hq e = same_rest p q rest [] hp hq (e ∙ sym (append-nil q))

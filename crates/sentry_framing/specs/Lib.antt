@@ -1,0 +1,6 @@
+pub mod Framing
+pub mod HeaderView
+pub mod ItemHeader
+pub mod ItemWords
+pub mod Unread
+pub mod View

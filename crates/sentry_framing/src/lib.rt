@@ -1,0 +1,18 @@
+//! The framing of envelopes: a header line, and items of a header and a payload.
+#![tactic(auto)]
+
+pub mod error;
+pub mod frames;
+pub mod header;
+pub mod kind;
+pub mod laws;
+mod lines;
+mod piece;
+
+pub use error::EnvelopeError;
+pub use frames::{Frames, ItemFrame};
+pub use header::{ItemHeader, read_item_header};
+pub use kind::ItemKind;
+
+#[cfg(test)]
+mod tests;

@@ -1,0 +1,71 @@
+-- The types of attachments as texts.
+use Rattle.std.proofs.Common.{◌≡◌, ℕ, zero, suc, List, [], ◌∷◌, Bool, true, false, ◌||◌, cond, Some, codes, refl, sym, ap, subst, IsUtf8, bytes_eq}
+use Rattle.std.specs.Prelude.{⊤}
+use Rattle.std.proofs.lemmas.Bool.{false≢true}
+use Rattle.std.proofs.lemmas.Slice.Eq.{bytes_eq-Decides}
+use Rattle.json.proofs.Printed.Utf8.{IsUtf8-are_ascii}
+use Rattle.sentry_tables.specs.Cell.{Cell, text, choice}
+use Rattle.sentry_tables.specs.Kind.{has_key}
+use Rattle.sentry_tables.specs.Laws.{HasLaws}
+use Rattle.sentry_tables.proofs.Basic.{WordLaws}
+use Rattle.sentry_tables.proofs.Laws.{has_laws}
+use Rattle.sentry_rows.proofs.Spellings.{read_as_laws, spelled_laws}
+use Rattle.sentry_items.specs.AttachmentWords.{attachment_words, known, custom, attachment_type_of, attachment_type_text, attachment_type_spelling, attachment_type_kind, IsAttachmentType}
+
+-- a type that a text is read as has that text
+pub type_text_of : (word : List ℕ) → attachment_type_text (attachment_type_of word) ≡ word
+type_text_of word = go (has_key word attachment_words)
+  where
+    go : (b : Bool) → attachment_type_text (cond b (known word) (custom word)) ≡ word
+    go true = refl
+    go false = refl
+
+abbrev AreTexts : List (List ℕ) → Type 0
+AreTexts [] = ⊤
+AreTexts (k ∷ ks) = IsUtf8 k × AreTexts ks
+
+text_among : (word : List ℕ) (ks : List (List ℕ)) → AreTexts ks → has_key word ks ≡ true → IsUtf8 word
+text_among word [] texts e = absurd (false≢true e)
+text_among word (k ∷ ks) texts e = go (bytes_eq word k) refl e (text_among word ks texts.1)
+  where
+    go : (b : Bool) → bytes_eq word k ≡ b → b || has_key word ks ≡ true → (has_key word ks ≡ true → IsUtf8 word) → IsUtf8 word
+    go true same e others = subst IsUtf8 (sym ((bytes_eq-Decides word k).0 same)) texts.0
+    go false same e others = others e
+
+known_texts : AreTexts attachment_words
+known_texts = (
+  IsUtf8-are_ascii (codes "event.attachment") refl,
+  (
+    IsUtf8-are_ascii (codes "event.minidump") refl,
+    (IsUtf8-are_ascii (codes "event.applecrashreport") refl, (IsUtf8-are_ascii (codes "unreal.context") refl, (IsUtf8-are_ascii (codes "unreal.logs") refl, tt))),
+  ),
+)
+
+pub type_text : (c : Cell) → IsAttachmentType c → IsUtf8 (attachment_type_text c)
+type_text (choice zero (text word)) h = text_among word attachment_words known_texts h
+type_text (choice zero _) h = absurd h
+type_text (choice (suc zero) (text word)) h = h
+type_text (choice (suc zero) _) h = absurd h
+type_text (choice (suc (suc n)) c) h = absurd h
+type_text _ h = absurd h
+
+pub type_read : (word : List ℕ) → IsUtf8 word → IsAttachmentType (attachment_type_of word)
+type_read word utf8 = go (has_key word attachment_words) refl
+  where
+    go : (b : Bool) → has_key word attachment_words ≡ b → IsAttachmentType (cond b (known word) (custom word))
+    go true e = e
+    go false e = utf8
+
+inside : (a b : Cell) → Some a ≡ Some b → a ≡ b
+inside a b e = cc
+
+type_words : WordLaws (λ word. Some (attachment_type_of word)) attachment_type_text IsAttachmentType
+type_words = record {
+  reads = λ c stored. (attachment_type_of (attachment_type_text c), refl);
+  stored = λ word c utf8 read. subst IsAttachmentType (inside (attachment_type_of word) c read) (type_read word utf8);
+  stable = λ word c read. subst (λ x. Some (attachment_type_of (attachment_type_text x)) ≡ Some x) (inside (attachment_type_of word) c read) (ap (λ w. Some (attachment_type_of w)) (type_text_of word));
+  utf8 = type_text;
+}
+
+pub type_has_laws : HasLaws attachment_type_kind
+type_has_laws = has_laws attachment_type_kind (spelled_laws attachment_type_spelling (read_as_laws (λ word. Some (attachment_type_of word)) attachment_type_text IsAttachmentType type_words))

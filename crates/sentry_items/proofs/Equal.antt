@@ -1,0 +1,55 @@
+-- What `==` says of attachments and of items.
+use Rattle.std.proofs.Common.{rules, Global, String, ◌≡◌, Bool, ◌&&◌, Option, Some, None, option_map, string_bytes, refl, ap, Decides}
+use Rattle.std.proofs.lemmas.Bool.Decides.{Decides-and, Decides-eqb}
+use Rattle.std.proofs.lemmas.Slice.Eq.{slice_eq-Decides, bytes_eq-Decides}
+use lib.Pointwise.{pointwise}
+use lib.Dec.{eqb}
+use Rattle.std.specs.Option.{option_eq}
+use Rattle.std.specs.String.{string_eq}
+use Rattle.sentry_items.specs.Attached.{Attached}
+use Rattle.sentry_items.specs.View.{attachment_type_cell, attachment_view, item_view, attachment, replay_recording}
+use Rattle.sentry_items.specs.declared.attachment.Attachment.{Attachment}
+use Rattle.sentry_items.specs.declared.attachment_type.AttachmentType.{AttachmentType}
+use Rattle.sentry_items.specs.contracts.attachment_type.AttachmentTypePartialEq.TheImpl.{eq-value as of_types}
+use Rattle.sentry_items.specs.contracts.item.EnvelopeItemPartialEq.TheImpl.{eq-value as of_items}
+use Rattle.sentry_items.specs.declared.item.EnvelopeItem.{EnvelopeItem}
+use Rattle.sentry_items.specs.declared.item.EnvelopeItem.TheVariants as item
+
+strings_decide : (a b : String Global) → Decides (string_eq a b) (string_bytes a ≡ string_bytes b)
+strings_decide a b = bytes_eq-Decides (string_bytes a) (string_bytes b)
+
+options_decide : {T V : Type 0} (E : T → T → Bool) (view : T → V) → ((a b : T) → Decides (E a b) (view a ≡ view b)) → (x y : Option T) → Decides (option_eq E x y) (option_map view x ≡ option_map view y)
+options_decide E view each None None = (λ same. refl, λ same. refl)
+options_decide E view each None (Some b) = (λ same. cc, λ same. cc)
+options_decide E view each (Some a) None = (λ same. cc, λ same. cc)
+options_decide E view each (Some a) (Some b) = (λ same. ap Some ((each a b).0 same), λ same. (each a b).1 (cc))
+
+types_decide : (a b : AttachmentType) → Decides (of_types.it a b) (attachment_type_cell a ≡ attachment_type_cell b)
+types_decide a b = search rules
+
+-- equal parts are an equal view
+views_same : (a b : Attached) → (a.buffer ≡ b.buffer) × ((a.filename ≡ b.filename) × ((a.content_type ≡ b.content_type) × (a.ty ≡ b.ty))) → a ≡ b
+views_same a b (buffer, (filename, (content_type, ty))) = λ i. record { buffer = buffer i; filename = filename i; content_type = content_type i; ty = ty i }
+
+pub attachments_decide : (a b : Attachment) → Decides (pointwise eqb a.buffer.items b.buffer.items && (string_eq a.filename b.filename && (option_eq string_eq a.content_type b.content_type && option_eq of_types.it a.ty b.ty))) (attachment_view a ≡ attachment_view b)
+attachments_decide a b =
+    let parts = Decides-and _ _ (slice_eq-Decides Decides-eqb a.buffer.items b.buffer.items _ refl)
+    (Decides-and _ _ (strings_decide a.filename b.filename)
+    (Decides-and _ _ (options_decide string_eq string_bytes strings_decide a.content_type b.content_type)
+    (options_decide of_types.it attachment_type_cell types_decide a.ty b.ty))) in (
+      λ same. views_same (attachment_view a) (attachment_view b) (parts.0 same),
+      λ same. parts.1 (ap (λ (v : Attached). v.buffer) same, (ap (λ (v : Attached). v.filename) same, (ap (λ (v : Attached). v.content_type) same, ap (λ (v : Attached). v.ty) same))),
+    )
+
+pub items_decide : (a b : EnvelopeItem) → Decides (of_items.it a b) (item_view a ≡ item_view b)
+items_decide (item.Attachment a) (item.Attachment b) = (λ same. ap attachment ((attachments_decide a b).0 same), λ same. (attachments_decide a b).1 (cc))
+items_decide (item.ReplayRecording a) (item.ReplayRecording b) =
+    let bytes = slice_eq-Decides Decides-eqb a.buffer.items b.buffer.items _ refl in
+    (λ same. ap replay_recording (bytes.0 same), λ same. bytes.1 (cc))
+items_decide item.Raw item.Raw = (λ same. refl, λ same. refl)
+items_decide (item.Attachment a) (item.ReplayRecording b) = (λ same. cc, λ same. cc)
+items_decide (item.Attachment a) item.Raw = (λ same. cc, λ same. cc)
+items_decide (item.ReplayRecording a) (item.Attachment b) = (λ same. cc, λ same. cc)
+items_decide (item.ReplayRecording a) item.Raw = (λ same. cc, λ same. cc)
+items_decide item.Raw (item.Attachment b) = (λ same. cc, λ same. cc)
+items_decide item.Raw (item.ReplayRecording b) = (λ same. cc, λ same. cc)
