@@ -16,14 +16,14 @@ use Rattle.sentry_tables.specs.Written.{is_null}
 use Rattle.sentry_tables.specs.Basic.{IsBelow}
 use Rattle.sentry_tables.specs.Lawful.{ScalarLaws, RefusesNull, IsNormal}
 use Rattle.sentry_tables.proofs.Basic.{ReaderLaws, lawful_reader, reader_refuses_null}
-use Rattle.sentry_rows.specs.Cells.{natural_cell}
-use Rattle.sentry_rows.specs.Reading.{Shown, Refused}
-use Rattle.sentry_rows.specs.Written.{written, WritesTree}
-use Rattle.sentry_rows.proofs.Tokens.{string_wrote}
+use Rattle.sentry_members.specs.Cells.{natural_cell}
+use Rattle.sentry_members.specs.Reading.{Shown, Refused}
+use Rattle.sentry_members.specs.Written.{written, WritesTree}
+use Rattle.sentry_members.proofs.Tokens.{string_wrote}
 use Rattle.sentry_addresses.specs.Address.{IsAddress, address_of, address_text}
 use Rattle.sentry_addresses.specs.AddressTree.{number_address, address_in, address_tree, address_scalar, address_kind}
 use Rattle.sentry_addresses.proofs.Addresses.{address_of_iff, written_address}
-use Rattle.sentry_identifiers.proofs.Bounds.{digits_small}
+use Rattle.sentry_numbers.proofs.Bounds.{digits_small}
 
 -- ---- the written text is ASCII
 

@@ -4,9 +4,9 @@ use Rattle.std.specs.Char.{digit_value}
 use Rattle.std.specs.Fmt.{digits}
 use Rattle.std.specs.Str.Parse.{AllDigits, without_leading_plus}
 use Rattle.std.proofs.lemmas.Bool.{cond-false, cases_Bool, and_parts, and_right, or_cases, eqb-true, false_from_ne_true, true≢false}
-use Rattle.sentry_identifiers.specs.Number.{IsNumber, number_of}
+use Rattle.sentry_numbers.specs.Number.{IsNumber, number_of}
 use Rattle.sentry_addresses.specs.Address.{IsAddress, has_hex_front, address_of, address_text}
-use Rattle.sentry_identifiers.proofs.NumberTexts.{number_of_iff, written_number}
+use Rattle.sentry_numbers.proofs.NumberTexts.{number_of_iff, written_number}
 
 pub hex_address : (text rest : List ℕ) (x : ℕ) → text ≡ 48 ∷ x ∷ rest → (x ≡ 120) ⊎ (x ≡ 88) → address_of text ≡ number_of 16 rest
 unfolding address_of

@@ -10,7 +10,7 @@ use Rattle.std.proofs.Math.Nat.{pow-le-pow_right}
 use Rattle.sentry_addresses.specs.declared.ip.IpAddress.{IpAddress}
 use Rattle.sentry_addresses.specs.declared.ip.IpAddress.TheVariants.{Auto, Exact}
 use Rattle.sentry_addresses.specs.Ip.{ip_of, ip_address_of, IsStoredIp, IsStoredIpAddress}
-use Rattle.sentry_identifiers.proofs.Bounds.{Small, small_nil, small_cons, small_append, small_zeros}
+use Rattle.sentry_numbers.proofs.Bounds.{Small, small_nil, small_cons, small_append, small_zeros}
 use Rattle.sentry_addresses.proofs.Ips.{ip_of_iff, ip_address_of_iff}
 
 -- ---- IPv4

@@ -12,16 +12,16 @@ use Rattle.std.proofs.NetLemmas.Alphabet.{IsDigitOrDot, IsHexOrColon, All-ipv4_t
 use Rattle.std.proofs.NetLemmas.Texts.{AllSegments, AllSegments-drop}
 use Rattle.sentry_tables.specs.Cell.{Cell, absent, octets, choice}
 use Rattle.sentry_tables.specs.Lawful.{IsLawful, IsNormal, RefusesNull}
-use Rattle.sentry_rows.specs.Spelling.{SpellingLaws}
-use Rattle.sentry_rows.proofs.Spellings.{read_as_laws, spelled_laws, spelled_refuses_null}
+use Rattle.sentry_members.specs.Spelling.{SpellingLaws}
+use Rattle.sentry_members.proofs.Spellings.{read_as_laws, spelled_laws, spelled_refuses_null}
 use Rattle.sentry_addresses.specs.declared.ip.IpAddress.{IpAddress}
 use Rattle.sentry_addresses.specs.declared.ip.IpAddress.TheVariants.{Auto, Exact}
 use Rattle.sentry_addresses.specs.Ip.{auto_text, IsIpAddress, ip_of, ip_address_of, ip_address_text, IsStoredIp, IsStoredIpAddress}
 use Rattle.sentry_addresses.specs.IpTree.{ip_cell, IsIpCell, ip_cell_text, ip_spelling, ip_kind, ip_address_cell, IsIpAddressCell, ip_address_cell_text, ip_address_spelling, ip_address_kind}
 use Rattle.sentry_addresses.proofs.Ips.{ip_of_iff, ip_address_of_iff, written_ip, written_ip_address}
 use Rattle.sentry_addresses.proofs.IpRanges.{stored_ip, stored_ip_address}
-use Rattle.sentry_identifiers.proofs.ValueTexts.{ValueLaws, value_laws, value_normal, value_refused}
-use Rattle.sentry_identifiers.proofs.Bounds.{Small, small_nil, small_cons, small_within, small_utf8}
+use Rattle.sentry_numbers.proofs.ValueTexts.{ValueLaws, value_laws, value_refused}
+use Rattle.sentry_numbers.proofs.Bounds.{Small, small_nil, small_cons, small_within, small_utf8}
 
 -- ---- segments and their bytes
 
@@ -138,7 +138,7 @@ pub ip_refuses_null : RefusesNull ip_kind
 ip_refuses_null = spelled_refuses_null ip_spelling
 
 pub ip_normal : (c : Cell) → IsIpCell c → IsNormal ip_kind c
-ip_normal = value_normal ip_of ip_text IsStoredIp ip_cell ip_cell_text IsIpCell ip_values
+ip_normal c h = (h, tt, tt, refl)
 
 pub ip_read : (text : List ℕ) (ip : IpAddr) → IsIpText text ip → option_map ip_cell (ip_of text) ≡ Some (ip_cell ip)
 ip_read text ip h = ap (option_map ip_cell) ((ip_of_iff text ip).1 h)
@@ -189,7 +189,7 @@ pub ip_address_refuses_null : RefusesNull ip_address_kind
 ip_address_refuses_null = spelled_refuses_null ip_address_spelling
 
 pub ip_address_normal : (c : Cell) → IsIpAddressCell c → IsNormal ip_address_kind c
-ip_address_normal = value_normal ip_address_of ip_address_text IsStoredIpAddress ip_address_cell ip_address_cell_text IsIpAddressCell address_values
+ip_address_normal c h = (h, tt, tt, refl)
 
 pub address_read : (text : List ℕ) (a : IpAddress) → IsIpAddress text a → option_map ip_address_cell (ip_address_of text) ≡ Some (ip_address_cell a)
 address_read text a h = ap (option_map ip_address_cell) ((ip_address_of_iff text a).1 h)

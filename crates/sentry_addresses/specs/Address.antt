@@ -2,7 +2,7 @@
 use Rattle.std.specs.Prelude.{◌≡◌, ◌⊎◌, ℕ, List, ◌++◌, ◌==◌, ◌&&◌, ◌||◌, Bool, codes, drop, slice_index, Option, if◌then◌else◌}
 use Rattle.std.specs.Fmt.{digits}
 use Rattle.std.specs.Prelude.{false}
-use Rattle.sentry_identifiers.specs.Number.{IsNumber, number_of}
+use Rattle.sentry_numbers.specs.Number.{IsNumber, number_of}
 
 -- `0x` or `0X` and a number in base 16, or else a decimal number; a plus may stand before the digits
 abbrev pub IsAddress : List ℕ → ℕ → Type 0

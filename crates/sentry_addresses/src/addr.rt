@@ -3,17 +3,17 @@
 ghost use Rattle.std.specs.Prelude.{◌≡◌, ◌↔◌, IfOk, IsTrue, Some};
 ghost use Rattle.std.specs.Int.{w64, cast_unsigned};
 ghost use Rattle.std.specs.Result.{result_ok};
-ghost use Rattle.sentry_identifiers.specs.Number.{ReadsAs};
+ghost use Rattle.sentry_numbers.specs.Number.{ReadsAs};
 ghost use Rattle.sentry_addresses.specs.Address.{address_of, address_text};
 ghost use Rattle.serde_json.specs.View.{view, number_view};
-ghost use Rattle.sentry_rows.specs.Cells.{natural_cell};
+ghost use Rattle.sentry_members.specs.Cells.{natural_cell};
 ghost use Rattle.sentry_addresses.specs.AddressTree.{address_in, address_kind, number_address};
 
 use json::Writer;
-use sentry_identifiers::{ParseNumberError, parse_number};
-use sentry_rows::member::Usual;
-use sentry_rows::spelled::printed;
-use sentry_rows::{FromTree, Member, Room, TreeError};
+use sentry_members::member::Usual;
+use sentry_members::spelled::printed;
+use sentry_members::{FromTree, Member, Room, TreeError};
+use sentry_numbers::{ParseNumberError, parse_number};
 use serde_json::{Number, Value};
 use std::alloc::{AllocError, Global};
 use std::fmt;
@@ -23,10 +23,12 @@ use std::str::FromStr;
 ///
 /// It is read from `0x` or `0X` and base 16 digits, or from decimal digits, with or without a `+`
 /// before the digits, and is written as `0x` and lower case digits.
+/// <https://develop.sentry.dev/sdk/data-model/event-payloads/stacktrace/>
 #[derive(Clone, Copy, Debug, Default, PartialEq, Eq, PartialOrd, Ord, Hash)]
 pub struct Addr(pub u64);
 
 /// The value of a register, read and written as an [`Addr`] is.
+/// <https://develop.sentry.dev/sdk/data-model/event-payloads/stacktrace/>
 #[derive(Clone, Copy, Debug, Default, PartialEq, Eq, PartialOrd, Ord, Hash)]
 pub struct RegVal(pub u64);
 
@@ -56,6 +58,12 @@ impl FromStr for Addr {
 
     ghost from_str_gives = { ReadsAs address_of (λ a. a.0) };
 
+    /// Reads an address.
+    ///
+    /// # Errors
+    ///
+    /// `ParseNumberError` where the text has no digits, or characters that are none in its base, or
+    /// its number takes more than 64 bits.
     fn from_str(text: &str) -> Result<Addr, ParseNumberError> {
         Ok(Addr(parse_address(text)?))
     }
@@ -66,6 +74,12 @@ impl FromStr for RegVal {
 
     ghost from_str_gives = { ReadsAs address_of (λ a. a.0) };
 
+    /// Reads the value of a register.
+    ///
+    /// # Errors
+    ///
+    /// `ParseNumberError` where the text has no digits, or characters that are none in its base, or
+    /// its number takes more than 64 bits.
     fn from_str(text: &str) -> Result<RegVal, ParseNumberError> {
         Ok(RegVal(parse_address(text)?))
     }

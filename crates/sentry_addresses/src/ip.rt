@@ -6,8 +6,8 @@ ghost use Rattle.sentry_addresses.specs.declared.ip.IpAddress.TheVariants.{Exact
 ghost use Rattle.sentry_addresses.specs.Ip.{IsStoredIpAddress};
 
 use crate::ip_text::hold_ip;
-use sentry_rows::spelled::printed;
-use sentry_rows::{Room, Spelled, TreeError};
+use sentry_members::spelled::printed;
+use sentry_members::{Room, Spelled, TreeError};
 use std::alloc::{AllocError, Global};
 use std::cmp::Ordering;
 use std::fmt;
@@ -17,9 +17,10 @@ use thiserror::Error;
 
 /// The IP address of a user.
 ///
-/// It is read from `{{auto}}` or an IPv4 or IPv6 address, and written as that. An IPv6 address is
-/// written in lower case without leading zeros, with `::` for its longest run of two or more zero
-/// groups; one that holds an IPv4 address as `::ffff:` and that address.
+/// It is read from `{{auto}}` or an IPv4 or IPv6 address, and written as that. An IPv6 address is read
+/// from each text of RFC 4291, section 2.2. It is written as RFC 5952 recommends: in lower case without
+/// leading zeros, with `::` for its longest run of two or more zero groups; one that holds an IPv4
+/// address as `::ffff:` and that address.
 #[derive(Clone, Copy, Debug, Default, PartialEq, Eq, PartialOrd, Ord, Hash)]
 pub enum IpAddress {
     /// The address that the user's connection has.
@@ -73,6 +74,11 @@ impl FromStr for IpAddress {
 
     ghost from_str_gives = { Parses IsIpAddress };
 
+    /// Reads `{{auto}}` or an IP address, with nothing around it.
+    ///
+    /// # Errors
+    ///
+    /// [`ParseIpError`] where the text is neither.
     fn from_str(text: &str) -> Result<IpAddress, ParseIpError> {
         match text {
             "{{auto}}" => Ok(IpAddress::Auto),
@@ -173,6 +179,17 @@ mod tests {
         ] {
             assert!(rt; text.parse::<IpAddress>().is_err(), "{text}");
         }
+    }
+
+    #[test]
+    fn error_texts(rt: HostRuntime) -> Result<(), Fail> {
+        match "banana".parse::<IpAddress>() {
+            Ok(_) => Err("read")?,
+            Err(error) => {
+                assert_eq!(rt; error.to_string(rt.alloc())?.as_str(), "ParseIpError");
+            }
+        }
+        Ok(())
     }
 
     #[test]

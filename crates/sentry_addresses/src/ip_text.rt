@@ -1,13 +1,13 @@
 //! The form of IP addresses as trees.
 
 ghost use Rattle.std.specs.Prelude.{◌≡◌, ◌<◌, ◌^◌, ℕ, IfOk, length, slice_index};
-ghost use Rattle.sentry_rows.specs.Spelling.{ReadsSpelling};
+ghost use Rattle.sentry_members.specs.Spelling.{ReadsSpelling};
 ghost use Rattle.sentry_addresses.specs.Ip.{IsStoredIp};
 ghost use Rattle.sentry_addresses.specs.IpTree.{ip_cell, ip_cell_text, ip_kind, ip_spelling};
 
 use json::Writer;
-use sentry_rows::spelled::printed;
-use sentry_rows::{Codec, ReadCodec, Room, TreeError};
+use sentry_members::spelled::printed;
+use sentry_members::{Codec, ReadCodec, Room, TreeError};
 use serde_json::Value;
 use std::alloc::{AllocError, Global};
 use std::net::IpAddr;
@@ -15,7 +15,7 @@ use std::net::IpAddr;
 /// The form of an IP address that is its text.
 ///
 /// An IPv4 address is read from four numbers without leading zeros, an IPv6 address from each text of
-/// RFC 4291. They are written as RFC 5952 recommends.
+/// RFC 4291, section 2.2. They are written as RFC 5952 recommends.
 pub struct IpText;
 
 impl Codec<IpAddr> for IpText {
@@ -23,13 +23,13 @@ impl Codec<IpAddr> for IpText {
 
     ghost cell_of = { ip_cell };
 
-    #[tactic(auto, using(sentry_rows::proofs::Spellings::text_tree))]
+    #[tactic(auto, using(sentry_members::proofs::Spellings::text_tree))]
     fn to_tree(value: &IpAddr, alloc: Global) -> Result<Value, AllocError> {
         let mut room = Room::new();
         Value::try_from_str(alloc, written_ip(value, &mut room)?)
     }
 
-    #[tactic(auto, using(sentry_rows::proofs::Spellings::spelling_wrote))]
+    #[tactic(auto, using(sentry_members::proofs::Spellings::spelling_wrote))]
     fn write(value: &IpAddr, out: &mut Writer) -> Result<(), AllocError> {
         let mut room = Room::new();
         out.string(written_ip(value, &mut room)?)
@@ -46,7 +46,7 @@ impl Codec<IpAddr> for IpText {
 }
 
 impl ReadCodec<IpAddr> for IpText {
-    #[tactic(auto, using(sentry_rows::proofs::Spellings::text_read, sentry_rows::proofs::Spellings::not_text))]
+    #[tactic(auto, using(sentry_members::proofs::Spellings::text_read, sentry_members::proofs::Spellings::not_text))]
     fn from_tree(_alloc: Global, tree: &Value) -> Result<IpAddr, TreeError> {
         match tree.as_str() {
             Some(text) => read_ip(text),

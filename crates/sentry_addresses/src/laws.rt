@@ -5,6 +5,9 @@ ghost use Rattle.std.specs.Prelude.{◌≡◌, ◌<◌, ◌^◌, ◌↔◌, ℕ,
 ghost use Rattle.sentry_addresses.specs.declared.addr.Addr.{Addr as Addresses};
 ghost use Rattle.sentry_addresses.specs.declared.addr.RegVal.{RegVal as Registers};
 ghost use Rattle.sentry_addresses.specs.declared.ip.IpAddress.{IpAddress};
+ghost use Rattle.sentry_addresses.specs.declared.ip.IpAddress.TheVariants.{Auto, Exact};
+ghost use Rattle.std.specs.declared.cmp.Ordering.TheVariants.{Less, Equal, Greater};
+ghost use Rattle.std.specs.Ordering.{nat_cmp};
 ghost use Rattle.std.specs.declared.net.ip_addr.IpAddr.{IpAddr};
 ghost use Rattle.std.specs.Net.Grammar.{IsIpText};
 ghost use Rattle.std.specs.Net.Text.{ip_text};
@@ -13,7 +16,7 @@ ghost use Rattle.sentry_addresses.specs.Address.{IsAddress, address_of, address_
 ghost use Rattle.sentry_tables.specs.Cell.{Cell};
 ghost use Rattle.sentry_tables.specs.Lawful.{IsNormal, RefusesNull};
 ghost use Rattle.sentry_tables.specs.Laws.{HasLaws};
-ghost use Rattle.sentry_rows.specs.Cells.{natural_cell};
+ghost use Rattle.sentry_members.specs.Cells.{natural_cell};
 ghost use Rattle.sentry_addresses.specs.AddressTree.{address_kind};
 ghost use Rattle.sentry_addresses.specs.IpTree.{IsIpCell, ip_kind, IsIpAddressCell, ip_address_kind};
 
@@ -64,4 +67,23 @@ pub fn equal_addresses()
     ensures addresses { (a b : Addresses) → ⟦<Addr as PartialEq>⟧.eq a b ≡ true ↔ (a.0 ≡ b.0) }
     ensures registers { (a b : Registers) → ⟦<RegVal as PartialEq>⟧.eq a b ≡ true ↔ (a.0 ≡ b.0) }
     ensures ip_addresses { (a b : IpAddress) → ⟦<crate::IpAddress as PartialEq>⟧.eq a b ≡ true ↔ (a ≡ b) }
+{}
+
+/// An address and a value of a register are 0 by default, and the IP address of a user is that of the
+/// connection.
+pub fn default_addresses()
+    ensures addresses { (a : Addresses) → ⟦<Addr as Default>⟧.is_default a → a.0 ≡ 0 }
+    ensures registers { (a : Registers) → ⟦<RegVal as Default>⟧.is_default a → a.0 ≡ 0 }
+    ensures ip_addresses { (a : IpAddress) → ⟦<crate::IpAddress as Default>⟧.is_default a → a ≡ Auto }
+{}
+
+/// Addresses, and values of registers, are ordered as their numbers are. Of the IP addresses of users
+/// `Auto` comes first, and then those that are known, as IP addresses are ordered.
+pub fn ordered_addresses()
+    ensures addresses { (a b : Addresses) → ⟦<Addr as Ord>⟧.cmp a b ≡ nat_cmp a.0 b.0 }
+    ensures registers { (a b : Registers) → ⟦<RegVal as Ord>⟧.cmp a b ≡ nat_cmp a.0 b.0 }
+    ensures autos { ⟦<crate::IpAddress as Ord>⟧.cmp Auto Auto ≡ Equal }
+    ensures auto_first { (ip : IpAddr) → ⟦<crate::IpAddress as Ord>⟧.cmp Auto (Exact ip) ≡ Less }
+    ensures exact_last { (ip : IpAddr) → ⟦<crate::IpAddress as Ord>⟧.cmp (Exact ip) Auto ≡ Greater }
+    ensures exact { (ip other : IpAddr) → ⟦<crate::IpAddress as Ord>⟧.cmp (Exact ip) (Exact other) ≡ ⟦<std::net::IpAddr as Ord>⟧.cmp ip other }
 {}

@@ -1,8 +1,10 @@
 use crate::{Addr, IpAddress, IpText, RegVal};
 use json::Writer;
-use sentry_rows::member::Usual;
+use sentry_members::member::Usual;
+use sentry_members::{
+    Codec, FromTree, Member, ReadCodec, TreeError, read_line, read_tree, text_of,
+};
 use sentry_rows::rows::{optional_as, required_as};
-use sentry_rows::{Codec, FromTree, Member, ReadCodec, TreeError, read_line, read_tree, text_of};
 use std::alloc::Global;
 use std::net::{IpAddr, Ipv4Addr, Ipv6Addr};
 use std::test::Fail;
@@ -35,6 +37,11 @@ fn addresses(rt: HostRuntime) -> Result<(), Fail> {
     for (line, shown) in [
         ("\"0x+2a\"", "\"0x2a\""),
         ("\"42\"", "\"0x2a\""),
+        ("\"0\"", "\"0x0\""),
+        ("\"0x2a\"", "\"0x2a\""),
+        ("\"0X2A\"", "\"0x2a\""),
+        ("\"0x002a\"", "\"0x2a\""),
+        ("\"007\"", "\"0x7\""),
         ("42", "\"0x2a\""),
         ("0", "\"0x0\""),
         ("-1", "\"0xffffffffffffffff\""),
@@ -54,6 +61,9 @@ fn addresses(rt: HostRuntime) -> Result<(), Fail> {
         "\"\"",
         "\"-1\"",
         "\"banana\"",
+        "\"0x\"",
+        "\"2a\"",
+        "\" 42\"",
     ] {
         assert!(rt; is_misfit::<Addr>(alloc, line), "{line}");
         assert!(rt; is_misfit::<RegVal>(alloc, line), "{line}");

@@ -7,7 +7,7 @@ use Rattle.std.proofs.lemmas.Bool.Decides.{nat_tests}
 use Rattle.std.proofs.lemmas.Str.Parse.{digit_at}
 use Rattle.std.proofs.Math.Seq.{get_or-append_seam}
 use Rattle.sentry_crontab.specs.declared.crontab.field.Field.{Field}
-use Rattle.sentry_identifiers.specs.Number.{IsNumber}
+use Rattle.sentry_numbers.specs.Number.{IsNumber}
 use Rattle.sentry_crontab.specs.Crontab.{AreBounds, IsRange, IsStep, IsSteppedRange, IsWithin, IsItem, AreItems}
 use Rattle.std.specs.Bool.{MatchBool}
 use Rattle.std.specs.List.{AllWithin, HoldsAt, slice_split, AllByRecursion}

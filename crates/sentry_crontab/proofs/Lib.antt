@@ -1,3 +1,4 @@
 pub mod CrontabItems
 pub mod CrontabParts
+pub mod CrontabSplits
 pub mod CrontabWords

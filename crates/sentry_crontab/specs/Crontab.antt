@@ -4,7 +4,7 @@ use Rattle.std.specs.Char.{to_ascii_lowercase, is_whitespace, is_not_whitespace}
 use Rattle.std.specs.Str.{NoCharPasses, EmptyOrStartsWithPassing}
 use Rattle.std.specs.List.{slice_split, AllByRecursion}
 use Rattle.std.specs.String.{string_bytes}
-use Rattle.sentry_identifiers.specs.Number.{IsNumber}
+use Rattle.sentry_numbers.specs.Number.{IsNumber}
 use Rattle.sentry_crontab.specs.declared.crontab.CrontabParseError.{CrontabParseError}
 use Rattle.sentry_crontab.specs.declared.crontab.field.Field.{Field}
 use Rattle.sentry_crontab.specs.declared.crontab.field.Field.TheVariants.{Minute, Hour, DayOfMonth, Month, DayOfWeek}

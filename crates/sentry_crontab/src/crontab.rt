@@ -1,4 +1,4 @@
-//! Crontab schedules, as Sentry reads those of its cron monitors.
+//! Crontab schedules, as Sentry reads those of its cron monitors; crontab(5) describes their parts.
 
 ghost use Rattle.std.specs.Prelude.{◌≡◌, ◌↔◌, List, ℕ, IsTrue, IfOk, Some, string_bytes};
 ghost use Rattle.std.specs.List.{join_with_byte};
@@ -111,6 +111,9 @@ mod tests {
             "0-20 * * * *",
             "*/3 * * * *",
             "*/3,2 * * * *",
+            "*\u{2003}*\u{a0}* * *",
+            "05 * * * *",
+            "*/+3 * * * *",
         ] {
             assert!(rt; validate(text), "{text}");
         }
@@ -135,6 +138,10 @@ mod tests {
             "*/foo * * * *",
             "1-foo * * * *",
             "foo-34 * * * *",
+            "*/0 * * * *",
+            "1,,2 * * * *",
+            "-5 * * * *",
+            "*\u{200b}* * * *",
         ] {
             assert!(rt; !validate(text), "{text}");
         }

@@ -2,5 +2,6 @@
 #![tactic(auto)]
 
 mod crontab;
+pub mod laws;
 
 pub use crontab::{CrontabParseError, validate};

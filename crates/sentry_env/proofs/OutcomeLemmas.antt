@@ -14,6 +14,7 @@ use Rattle.sentry_envelope.specs.EnvelopeView.{item_view}
 use Rattle.sentry_envelope.specs.Filter.{Hand, asks, chosen, first_id_of, handed, id_in, id_of, is_main, is_orphan, item_of_hand, kept, orphans}
 use Rattle.sentry_envelope.specs.HeaderFields.{put_id}
 use Rattle.sentry_envelope.specs.SentryProfile.{item_types, profile}
+use Rattle.sentry_envelope.proofs.ConservationLemmas.{handed_of_hands}
 use Rattle.sentry_envelope.proofs.OneEnvelope.{one_envelope, profile_single}
 use Rattle.sentry_env.specs.Listed.{AnswersFor, IsOfKinds, kind_of_item}
 use Rattle.sentry_env.specs.Run.{DueIsSettled, IsDue, header_left, kept_text, model, outcome_of}
@@ -136,13 +137,9 @@ refused_alike (i ∷ items) (j ∷ others) [] same = refl
 refused_alike (i ∷ items) (j ∷ others) (true ∷ answers) same = refused_alike items others answers (cc)
 refused_alike (i ∷ items) (j ∷ others) (false ∷ answers) same = let rest = refused_alike items others answers (cc) in cc
 
-hands_are : (items : List EnvelopeItem) → filter_map item_of_hand (map Hand items) ≡ items
-hands_are [] = refl
-hands_are (i ∷ items) = ap (λ (is : List EnvelopeItem). i ∷ is) (hands_are items)
-
 handed_shows : (items : List EnvelopeItem) (answers : List Bool) → map item_view (handed items answers) ≡ map item_view (filter_map item_of_hand (asks items answers)) ++ map item_view (orphans (chosen items answers))
 handed_shows items answers =
-    ap (map item_view) (filter_map-append item_of_hand (asks items answers) (map Hand (orphans (chosen items answers))) ∙ ap (λ (is : List EnvelopeItem). filter_map item_of_hand (asks items answers) ++ is) (hands_are (orphans (chosen items answers))))
+    ap (map item_view) (filter_map-append item_of_hand (asks items answers) (map Hand (orphans (chosen items answers))) ∙ ap (λ (is : List EnvelopeItem). filter_map item_of_hand (asks items answers) ++ is) (handed_of_hands (orphans (chosen items answers))))
     ∙ map-append item_view (filter_map item_of_hand (asks items answers)) (orphans (chosen items answers))
 
 handed_alike : (items others : List EnvelopeItem) (answers : List Bool) → Alike items others → Alike (handed items answers) (handed others answers)

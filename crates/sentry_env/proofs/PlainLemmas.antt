@@ -4,8 +4,8 @@ use Rattle.std.specs.List.{list_any}
 use Rattle.std.specs.Option.{IsSomeAnd}
 use Rattle.sentry_tables.specs.Cell.{Cell}
 use Rattle.sentry_items.specs.declared.item.EnvelopeItem.{EnvelopeItem}
-use Rattle.sentry_envelope.specs.Envelope.{ContentDemand, Item, item, raw, ItemsMeet, IsEnvelopePlain}
-use Rattle.sentry_envelope.specs.EnvelopeView.{IsUnwritable, header_of, held, held_in, Held, items as held_items, bytes as held_bytes, item_view, plain_content, structured, structured_by}
+use Rattle.sentry_envelope.specs.Envelope.{ContentDemand, plain_content, ItemsMeet, IsEnvelopePlain}
+use Rattle.sentry_envelope.specs.EnvelopeView.{IsUnwritable, header_of, held, held_in, Held, items as held_items, bytes as held_bytes, item_view, structured, structured_by}
 use Rattle.sentry_envelope.specs.Filter.{FiltersEnvelope, LeavesOf, asked_in, chosen, first_id_of, is_main, is_orphan, kept, structured_in}
 use Rattle.sentry_envelope.specs.Profile.{ItemType}
 use Rattle.sentry_envelope.specs.SentryProfile.{profile}
@@ -14,6 +14,7 @@ use Rattle.sentry_envelope.specs.declared.envelope.Contents.TheVariants.{Items, 
 use Rattle.sentry_envelope.specs.declared.envelope.Envelope.{Envelope}
 use Rattle.sentry_tables.specs.Meets.{IsPlain}
 use Rattle.sentry_envelope.specs.HeaderFields.{header_kind, put_id}
+use Rattle.sentry_envelope.proofs.Sent.{meet_first, meet_rest, meet_both}
 use Rattle.sentry_envelope.proofs.HeaderValues.{put_plain, no_fields_plain}
 use Rattle.sentry_env.specs.Losing.{AnswersByKind, AddsLosses}
 use Rattle.sentry_env.specs.Run.{IsWritable, header_left, model}
@@ -25,28 +26,20 @@ module _ (D : ContentDemand) (ts : List ItemType) where
   abbrev Meet : List EnvelopeItem → Type 0
   Meet items = ItemsMeet D ts (map item_view items)
 
-  meets_rest : (i : Item) (is : List Item) → ItemsMeet D ts (i ∷ is) → ItemsMeet D ts is
-  meets_rest (item n c) is meets = meets.1
-  meets_rest raw is meets = meets
-
-  meets_more : (i : Item) (is js : List Item) → ItemsMeet D ts (i ∷ is) → ItemsMeet D ts js → ItemsMeet D ts (i ∷ js)
-  meets_more (item n c) is js meets more = (meets.0, more)
-  meets_more raw is js meets more = more
-
   chosen_meet : (items : List EnvelopeItem) (answers : List Bool) → Meet items → Meet (chosen items answers)
   chosen_meet [] answers meets = meets
   chosen_meet (i ∷ items) [] meets = tt
   chosen_meet (i ∷ items) (true ∷ answers) meets =
-      let rest = meets_rest (item_view i) (map item_view items) meets in
-      meets_more (item_view i) (map item_view items) (map item_view (chosen items answers)) meets (chosen_meet items answers rest)
-  chosen_meet (i ∷ items) (false ∷ answers) meets = chosen_meet items answers (meets_rest (item_view i) (map item_view items) meets)
+      let rest = meet_rest D ts (item_view i) (map item_view items) meets in
+      meet_both D ts (item_view i) (map item_view (chosen items answers)) (meet_first D ts (item_view i) (map item_view items) meets) (chosen_meet items answers rest)
+  chosen_meet (i ∷ items) (false ∷ answers) meets = chosen_meet items answers (meet_rest D ts (item_view i) (map item_view items) meets)
 
   some_meet : (p : EnvelopeItem → Bool) (items : List EnvelopeItem) → Meet items → Meet (filter p items)
   some_meet p [] meets = meets
   some_meet p (i ∷ items) meets =
-      let rest = some_meet p items (meets_rest (item_view i) (map item_view items) meets) in
+      let rest = some_meet p items (meet_rest D ts (item_view i) (map item_view items) meets) in
       elim (p i) as (λ b. Meet (if b then i ∷ filter p items else filter p items)) [
-        | true ↦ meets_more (item_view i) (map item_view items) (map item_view (filter p items)) meets rest
+        | true ↦ meet_both D ts (item_view i) (map item_view (filter p items)) (meet_first D ts (item_view i) (map item_view items) meets) rest
         | false ↦ rest
       ]
 

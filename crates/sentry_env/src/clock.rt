@@ -1,7 +1,7 @@
 ghost use Rattle.std.specs.Prelude.{◌≡◌, ◌<◌, ◌≤◌, ◌^◌, ◌/◌, ◌%◌};
 ghost use Rattle.std.specs.Duration.{as_nanos};
 
-use sentry_envelope::Moment;
+use sentry_types::protocol::v7::Moment;
 use std::rt::Clock;
 use std::time::{Duration, SystemTime, UNIX_EPOCH};
 

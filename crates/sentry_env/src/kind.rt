@@ -2,7 +2,7 @@ ghost use Rattle.std.specs.Prelude.{◌≡◌, Some};
 ghost use Rattle.sentry_env.specs.Kind.{kind_of_word};
 ghost use Rattle.sentry_env.specs.Listed.{kind_of_item};
 
-use sentry_items::EnvelopeItem;
+use sentry_types::protocol::v7::EnvelopeItem;
 
 /// A type of envelope items, as a word of the command line names it.
 ///

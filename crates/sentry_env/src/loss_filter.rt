@@ -3,8 +3,7 @@ ghost use Rattle.sentry_env.specs.Listed.{IsOfKinds};
 
 use crate::kind::Kind;
 use crate::losses::LossSums;
-use sentry_envelope::EnvelopeFilter;
-use sentry_items::EnvelopeItem;
+use sentry_types::protocol::v7::{EnvelopeFilter, EnvelopeItem};
 use std::alloc::{AllocError, Global};
 
 /// A filter that refuses the items of some kinds, and sums what is lost with the items that go.

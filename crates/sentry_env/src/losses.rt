@@ -4,8 +4,9 @@ ghost use Rattle.std.specs.List.{flat_map};
 ghost use Rattle.sentry_env.specs.Sums.{add_loss, no_sums, place, sum_at};
 ghost use Rattle.sentry_env.specs.Table.{line_of, lines_by, reason_text, table_by};
 
-use sentry_items::{Category, EnvelopeItem, ItemLoss, LossSource, Reason};
-use sentry_words::IndexedEnum;
+use sentry_types::IndexedEnum;
+use sentry_types::protocol::v7::EnvelopeItem;
+use sentry_types::protocol::v7::client_report::{Category, ItemLoss, LossSource, Reason};
 use std::alloc::{AllocError, Global};
 
 // How many places a category has: one without a reason, and one for each.

@@ -31,7 +31,7 @@ use ending::{Outcome, RunError, ending, usage};
 use rand_core::SeedableRng;
 use rand_pcg::Pcg32;
 use run::run;
-use sentry_envelope::{CountedReader, CountedWriter};
+use sentry_types::protocol::v7::{CountedReader, CountedWriter};
 use std::alloc::AllocError;
 use std::fs;
 use std::io::Read;

@@ -3,7 +3,7 @@ ghost use Rattle.std.specs.Io.KnownBytes.{Consumes, IsAtEnd};
 ghost use Rattle.sentry_items.specs.Counted.{reader_inside, reader_failures};
 ghost use Rattle.sentry_env.specs.Reading.{failed_reads};
 
-use sentry_envelope::CountedReader;
+use sentry_types::protocol::v7::CountedReader;
 use std::alloc::Global;
 use std::io::Read;
 

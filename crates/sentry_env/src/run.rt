@@ -13,10 +13,10 @@ use crate::kind::Kind;
 use crate::loss_filter::LossFilter;
 use crate::read_all::read_all;
 use rand_core::Rng;
-use sentry_envelope::{
+use sentry_items::counted::send;
+use sentry_types::protocol::v7::{
     CountedReader, CountedWriter, Envelope, EnvelopeFilter, EnvelopeWriteError, Moment,
 };
-use sentry_items::counted::send;
 use std::alloc::{AllocError, Global};
 use std::io::{Read, Write};
 

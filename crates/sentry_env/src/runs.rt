@@ -5,7 +5,7 @@ use crate::kind::Kind;
 use crate::run::run;
 use rand_core::SeedableRng;
 use rand_pcg::Pcg32;
-use sentry_envelope::{CountedReader, CountedWriter};
+use sentry_types::protocol::v7::{CountedReader, CountedWriter};
 use std::alloc::Global;
 use std::io::{Read, Write};
 use std::time::Duration;

@@ -2,7 +2,7 @@ use crate::args::{Args, program_args, read_args};
 use crate::end_of_call;
 use crate::ending::{Outcome, RunError, ending, usage};
 use crate::kind::Kind;
-use sentry_envelope::EnvelopeError;
+use sentry_types::protocol::v7::EnvelopeError;
 use std::alloc::{AllocError, Global};
 use std::env::{Env, FillError};
 use std::test::Fail;

@@ -21,7 +21,7 @@ handed_of_asks (item ∷ items) [] = refl
 handed_of_asks (item ∷ items) (true ∷ answers) = handed_of_asks items answers
 handed_of_asks (item ∷ items) (false ∷ answers) = ap (λ (xs : List EnvelopeItem). item ∷ xs) (handed_of_asks items answers)
 
-handed_of_hands : (items : List EnvelopeItem) → filter_map item_of_hand (map Hand items) ≡ items
+pub handed_of_hands : (items : List EnvelopeItem) → filter_map item_of_hand (map Hand items) ≡ items
 handed_of_hands [] = refl
 handed_of_hands (item ∷ items) = ap (λ (xs : List EnvelopeItem). item ∷ xs) (handed_of_hands items)
 

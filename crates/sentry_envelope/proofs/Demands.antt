@@ -1,13 +1,13 @@
 -- An envelope meets a demand where its header and its items do.
 use Rattle.std.proofs.Common.{◌≡◌, ◌↔◌, Bool, true, false, sym, subst, ◌∙◌, IsTrue}
 use Rattle.std.proofs.lemmas.Bool.{false≢true}
-use Rattle.std.specs.Prelude.{map, Vec, IsSomeAnd}
+use Rattle.std.specs.Prelude.{map, Vec, Option, Some, None, IsSomeAnd, IfSome}
 use Rattle.std.specs.declared.alloc.Global.{Global}
 use Rattle.sentry_tables.specs.Cell.{Cell}
 use Rattle.sentry_tables.specs.Meets.{IsPlain, IsStored}
 use Rattle.sentry_items.specs.declared.item.EnvelopeItem.{EnvelopeItem}
-use Rattle.sentry_envelope.specs.Envelope.{ItemsMeet, IsEnvelopePlain, IsEnvelopeStored}
-use Rattle.sentry_envelope.specs.EnvelopeView.{item_view, header_of, structured, structured_by, held, held_in, Held, items, bytes, plain_content, stored_content, ready_by, HasReadyHeader}
+use Rattle.sentry_envelope.specs.Envelope.{Envelope as Model, plain_content, stored_content, ItemsMeet, IsEnvelopePlain, IsEnvelopeStored}
+use Rattle.sentry_envelope.specs.EnvelopeView.{item_view, header_of, structured, structured_by, held, held_in, Held, items, bytes, ready_by, HasReadyHeader}
 use Rattle.sentry_envelope.specs.HeaderFields.{header_kind}
 use Rattle.sentry_envelope.specs.SentryProfile.{item_types, profile}
 use Rattle.sentry_envelope.specs.declared.envelope.Contents.{Contents}
@@ -45,3 +45,11 @@ ready_held h (bytes b) p s = tt
 
 pub ready_header : (e : Envelope) (r : Bool) → (IsTrue r ↔ IsSomeAnd (structured e) (IsEnvelopePlain profile)) → (IsTrue r → IsSomeAnd (structured e) (IsEnvelopeStored profile)) → r ≡ true → HasReadyHeader e
 ready_header e r plain stored is = ready_held (header_of e) (held e) (plain.0 is) (stored is)
+
+-- what is told of a structured envelope holds where an envelope is structured
+if_structured : (m : Option Model) → IsSomeAnd m (IsEnvelopeStored profile) → IfSome m (IsEnvelopeStored profile)
+if_structured None none = absurd none
+if_structured (Some m) stored = stored
+
+pub stored_where_structured : (e : Envelope) (r : Bool) → (IsTrue r → IsSomeAnd (structured e) (IsEnvelopeStored profile)) → r ≡ true → IfSome (structured e) (IsEnvelopeStored profile)
+stored_where_structured e r stored is = if_structured (structured e) (stored is)

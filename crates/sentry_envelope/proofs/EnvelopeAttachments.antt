@@ -1,10 +1,10 @@
 -- Attachments: their types and texts, their normal form, and what an item header says of them.
-use Rattle.std.proofs.Common.{◌≡◌, ℕ, List, [], Option, Some, None, option_map, unwrap_or, codes, refl, ap, IsUtf8}
+use Rattle.std.proofs.Common.{◌≡◌, ℕ, List, [], Option, Some, None, option_map, unwrap_or, codes, refl, ap, subst, IsUtf8}
 use Rattle.serde_json.specs.Data.{string, member}
 use Rattle.json.proofs.Printed.Utf8.{IsUtf8-are_ascii}
 use Rattle.sentry_tables.specs.Cell.{Cell}
-use Rattle.sentry_items.proofs.AttachmentTypes.{type_text_of, type_text, type_read}
-use Rattle.sentry_items.specs.AttachmentWords.{known, attachment_type_of, attachment_type_text, IsAttachmentType}
+use Rattle.sentry_items.proofs.AttachmentTypes.{type_text, type_read, type_read_back, type_norm_again, type_norm_text}
+use Rattle.sentry_items.specs.AttachmentWords.{known, attachment_type_of, attachment_type_text, attachment_type_norm, IsAttachmentType}
 use Rattle.sentry_framing.specs.ItemHeader.{Header}
 use Rattle.sentry_items.specs.Attached.{Attached, attached_type, attached_content_type, short_header, attachment_header, attached_norm, IsUtf8Option, IsTypeOption, IsAttachedStored}
 use Rattle.sentry_envelope.specs.Envelope.{attached_by}
@@ -27,17 +27,21 @@ content_type_is_text a h = text_or_default a.content_type h.1
 
 -- ---- the normal form
 
+-- the type is read back as its normal form
+pub type_back : (a : Attached) → IsAttachedStored a → attachment_type_of (attachment_type_text (attached_type a)) ≡ attachment_type_norm (attached_type a)
+type_back a h = type_read_back (attached_type a) (type_or_default a.ty h.2)
+
 pub attached_norm_stored : (a : Attached) → IsAttachedStored a → IsAttachedStored (attached_norm a)
-attached_norm_stored a h = (h.0, content_type_is_text a h, type_read (attachment_type_text (attached_type a)) (type_is_text a h))
+attached_norm_stored a h = (h.0, content_type_is_text a h, subst IsAttachmentType (type_back a h) (type_read (attachment_type_text (attached_type a)) (type_is_text a h)))
 
 pub attached_norm_again : (a : Attached) → attached_norm (attached_norm a) ≡ attached_norm a
-attached_norm_again a = ap (λ word. record (attached_norm a) { ty = Some (attachment_type_of word) }) (type_text_of (attachment_type_text (attached_type a)))
+attached_norm_again a = ap (λ ty. record (attached_norm a) { ty = Some ty }) (type_norm_again (attached_type a))
 
 -- the normal form is written alike
 pub attached_norm_written : (word : List ℕ) (a : Attached) → attachment_header word (attached_norm a) ≡ attachment_header word a
 attached_norm_written word a =
     ap (λ name. member (codes "attachment_type") (string name) (member (codes "content_type") (string (attached_content_type a)) (member (codes "filename") (string a.filename) (short_header word a.buffer))))
-    (type_text_of (attachment_type_text (attached_type a)))
+    (type_norm_text (attached_type a))
 
 -- ---- what a header says
 

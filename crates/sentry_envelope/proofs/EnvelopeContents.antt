@@ -1,36 +1,23 @@
 -- The laws of what one item holds, form by form.
-use Rattle.std.proofs.Common.{◌≡◌, ◌<◌, ◌≤◌, ◌^◌, ℕ, suc, List, length, Some, codes, refl, sym, ap, ap₂, subst, arith, IsUtf8}
-use Rattle.std.specs.Prelude.{⊤}
-use Rattle.serde_json.specs.Data.{number, unsigned, string, object, no_members, member, depth}
+use Rattle.std.proofs.Common.{◌≡◌, ◌<◌, ◌^◌, ℕ, zero, suc, List, length, Some, codes, refl, sym, ap, ap₂, ◌∙◌, subst, arith, IsUtf8}
+use Rattle.serde_json.specs.Data.{number, unsigned, string, object, no_members, member}
 use Rattle.serde_json.specs.Written.{compact_text}
 use Rattle.sentry_json.proofs.Pieces.{compact_clean}
 use Rattle.sentry_tables.specs.Cell.{Cell, Cells, no_cells, cell}
 use Rattle.sentry_tables.specs.Kind.{Kind, must, list, no_rows, row}
 use Rattle.sentry_tables.specs.Norm.{norm, rows_norm, cells_of, each_cell}
 use Rattle.sentry_tables.specs.Written.{tree}
-use Rattle.sentry_tables.specs.Meets.{IsPlain, IsReadable, IsStored}
 use Rattle.sentry_tables.specs.Lawful.{IsMoment}
 use Rattle.sentry_tables.specs.Laws.{IsStableAt, TextShows}
 use Rattle.sentry_tables.proofs.Laws.{has_laws}
 use Rattle.sentry_framing.specs.Framing.{Frame, HasSize}
 use Rattle.sentry_framing.specs.ItemHeader.{place_of, Header, read_header}
 use Rattle.sentry_envelope.specs.Profile.{Form, attachment_form, opaque_form, json_form, container_form, container_kind, FormIsLawful}
-use Rattle.sentry_items.specs.Attached.{Attached, short_header, IsAttachedStored}
-use Rattle.sentry_envelope.specs.Envelope.{Content, attached, opaque, value, IsValue, attached_by, ContentShows, count, first_cell, item_count, payload_by, container_header, header_by, content_norm, ContentDemand, ContentMeets, count_in}
+use Rattle.sentry_items.specs.Attached.{Attached, short_header, attached_norm, IsAttachedStored}
+use Rattle.sentry_envelope.specs.Envelope.{Content, attached, opaque, value, IsValue, attached_by, ContentShows, count, first_cell, item_count, payload_by, container_header, header_by, content_norm, stored_content, plain_content, readable_content, ContentMeets, count_in}
 use Rattle.sentry_envelope.proofs.EnvelopeShown.{container_lawful}
-use Rattle.sentry_envelope.proofs.EnvelopeAttachments.{type_is_text, content_type_is_text, attached_norm_stored, attached_norm_again, attached_norm_written, attached_by_stored}
+use Rattle.sentry_envelope.proofs.EnvelopeAttachments.{type_is_text, content_type_is_text, attached_norm_stored, attached_norm_again, attached_norm_written, attached_by_stored, type_back}
 use Rattle.sentry_envelope.proofs.EnvelopeWrittenHeaders.{header_said, short_read, attachment_read, container_read, AreTexts}
-
--- ---- the demands on what an item holds
-
-abbrev pub stored_content : ContentDemand
-stored_content = record { attached = IsAttachedStored; value = IsStored }
-
-abbrev pub plain_content : ContentDemand
-plain_content = record { attached = λ a. ⊤; value = IsPlain }
-
-abbrev pub readable_content : ContentDemand
-readable_content = record { attached = λ a. ⊤; value = λ K c. IsReadable K c × (depth (tree K c) ≤ 127) }
 
 -- ---- containers
 
@@ -70,9 +57,13 @@ size_said (json_form K) _ n s = absurd s
 size_said (container_form content_type K) (value c) n s = compact_clean (tree (container_kind K) c)
 size_said (container_form content_type K) _ n s = absurd s
 
+-- what the written header says of the bytes is the normal form
+attached_back : (a : Attached) → (s : IsAttachedStored a) → attached (attached_by (header_said zero attachment_form (attached a)) a.buffer) ≡ attached (attached_norm a)
+attached_back a s = ap (λ ty. attached (record (attached_norm a) { ty = Some ty })) (type_back a s)
+
 pub content_back : (f : Form) (c : Content) (n : ℕ) (now : Cell) → FormIsLawful f → ContentMeets stored_content f c → ContentMeets plain_content f c → ContentMeets readable_content f c
     → ContentShows f now (header_said n f c) (payload_by f c) (content_norm f c)
-content_back attachment_form (attached a) n now laws s p r = refl
+content_back attachment_form (attached a) n now laws s p r = sym (attached_back a s)
 content_back attachment_form _ n now laws s p r = absurd s
 content_back opaque_form (opaque b) n now laws s p r = refl
 content_back opaque_form _ n now laws s p r = absurd s
@@ -87,7 +78,7 @@ value_only Q m only _ h = absurd h
 
 pub content_only : (f : Form) (c : Content) (n : ℕ) (now : Cell) → FormIsLawful f → ContentMeets stored_content f c → ContentMeets plain_content f c → ContentMeets readable_content f c
     → (x : Content) → ContentShows f now (header_said n f c) (payload_by f c) x → x ≡ content_norm f c
-content_only attachment_form (attached a) n now laws s p r x h = h
+content_only attachment_form (attached a) n now laws s p r x h = h ∙ attached_back a s
 content_only attachment_form _ n now laws s p r x h = absurd s
 content_only opaque_form (opaque b) n now laws s p r x h = h
 content_only opaque_form _ n now laws s p r x h = absurd s

@@ -10,11 +10,11 @@ use Rattle.sentry_tables.proofs.Laws.{has_laws}
 use Rattle.sentry_framing.specs.Framing.{with_line}
 use Rattle.sentry_framing.specs.ItemHeader.{Header}
 use Rattle.sentry_envelope.specs.Profile.{words, Profile, ProfileLaws}
-use Rattle.sentry_envelope.specs.Envelope.{Content, Item, item, raw, Envelope, Spells, ContentShowsAt, ItemsStand, first_id, frame_by, frame_at, frame_text, items_text, envelope_text, content_norm_at, items_norm, envelope_norm, ContentDemand, ContentMeets, ContentMeetsAt, ItemsMeet, IsEnvelopeStored, IsEnvelopePlain}
+use Rattle.sentry_envelope.specs.Envelope.{Content, Item, item, raw, Envelope, Spells, ContentShowsAt, ItemsStand, first_id, frame_by, frame_at, frame_text, items_text, envelope_text, content_norm_at, items_norm, envelope_norm, ContentDemand, stored_content, plain_content, ContentMeets, ContentMeetsAt, ItemsMeet, IsEnvelopeStored, IsEnvelopePlain}
 use Rattle.sentry_envelope.specs.EnvelopeLaws.{IsFit, EnvelopesHaveOneForm, EnvelopesAreRewritten, RewritingTwiceIsOnce}
 use Rattle.sentry_envelope.proofs.EnvelopeTypes.{type_shown, shows_at, meets_at, frame_is, norm_is, lawful_at}
 use Rattle.sentry_envelope.proofs.EnvelopeWrittenHeaders.{AreTexts, header_texts}
-use Rattle.sentry_envelope.proofs.EnvelopeContents.{stored_content, plain_content, content_rewritten}
+use Rattle.sentry_envelope.proofs.EnvelopeContents.{content_rewritten}
 use Rattle.sentry_envelope.proofs.EnvelopeIds.{ids_alike}
 use Rattle.sentry_envelope.proofs.EnvelopeBack.{back}
 use Rattle.sentry_envelope.proofs.EnvelopeNormal.{stable}

@@ -7,7 +7,7 @@ use Rattle.sentry_tables.specs.Cell.{Cell}
 use Rattle.sentry_framing.specs.Framing.{is_space, Frame, Reading, IsFirstFrame}
 use Rattle.sentry_framing.specs.ItemHeader.{Header, read_header}
 use Rattle.sentry_envelope.specs.Profile.{ItemType, words, Profile, ProfileLaws}
-use Rattle.sentry_envelope.specs.Envelope.{Content, Item, item, raw, reads, ContentShows, ContentShowsAt, ItemShows, ItemsStand, payload_by, header_by, frame_by, frame_at, frame_text, items_text, content_norm_at, items_norm, ContentMeets, ContentMeetsAt, ItemsMeet, IsSizedFrame, count_in, ItemsAreSized}
+use Rattle.sentry_envelope.specs.Envelope.{Content, Item, item, raw, reads, ContentShows, ContentShowsAt, ItemShows, ItemsStand, payload_by, header_by, frame_by, frame_at, frame_text, items_text, content_norm_at, items_norm, stored_content, plain_content, readable_content, ContentMeets, ContentMeetsAt, ItemsMeet, IsSizedFrame, count_in, ItemsAreSized}
 use Rattle.sentry_framing.specs.declared.error.EnvelopeError.TheVariants.{UnexpectedEof}
 use Rattle.sentry_framing.proofs.StatedLengths.{states}
 use Rattle.sentry_framing.proofs.Outcomes.{frame, fault, same_outcome}
@@ -15,7 +15,7 @@ use Rattle.sentry_framing.proofs.Verdicts.{same_first}
 use Rattle.sentry_framing.proofs.Written.{item_read}
 use Rattle.sentry_envelope.proofs.EnvelopeTypes.{IsAt, IsTypeLawful, type_met, shows_at, meets_at, frame_is, norm_is, lawful_at, place_is}
 use Rattle.sentry_envelope.proofs.EnvelopeWrittenHeaders.{header_said, kind_said}
-use Rattle.sentry_envelope.proofs.EnvelopeContents.{stored_content, plain_content, readable_content, header_is_read, size_said, content_back, content_only}
+use Rattle.sentry_envelope.proofs.EnvelopeContents.{header_is_read, size_said, content_back, content_only}
 
 -- no frame stands in no bytes
 pub none_of_nothing : (reading : Reading) (f : Frame) (rest : List ℕ) → IsFirstFrame reading [] f rest → ⊥

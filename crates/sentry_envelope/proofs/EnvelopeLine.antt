@@ -4,15 +4,7 @@ use Rattle.std.proofs.lemmas.Bool.{cases_eq}
 use Rattle.std.proofs.lemmas.List.Elements.{All-nil, All-cons, All-head, All-tail}
 use Rattle.sentry_json.specs.Line.{newline, HasNoNewline}
 use Rattle.sentry_framing.specs.Framing.{EndsLine, IsLineAndBody}
-
-same_next : (m n : List ℕ) → newline ∷ m ≡ newline ∷ n → m ≡ n
-same_next m n e = cc
-
-same_first : (a b : ℕ) (x y : List ℕ) → a ∷ x ≡ b ∷ y → a ≡ b
-same_first a b x y e = cc
-
-same_others : (a b : ℕ) (x y : List ℕ) → a ∷ x ≡ b ∷ y → x ≡ y
-same_others a b x y e = cc
+use Rattle.sentry_framing.proofs.Conses.{same_head, same_tail}
 
 not_both_ends : (n : List ℕ) → [] ≡ newline ∷ n → ⊥
 not_both_ends n e = cc
@@ -21,20 +13,20 @@ same_ends : (after m n : List ℕ) → EndsLine after m → EndsLine after n →
 same_ends after m n (inl g) (inl h) = g.1 ∙ sym h.1
 same_ends after m n (inl g) (inr h) = absurd (not_both_ends n (sym g.0 ∙ h))
 same_ends after m n (inr g) (inl h) = absurd (not_both_ends m (sym h.0 ∙ g))
-same_ends after m n (inr g) (inr h) = same_next m n (sym g ∙ h)
+same_ends after m n (inr g) (inr h) = same_tail newline newline m n (sym g ∙ h)
 
 -- what ends a line doesn't go on in it
 not_before : (b : ℕ) (x a after next : List ℕ) → HasNoNewline (b ∷ x) → EndsLine after next → after ≡ (b ∷ x) ++ a → ⊥
 not_before b x a after next clean (inl h) e = let nil : [] ≡ b ∷ (x ++ a) = sym h.0 ∙ e in cc
-not_before b x a after next clean (inr h) e = All-head (λ c. c ≢ newline) b x clean (sym (same_first newline b next (x ++ a) (sym h ∙ e)))
+not_before b x a after next clean (inr h) e = All-head (λ c. c ≢ newline) b x clean (sym (same_head newline b next (x ++ a) (sym h ∙ e)))
 
 same_parts : (l m a b n o : List ℕ) → HasNoNewline l → HasNoNewline m → EndsLine a n → EndsLine b o → l ++ a ≡ m ++ b → (l ≡ m) × (a ≡ b)
 same_parts [] [] a b n o cl cm ea eb e = (refl, e)
 same_parts [] (y ∷ m) a b n o cl cm ea eb e = absurd (not_before y m b a n cm ea e)
 same_parts (x ∷ l) [] a b n o cl cm ea eb e = absurd (not_before x l a b o cl eb (sym e))
 same_parts (x ∷ l) (y ∷ m) a b n o cl cm ea eb e =
-    let (lines, ends) = same_parts l m a b n o (All-tail (λ c. c ≢ newline) x l cl) (All-tail (λ c. c ≢ newline) y m cm) ea eb (same_others x y (l ++ a) (m ++ b) e) in
-    (ap₂ (λ z zs. z ∷ zs) (same_first x y (l ++ a) (m ++ b) e) lines, ends)
+    let (lines, ends) = same_parts l m a b n o (All-tail (λ c. c ≢ newline) x l cl) (All-tail (λ c. c ≢ newline) y m cm) ea eb (same_tail x y (l ++ a) (m ++ b) e) in
+    (ap₂ (λ z zs. z ∷ zs) (same_head x y (l ++ a) (m ++ b) e) lines, ends)
 
 pub same_line : (bytes l b m c : List ℕ) → IsLineAndBody bytes l b → IsLineAndBody bytes m c → (l ≡ m) × (b ≡ c)
 same_line bytes l b m c g h =

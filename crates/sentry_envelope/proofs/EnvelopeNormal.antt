@@ -4,10 +4,10 @@ use Rattle.sentry_tables.specs.Cell.{Cell}
 use Rattle.sentry_tables.specs.Norm.{norm}
 use Rattle.sentry_tables.proofs.Laws.{has_laws}
 use Rattle.sentry_envelope.specs.Profile.{Profile, ProfileLaws}
-use Rattle.sentry_envelope.specs.Envelope.{Content, Item, item, raw, first_id, content_norm, content_norm_at, items_norm, envelope_norm, ContentDemand, ContentMeets, ContentMeetsAt, ItemsMeet, IsEnvelopeStored, IsEnvelopePlain, IsEnvelopeReadable}
+use Rattle.sentry_envelope.specs.Envelope.{Content, Item, item, raw, first_id, content_norm, content_norm_at, items_norm, envelope_norm, ContentDemand, stored_content, plain_content, readable_content, ContentMeets, ContentMeetsAt, ItemsMeet, IsEnvelopeStored, IsEnvelopePlain, IsEnvelopeReadable}
 use Rattle.sentry_envelope.specs.EnvelopeLaws.{EnvelopesAreStable}
 use Rattle.sentry_envelope.proofs.EnvelopeTypes.{type_met, meets_at, norm_is, lawful_at}
-use Rattle.sentry_envelope.proofs.EnvelopeContents.{stored_content, plain_content, readable_content, content_stable}
+use Rattle.sentry_envelope.proofs.EnvelopeContents.{content_stable}
 use Rattle.sentry_envelope.proofs.EnvelopeIds.{ids_alike}
 use Rattle.sentry_envelope.proofs.EnvelopeBack.{envelopes_same}
 

@@ -1,5 +1,6 @@
 -- A line and a frame stand at every moment, or are refused at each.
 use Rattle.std.proofs.Common.{◌≡◌, ◌⊎◌, inl, inr, ℕ, zero, suc, List, [], ◌∷◌, Option, Some, None, refl, sym, ◌∙◌, subst}
+use Rattle.std.proofs.lemmas.Option.{same_Some}
 use Rattle.sentry_tables.specs.Cell.{Cell, absent}
 use Rattle.sentry_tables.specs.Kind.{Kind}
 use Rattle.sentry_tables.specs.Lawful.{IsLawful}
@@ -34,9 +35,6 @@ no_value Q none (attached a) h = h
 no_value Q none (opaque b) h = h
 no_value Q none (value c) h = none c h
 
-same_header : (h g : Header) → Some h ≡ Some g → h ≡ g
-same_header h g e = cc
-
 no_header : (h : Header) → None ≡ Some h → ⊥
 no_header h e = cc
 
@@ -45,7 +43,7 @@ pub header_shows : (P : Profile) (now : Cell) (frame : Frame) (h : Header) (i : 
     → (c : Content) × ContentShowsAt P.types h.kind now h frame.payload c
 header_shows P now frame h raw r s = absurd s
 header_shows P now frame h (item n c) r (g, reads, place, shows) =
-    let same : g ≡ h = same_header g h (sym reads ∙ r) in
+    let same : g ≡ h = same_Some g h (sym reads ∙ r) in
     let there : ContentShowsAt P.types g.kind now g frame.payload c = subst (λ m. ContentShowsAt P.types m now g frame.payload c) (sym place) shows in
     (c, subst (λ (x : Header). ContentShowsAt P.types x.kind now x frame.payload c) same there)
 

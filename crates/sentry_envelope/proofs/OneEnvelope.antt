@@ -19,7 +19,7 @@ use Rattle.sentry_envelope.proofs.EnvelopeLine.{same_line}
 use Rattle.sentry_keys.proofs.DsnSingle.{dsn_single}
 use Rattle.sentry_moments.proofs.Rfc3339Single.{rfc3339_single}
 use Rattle.sentry_parts.proofs.ClientSdkSingle.{sdk_single}
-use Rattle.sentry_words.proofs.UuidSingle.{hyphenated_single}
+use Rattle.sentry_identifiers.proofs.UuidSingle.{hyphenated_single}
 
 -- ---- contents
 

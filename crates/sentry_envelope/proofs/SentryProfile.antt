@@ -10,7 +10,7 @@ use Rattle.sentry_envelope.specs.SentryProfile.{item_types, profile}
 use Rattle.sentry_keys.proofs.DsnTrees.{dsn_scalar_laws}
 use Rattle.sentry_moments.proofs.MomentSpellings.{rfc3339_refuses_null, rfc3339_scalar_laws}
 use Rattle.sentry_parts.proofs.ClientSdkLaws.{sdk_lawful}
-use Rattle.sentry_words.proofs.UuidLaws.{hyphenated_laws}
+use Rattle.sentry_identifiers.proofs.UuidLaws.{hyphenated_laws}
 
 -- the words of item headers are those of the types, in order
 pub same_words : item_words ≡ words item_types

@@ -2,16 +2,15 @@
 use Rattle.std.proofs.Common.{◌≡◌, ℕ, List, [], ◌∷◌, refl, sym, ap, ◌∙◌, inl, inr, arith}
 use Rattle.std.specs.Prelude.{map}
 use Rattle.sentry_tables.specs.Cell.{Cell, absent}
-use Rattle.sentry_tables.specs.Lawful.{IsMoment}
 use Rattle.sentry_items.specs.declared.item.EnvelopeItem.{EnvelopeItem}
 use Rattle.sentry_items.specs.declared.item.EnvelopeItem.TheVariants as variants
 use Rattle.sentry_framing.specs.Framing.{IsLineAndBody}
-use Rattle.sentry_envelope.specs.Envelope.{Envelope, ItemsStand, Spells, given_by, or_else, first_id, IsEnvelopeStored, IsEnvelopePlain}
+use Rattle.sentry_envelope.specs.Envelope.{Envelope, ItemsStand, Spells, given_by, or_else, first_id, envelope_text, envelope_norm, IsEnvelopeStored, IsEnvelopePlain}
 use Rattle.sentry_envelope.specs.EnvelopeFault.{BodyIsAtFault, Fault}
 use Rattle.sentry_envelope.specs.EnvelopeView.{item_view}
 use Rattle.sentry_moments.specs.Moments.{moment_cell}
 use Rattle.sentry_envelope.specs.HeaderFields.{header_kind, fill_id}
-use Rattle.sentry_rows.specs.Reading.{TextShown, TextRefused}
+use Rattle.sentry_members.specs.Reading.{TextShown, TextRefused}
 use Rattle.sentry_envelope.specs.SentryProfile.{item_types, profile}
 use Rattle.sentry_framing.specs.declared.error.EnvelopeError.{EnvelopeError}
 use Rattle.sentry_framing.specs.declared.error.EnvelopeError.TheVariants.{InvalidHeader}
@@ -50,9 +49,13 @@ module _ (bytes line body : List ℕ) (parts : IsLineAndBody bytes line body) wh
     items = stand;
   }
 
--- what bytes spell is stored and plain
-pub spelled_stored : (bytes : List ℕ) (now : Moment) (e : Envelope) → Spells profile bytes (moment_cell now) e → IsEnvelopeStored profile e × IsEnvelopePlain profile e
-spelled_stored bytes now e spells =
-    let real : IsMoment (moment_cell now) = (omega (arith, now.secs_in_range), now.nanos_in_range) in
-    let own = (envelope_laws profile profile_lawful).rewritten bytes (moment_cell now) e real spells in
-    (own.0, own.1)
+-- what bytes spell is stored and plain, and is written as its normal form is
+module _ (bytes : List ℕ) (now : Moment) (e : Envelope) (spells : Spells profile bytes (moment_cell now) e) where
+  abbrev own : IsEnvelopeStored profile e × IsEnvelopePlain profile e × (envelope_text profile e ≡ envelope_text profile (envelope_norm profile e))
+  own = (envelope_laws profile profile_lawful).rewritten bytes (moment_cell now) e (omega (arith, now.secs_in_range), now.nanos_in_range) spells
+
+  pub spelled_stored : IsEnvelopeStored profile e × IsEnvelopePlain profile e
+  spelled_stored = (own.0, own.1)
+
+  pub spelled_rewritten : envelope_text profile e ≡ envelope_text profile (envelope_norm profile e)
+  spelled_rewritten = own.2

@@ -196,6 +196,18 @@ pub record ContentDemand : Type 1 where
   pub attached : Attached → Type 0
   pub value : Kind → Cell → Type 0
 
+-- what Rust's types hold
+abbrev pub stored_content : ContentDemand
+stored_content = record { attached = IsAttachedStored; value = IsStored }
+
+-- no tree in it holds a float, and no extra key clashes with a field
+abbrev pub plain_content : ContentDemand
+plain_content = record { attached = λ a. ⊤; value = IsPlain }
+
+-- its printed texts are read back, and its JSON text nests at most 127 deep
+abbrev pub readable_content : ContentDemand
+readable_content = record { attached = λ a. ⊤; value = λ K c. IsReadable K c × (depth (tree K c) ≤ 127) }
+
 abbrev pub ContentMeets : ContentDemand → Form → Content → Type 0
 ContentMeets G attachment_form (attached a) = G.attached a
 ContentMeets G opaque_form (opaque b) = ⊤
@@ -215,17 +227,17 @@ ItemsMeet G ts (raw ∷ is) = ItemsMeet G ts is
 
 -- What Rust's types hold of each envelope of the program.
 unfoldable pub IsEnvelopeStored : Profile → Envelope → Type 0
-IsEnvelopeStored P e = IsStored P.header e.header × ItemsMeet (record { attached = IsAttachedStored; value = IsStored }) P.types e.items
+IsEnvelopeStored P e = IsStored P.header e.header × ItemsMeet stored_content P.types e.items
 
 -- No tree in it holds a float, and no extra key clashes with a field.
 unfoldable pub IsEnvelopePlain : Profile → Envelope → Type 0
-IsEnvelopePlain P e = IsPlain P.header e.header × ItemsMeet (record { attached = λ a. ⊤; value = IsPlain }) P.types e.items
+IsEnvelopePlain P e = IsPlain P.header e.header × ItemsMeet plain_content P.types e.items
 
 -- Its printed texts are read back, and each JSON line of its text nests at most 127 deep.
 unfoldable pub IsEnvelopeReadable : Profile → Envelope → Type 0
 IsEnvelopeReadable P e =
     IsReadable P.header e.header × (depth (tree P.header e.header) ≤ 127)
-    × ItemsMeet (record { attached = λ a. ⊤; value = λ K c. IsReadable K c × (depth (tree K c) ≤ 127) }) P.types e.items
+    × ItemsMeet readable_content P.types e.items
 
 abbrev pub IsSizedFrame : Option Frame → Type 0
 IsSizedFrame None = ⊤

@@ -4,11 +4,10 @@ use Rattle.sentry_tables.specs.Cell.{Cell, absent, fields, no_cells, cell}
 use Rattle.serde_json.specs.Data.{no_members}
 use Rattle.sentry_tables.specs.Kind.{Kind}
 use Rattle.sentry_tables.specs.Meets.{IsPlain, IsStored}
-use Rattle.sentry_items.specs.Attached.{IsAttachedStored}
 use Rattle.sentry_items.specs.View.{attachment_view}
 use Rattle.sentry_items.specs.declared.item.EnvelopeItem.{EnvelopeItem}
 use Rattle.sentry_items.specs.declared.item.EnvelopeItem.TheVariants as item_variants
-use Rattle.sentry_envelope.specs.Envelope.{Item, item, raw, attached, opaque, Envelope as Model, ContentDemand, given_by, envelope_text, IsEnvelopePlain}
+use Rattle.sentry_envelope.specs.Envelope.{Item, item, raw, attached, opaque, Envelope as Model, given_by, envelope_text, IsEnvelopePlain}
 use Rattle.sentry_envelope.specs.HeaderFields.{header_kind, headers_cell, fill_id}
 use Rattle.sentry_envelope.specs.SentryProfile.{item_types, profile}
 use Rattle.uuid.specs.declared.Uuid.{Uuid}
@@ -111,13 +110,3 @@ with_item e i = record { header = fill_id (given_by item_types i) e.header; item
 abbrev pub refused_item : AddRefused → EnvelopeItem
 refused_item (refusals.RawEnvelope i) = i
 refused_item (refusals.Memory i) = i
-
--- ---- demands on items
-
--- no tree in it holds a float, and no extra key clashes with a field
-abbrev pub plain_content : ContentDemand
-plain_content = record { attached = λ a. ⊤; value = IsPlain }
-
--- what Rust's types hold
-abbrev pub stored_content : ContentDemand
-stored_content = record { attached = IsAttachedStored; value = IsStored }

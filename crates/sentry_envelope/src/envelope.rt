@@ -50,10 +50,10 @@ pub enum AddRefused {
 }
 
 impl Envelope {
-    ghost use Rattle.std.specs.Prelude.{false, ◌≡◌, ◌≢◌, ◌↔◌, ◌⊎◌, List, ℕ, ◌+◌, ◌-◌, ◌^◌, ◌<◌, Some, IfOk, IfErr, IsOkAnd, OnErr, OnOk, IsSome, IsSomeAnd, IsTrue, option_map};
+    ghost use Rattle.std.specs.Prelude.{false, ◌≡◌, ◌≢◌, ◌↔◌, ◌⊎◌, List, ℕ, ◌+◌, ◌-◌, ◌^◌, ◌<◌, Some, IfOk, IfErr, IsOkAnd, OnErr, OnOk, IsSome, IsSomeAnd, IfSome, IsTrue, option_map};
     ghost use Rattle.std.specs.Io.KnownBytes.{Appends, Keeps};
     ghost use Rattle.sentry_items.specs.Counted.{writer_inside, writer_failures, AppendsFront};
-    ghost use Rattle.sentry_envelope.specs.Envelope.{Envelope as Model, IsEnvelopePlain, IsEnvelopeStored, Spells};
+    ghost use Rattle.sentry_envelope.specs.Envelope.{Envelope as Model, IsEnvelopePlain, IsEnvelopeStored, Spells, envelope_text, envelope_norm};
     ghost use Rattle.sentry_envelope.specs.EnvelopeFault.{Fault};
     ghost use Rattle.sentry_moments.specs.Moments.{moment_cell};
     ghost use Rattle.sentry_envelope.specs.EnvelopeView.{held, header_of, event_id_of, structured, raw_bytes, IsSame, item_view, items_of, with_item, empty, no_fields, refused_item, text_of, HasReadyHeader, IsUnwritable};
@@ -103,7 +103,7 @@ impl Envelope {
         })
     }
 
-    /// The envelope that bytes spell.
+    /// The envelope that bytes spell. It is structured and plain, and is written as its normal form is.
     ///
     /// `now` stands for moments that are absent, and ids that are absent are drawn from `ids`.
     ///
@@ -111,8 +111,10 @@ impl Envelope {
     ///
     /// The first check of the bytes, in order, that fails:
     ///
-    /// - `InvalidHeader`: the first line isn't one JSON object without floats whose `event_id` is absent, null, or a
-    ///   UUID's text in any of its forms. Other keys are ignored.
+    /// - `InvalidHeader`: the first line isn't one JSON object without floats with `event_id` absent, null, or a UUID's
+    ///   text in any of its forms; `dsn` absent, null, or a DSN's text; `sent_at` absent, or an RFC 3339 text; and `sdk`
+    ///   absent, null, or an object with texts `name` and `version` and, where given, a list of texts `integrations` and
+    ///   a list `packages` of objects with texts `name` and `version`. Other keys are ignored.
     /// - `UnexpectedEof`, `InvalidItemHeader` and `MissingNewline`: a frame's framing, as `Frames::next_frame` says.
     /// - `InvalidItemPayload`: a payload isn't read as its item's type.
     /// - `OutOfMemory`: memory was refused.
@@ -124,6 +126,7 @@ impl Envelope {
     ) -> Result<Envelope, EnvelopeError>
         ensures spelled { IfOk result (λ e. IsSomeAnd (structured e) (Spells profile bytes.now (moment_cell now))) }
         ensures stored { IfOk result (λ e. IsSomeAnd (structured e) (λ m. IsEnvelopeStored profile m × IsEnvelopePlain profile m)) }
+        ensures rewritten { IfOk result (λ e. IsSomeAnd (structured e) (λ m. envelope_text profile m ≡ envelope_text profile (envelope_norm profile m))) }
         ensures fault { IfErr result (λ x. x ≢ EnvelopeError.OutOfMemory → Fault profile bytes.now x) }
     {
         let mut frames = Frames::new(bytes);
@@ -150,6 +153,7 @@ impl Envelope {
     ) -> Result<Envelope, EnvelopeError>
         ensures spelled { IfOk result (λ e. (bytes : List ℕ) × IsSomeAnd (structured e) (Spells profile bytes (moment_cell now))) }
         ensures stored { IfOk result (λ e. IsSomeAnd (structured e) (λ m. IsEnvelopeStored profile m × IsEnvelopePlain profile m)) }
+        ensures rewritten { IfOk result (λ e. IsSomeAnd (structured e) (λ m. envelope_text profile m ≡ envelope_text profile (envelope_norm profile m))) }
         ensures err { IfErr result (λ x. (x ≡ EnvelopeError.UnexpectedEof) ⊎ ((x ≡ EnvelopeError.OutOfMemory) ⊎ ((bytes : List ℕ) × Fault profile bytes x))) }
     {
         let bytes = read_file(rt, path)?;
@@ -182,11 +186,13 @@ impl Envelope {
     ///
     /// The envelope is then unchanged, and the item is handed back:
     ///
-    /// - `RawEnvelope`: the envelope is raw, and the item is not `Raw`. To a raw envelope a `Raw` item adds nothing.
+    /// - `RawEnvelope`: the envelope is raw, and the item is not `Raw`. A raw envelope always takes a `Raw` item, which
+    ///   adds nothing.
     /// - `Memory`: memory was refused.
     pub fn add_item(&mut self, item: EnvelopeItem) -> Result<(), AddRefused>
         ensures added { (old : Model) → structured self.old ≡ Some old → OnOk result (structured self.new ≡ Some (with_item old (item_view item))) }
         ensures raw_envelope { (result ≡ Err (AddRefused.RawEnvelope item)) ↔ (IsSome (raw_bytes self.old) × (item ≢ EnvelopeItem.Raw)) }
+        ensures raw_taken { IsSome (raw_bytes self.old) → item ≡ EnvelopeItem.Raw → result ≡ Ok tt }
         ensures raw_same { IsSome (raw_bytes self.old) → IsSame self.new self.old }
         ensures refused { OnErr result (IsSame self.new self.old) }
         ensures handed_back { IfErr result (λ refused. refused_item refused ≡ item) }
@@ -253,8 +259,9 @@ impl Envelope {
         }
     }
 
-    /// Whether the envelope is structured and can be written and read back.
+    /// Whether the envelope is structured and plain: no tree in it holds a float, and no key kept beside rows is a row's.
     ///
+    /// A structured envelope is written exactly where it is plain. Whether its text is read back is more to ask.
     /// An item of raw bytes isn't written, and nothing is asked of it.
     pub fn is_plain(&self) -> bool
         ensures plain { IsTrue result ↔ IsSomeAnd (structured self.now) (IsEnvelopePlain profile) }
@@ -277,10 +284,11 @@ impl Envelope {
     }
 
     /// Whether the envelope is structured, and can't be written.
-    #[tactic(auto, using(crate::proofs::Demands::ready_header))]
+    #[tactic(auto, using(crate::proofs::Demands::ready_header, crate::proofs::Demands::stored_where_structured))]
     fn is_unwritable(&self) -> bool
         ensures exactly { IsTrue result ↔ IsUnwritable self.now }
         ensures ready { result ≡ false → HasReadyHeader self.now }
+        ensures stored { result ≡ false → IfSome (structured self.now) (IsEnvelopeStored profile) }
     {
         match &self.contents {
             Contents::Items(_) => !self.is_plain(),
@@ -291,6 +299,7 @@ impl Envelope {
     /// The text that is written, where the envelope can be.
     fn text(&self, alloc: Global) -> Result<Vec<u8>, EnvelopeWriteError>
         ensures ok { IfOk result (λ text. text.items ≡ text_of self.now) }
+        ensures stored { OnOk result (IfSome (structured self.now) (IsEnvelopeStored profile)) }
         ensures not_plain { (result ≡ Err EnvelopeWriteError.NotPlain) ↔ IsUnwritable self.now }
         ensures nothing_sent { IfErr result (λ e. e ≢ EnvelopeWriteError.Io) }
     {
@@ -317,6 +326,7 @@ impl Envelope {
         writer: &mut W,
     ) -> Result<(), EnvelopeWriteError>
         ensures whole { OnOk result (Appends (W.contents writer.old) (W.contents writer.new) (text_of self.now)) }
+        ensures stored { OnOk result (IfSome (structured self.now) (IsEnvelopeStored profile)) }
         ensures not_plain { (result ≡ Err EnvelopeWriteError.NotPlain) ↔ IsUnwritable self.now }
         ensures nothing { IfErr result (λ e. e ≢ EnvelopeWriteError.Io → Keeps (W.contents writer.old) (W.contents writer.new)) }
         ensures front { result ≡ Err EnvelopeWriteError.Io → AppendsFront (W.contents writer.old) (W.contents writer.new) (text_of self.now) }
@@ -343,6 +353,7 @@ impl Envelope {
     ) -> Result<(), EnvelopeWriteError>
         requires { writer_failures writer.old < 2 ^ 64 - 1 }
         ensures whole { OnOk result (Appends (W.contents (writer_inside writer.old)) (W.contents (writer_inside writer.new)) (text_of self.now)) }
+        ensures stored { OnOk result (IfSome (structured self.now) (IsEnvelopeStored profile)) }
         ensures not_plain { (result ≡ Err EnvelopeWriteError.NotPlain) ↔ IsUnwritable self.now }
         ensures nothing { IfErr result (λ e. e ≢ EnvelopeWriteError.Io → Keeps (W.contents (writer_inside writer.old)) (W.contents (writer_inside writer.new))) }
         ensures front { result ≡ Err EnvelopeWriteError.Io → AppendsFront (W.contents (writer_inside writer.old)) (W.contents (writer_inside writer.new)) (text_of self.now) }

@@ -1,20 +1,21 @@
 //! The header of an envelope.
 
 ghost use Rattle.std.specs.Prelude.{◌≡◌, ◌≢◌, ◌⊎◌, ◌↔◌, IfOk, IfErr, IsTrue, OnOk};
-ghost use Rattle.sentry_rows.specs.Reading.{TextShown, TextRefused};
+ghost use Rattle.sentry_members.specs.Reading.{TextShown, TextRefused};
 ghost use Rattle.sentry_envelope.specs.HeaderFields.{header_kind, headers_cell};
 
 use json::Writer;
 use sentry_framing::EnvelopeError;
+use sentry_identifiers::Hyphenated;
 use sentry_keys::Dsn;
+use sentry_members::codec::is_plain_option_as;
+use sentry_members::member::{copy_option, is_plain_option};
+use sentry_members::{FromTree, Member, TreeError, read_line};
 use sentry_moments::{Moment, Rfc3339};
 use sentry_parts::ClientSdkInfo;
-use sentry_rows::codec::is_plain_option_as;
-use sentry_rows::member::{copy_option, is_plain_option};
 use sentry_rows::rows::{object, optional, optional_as, optional_strict_as};
 use sentry_rows::table::{table_tree, write_table};
-use sentry_rows::{FromTree, Member, Sink, Table, TreeError, read_line};
-use sentry_words::Hyphenated;
+use sentry_rows::{Sink, Table};
 use serde_json::Value;
 use std::alloc::{AllocError, Global};
 use uuid::Uuid;

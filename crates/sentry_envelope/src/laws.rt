@@ -33,12 +33,14 @@ pub fn back()
     ensures { EnvelopesReadBack profile }
 {}
 
-/// The normal form is its own normal form, is stored and plain, and is readable where the envelope is.
+/// The normal form of a stored, plain envelope is its own normal form, is stored and plain, and is readable where the
+/// envelope is.
 pub fn stable()
     ensures { EnvelopesAreStable profile }
 {}
 
-/// Two envelopes share the normal form exactly where their normal forms have one text.
+/// Two stored, plain, readable envelopes whose normal forms are sized share the normal form exactly where their normal
+/// forms have one text.
 pub fn one_form()
     ensures { EnvelopesHaveOneForm profile }
 {}
@@ -48,7 +50,7 @@ pub fn rewritten()
     ensures { EnvelopesAreRewritten profile }
 {}
 
-/// Reading what is rewritten, and writing again, gives the same bytes.
+/// Where what bytes spell is readable and sized, reading what is rewritten, and writing again, gives the same bytes.
 pub fn twice()
     ensures { RewritingTwiceIsOnce profile }
 {}

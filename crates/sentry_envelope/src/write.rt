@@ -12,7 +12,7 @@ ghost use Rattle.sentry_envelope.specs.SentryProfile.{profile};
 use crate::headers::EnvelopeHeaders;
 use sentry_items::EnvelopeItem;
 use sentry_items::header::write_short_header;
-use sentry_rows::write_text;
+use sentry_members::write_text;
 use std::alloc::{AllocError, Global};
 
 /// The header line, and then each item.

@@ -1,3 +1,4 @@
+pub mod Conses
 pub mod Machine
 pub mod Pieces
 pub mod Scan

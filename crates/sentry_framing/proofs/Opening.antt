@@ -4,23 +4,18 @@ use Rattle.std.proofs.lemmas.List.{drop_at}
 use Rattle.std.proofs.lemmas.List.Elements.{All-head, All-tail, All-drop}
 use Rattle.sentry_json.specs.Balanced.{IsBalanced, braces}
 use Rattle.sentry_framing.specs.Framing.{is_space, IsBlank, Opens, Reading, IsWithoutHeader}
+use Rattle.sentry_framing.proofs.Conses.{same_head, same_tail}
 use Rattle.sentry_framing.proofs.Pieces.{after_open, same_piece, same_rest}
 
 -- no white space comes first
 abbrev pub IsDark : List ℕ → Type 0
 IsDark bytes = (b : ℕ) (more : List ℕ) → bytes ≡ b ∷ more → is_space b ≡ false
 
-abbrev Space : ℕ → Type 0
+abbrev pub Space : ℕ → Type 0
 Space b = IsTrue (is_space b)
 
 clash : (x : List ℕ) (b : ℕ) (t : List ℕ) → IsDark x → Space b → x ≡ b ∷ t → ⊥
 clash x b t dark blank e = true≢false (sym blank ∙ dark b t e)
-
-same_tail : (a b : ℕ) (x y : List ℕ) → a ∷ x ≡ b ∷ y → x ≡ y
-same_tail a b x y e = cc
-
-same_head : (a b : ℕ) (x y : List ℕ) → a ∷ x ≡ b ∷ y → a ≡ b
-same_head a b x y e = cc
 
 -- white space is skipped in one way
 pub same_dark : (s t x y : List ℕ) → IsBlank s → IsBlank t → IsDark x → IsDark y → s ++ x ≡ t ++ y → x ≡ y

@@ -1,27 +1,20 @@
 -- A body has one first frame or one fault, and one verdict.
-use Rattle.std.proofs.Common.{◌≡◌, ◌≢◌, ◌⊎◌, inl, inr, ℕ, List, [], ◌∷◌, ◌++◌, false, Option, Some, None, length, refl, sym, ◌∙◌, ap, ap₂, subst, append-nil, append_assoc, IsTrue}
+use Rattle.std.proofs.Common.{◌≡◌, ◌≢◌, ◌⊎◌, inl, inr, ℕ, List, [], ◌∷◌, ◌++◌, false, Option, Some, None, length, refl, sym, ◌∙◌, ap, ap₂, subst, append-nil, append_assoc}
 use Rattle.std.proofs.lemmas.Bool.{cases_eq, cases_Bool}
 use Rattle.std.proofs.lemmas.List.Elements.{All-nil, All-cons}
+use Rattle.std.proofs.lemmas.Option.{same_Some}
 use Rattle.sentry_json.specs.Balanced.{IsBalanced, braces}
 use Rattle.sentry_framing.specs.Framing.{is_space, IsBlank, Opens, Reading, Frame, IsFirstFrame, IsShort, IsUnendedHeader, IsUnendedPayload, IsWithoutHeader, IsFault}
 use Rattle.sentry_framing.specs.declared.error.EnvelopeError.{EnvelopeError}
 use Rattle.sentry_framing.specs.declared.error.EnvelopeError.TheVariants.{UnexpectedEof, MissingHeader, MissingItemHeader, MissingNewline, InvalidHeader, InvalidItemHeader, InvalidItemPayload, OutOfMemory}
 use Rattle.sentry_framing.specs.declared.piece.Place.TheVariants.{Plain}
+use Rattle.sentry_framing.proofs.Conses.{same_head, same_tail}
 use Rattle.sentry_framing.proofs.Machine.{rest_after}
 use Rattle.sentry_framing.proofs.Pieces.{found_inside, after_open}
-use Rattle.sentry_framing.proofs.Opening.{IsDark, same_opening, not_blank, no_header, refused_header, opens}
+use Rattle.sentry_framing.proofs.Opening.{IsDark, Space, same_opening, not_blank, no_header, refused_header, opens}
 use Rattle.sentry_framing.proofs.Tails.{Tail, cut, short, unended, IsTail, tail_of, tail_is, some_tail}
 
 -- ---- a piece or none
-
-some_same : {A : Type 0} (x y : A) → Some x ≡ Some y → x ≡ y
-some_same x y e = cc
-
-same_tail : (a b : ℕ) (x y : List ℕ) → a ∷ x ≡ b ∷ y → x ≡ y
-same_tail a b x y e = cc
-
-same_head : (a b : ℕ) (x y : List ℕ) → a ∷ x ≡ b ∷ y → a ≡ b
-same_head a b x y e = cc
 
 abbrev pub Piece : List ℕ → Type 0
 Piece bytes = (piece : List ℕ) × (rest : List ℕ) × IsBalanced piece × (bytes ≡ piece ++ rest)
@@ -47,9 +40,6 @@ piece_or_none (b ∷ bytes) = elim (cases_eq b 123) [
 ]
 
 -- ---- the white space at the front
-
-abbrev Space : ℕ → Type 0
-Space b = IsTrue (is_space b)
 
 skipped : (body : List ℕ) → (space : List ℕ) × (front : List ℕ) × IsBlank space × IsDark front × (body ≡ space ++ front)
 skipped [] = ([], [], All-nil Space, (λ b more e. absurd (nil_is b more e)), refl)
@@ -157,7 +147,7 @@ module _ (reads : Reading) (body : List ℕ) where
   same_headed : (o p : Outcome) → Headed o → Headed p → o ≡ p
   same_headed o p g h =
       let (headers, afters) = same_opening body g.header h.header g.after h.after g.opening h.opening in
-      let stated : g.stated ≡ h.stated = some_same g.stated h.stated (sym g.accepted ∙ ap reads headers ∙ h.accepted) in
+      let stated : g.stated ≡ h.stated = same_Some g.stated h.stated (sym g.accepted ∙ ap reads headers ∙ h.accepted) in
       let tails : g.tail ≡ h.tail = sym (tail_is g.stated g.after g.tail g.tails) ∙ ap₂ tail_of stated afters ∙ tail_is h.stated h.after h.tail h.tails in
       g.is ∙ ap₂ outcome_of headers tails ∙ sym h.is
 

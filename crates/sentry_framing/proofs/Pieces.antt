@@ -1,9 +1,11 @@
 -- The scan of a piece against the grammar, in both directions.
-use Rattle.std.proofs.Common.{◌≡◌, ◌≢◌, inl, inr, ℕ, zero, suc, ◌+◌, List, [], ◌∷◌, ◌++◌, Some, None, refl, sym, ◌∙◌, ap, subst, append_assoc, append-nil, add-one}
+use Rattle.std.proofs.Common.{◌≡◌, ◌≢◌, inl, inr, ℕ, zero, suc, ◌+◌, List, [], ◌∷◌, ◌++◌, Some, refl, sym, ◌∙◌, ap, subst, append_assoc, append-nil, add-one}
 use Rattle.std.proofs.lemmas.Bool.{cases_eq}
 use Rattle.std.proofs.lemmas.List.{append_cancel_right}
+use Rattle.std.proofs.lemmas.Option.{none-some, same_Some}
 use Rattle.sentry_framing.specs.declared.piece.Place.TheVariants.{Plain, InString, AfterBackslash}
 use Rattle.sentry_json.specs.Balanced.{IsStringEnd, closed, byte, pair, IsBalanced, braces, IsInside, nothing, plain, string, piece}
+use Rattle.sentry_framing.proofs.Conses.{same_tail}
 use Rattle.sentry_framing.proofs.Machine.{rest_after, plain_other, string_other, escaped, plain_quote, plain_open, plain_close, plain_last, nothing_left, string_quote, string_backslash}
 
 -- ---- what the grammar has, the scan passes over
@@ -65,22 +67,16 @@ longer d b s rest q n (t, m, h, e, more) = (b ∷ t, m, byte q n h, ap (λ x. b 
 escaping : (d b : ℕ) (s rest : List ℕ) → ClosesString d s rest → ClosesString d (92 ∷ b ∷ s) rest
 escaping d b s rest (t, m, h, e, more) = (92 ∷ b ∷ t, m, pair h, ap (λ x. 92 ∷ b ∷ x) e, more)
 
-none_some : {A : Type 0} (x : A) → None ≡ Some x → ⊥
-none_some x e = cc
-
-some_same : {A : Type 0} (x y : A) → Some x ≡ Some y → x ≡ y
-some_same x y e = cc
-
 closing : (s : List ℕ) (d : ℕ) (rest : List ℕ) → ((c : ℕ) → rest_after s Plain c ≡ Some rest → Closes (suc c) s rest)
     → rest_after (125 ∷ s) Plain d ≡ Some rest → Closes (suc d) (125 ∷ s) rest
-closing s zero rest after e = ([], s, nothing, refl, some_same s rest (sym (plain_last s) ∙ e))
+closing s zero rest after e = ([], s, nothing, refl, same_Some s rest (sym (plain_last s) ∙ e))
 closing s (suc d) rest after e =
     let f : rest_after (125 ∷ s) Plain (d + 1) ≡ Some rest = ap (λ x. rest_after (125 ∷ s) Plain x) (add-one d) ∙ e in
     ([], s, nothing, refl, after d (sym (plain_close s d) ∙ f))
 
 mutual
   sound_plain : (s : List ℕ) (d : ℕ) (rest : List ℕ) → rest_after s Plain d ≡ Some rest → Closes (suc d) s rest
-  sound_plain [] d rest e = absurd (none_some rest (sym (nothing_left Plain d) ∙ e))
+  sound_plain [] d rest e = absurd (none-some rest (sym (nothing_left Plain d) ∙ e))
   sound_plain (b ∷ s) d rest e =
       elim (cases_eq b 34) [
         | inl is ↦
@@ -101,7 +97,7 @@ mutual
       ]
 
   sound_string : (s : List ℕ) (d : ℕ) (rest : List ℕ) → rest_after s InString d ≡ Some rest → ClosesString d s rest
-  sound_string [] d rest e = absurd (none_some rest (sym (nothing_left InString d) ∙ e))
+  sound_string [] d rest e = absurd (none-some rest (sym (nothing_left InString d) ∙ e))
   sound_string (b ∷ s) d rest e =
       elim (cases_eq b 34) [
         | inl is ↦
@@ -116,7 +112,7 @@ mutual
       ]
 
   sound_escape : (s : List ℕ) (d : ℕ) (rest : List ℕ) → rest_after s AfterBackslash d ≡ Some rest → ClosesString d (92 ∷ s) rest
-  sound_escape [] d rest e = absurd (none_some rest (sym (nothing_left AfterBackslash d) ∙ e))
+  sound_escape [] d rest e = absurd (none-some rest (sym (nothing_left AfterBackslash d) ∙ e))
   sound_escape (b ∷ s) d rest e = escaping d b s rest (sound_string s d rest (sym (escaped b s d) ∙ e))
 
 -- ---- pieces at the front of bytes
@@ -132,16 +128,13 @@ pub after_open : (p rest : List ℕ) → IsBalanced p → (inside : List ℕ) ×
 after_open p rest (braces {s} h) =
     (s ++ 125 ∷ rest, ap (λ x. 123 ∷ x) (append_assoc s (125 ∷ []) rest), inside_is s rest h)
 
-same_tail : (a b : ℕ) (x y : List ℕ) → a ∷ x ≡ b ∷ y → x ≡ y
-same_tail a b x y e = cc
-
 -- bytes begin with one piece at most
 pub same_rest : (p q x y : List ℕ) → IsBalanced p → IsBalanced q → p ++ x ≡ q ++ y → x ≡ y
 same_rest p q x y hp hq e =
     let a = after_open p x hp in
     let b = after_open q y hq in
     let same : a.0 ≡ b.0 = same_tail 123 123 a.0 b.0 (sym a.1 ∙ e ∙ b.1) in
-    some_same x y (sym a.2 ∙ ap (λ z. rest_after z Plain 0) same ∙ b.2)
+    same_Some x y (sym a.2 ∙ ap (λ z. rest_after z Plain 0) same ∙ b.2)
 
 pub same_piece : (p q x y : List ℕ) → IsBalanced p → IsBalanced q → p ++ x ≡ q ++ y → p ≡ q
 same_piece p q x y hp hq e =

@@ -4,6 +4,7 @@ use Rattle.std.proofs.lemmas.List.{at_drop_more, at_drop_all, take_at}
 use Rattle.sentry_framing.specs.declared.piece.Place.{Place}
 use Rattle.sentry_framing.specs.declared.piece.Place.TheVariants.{Plain}
 use Rattle.sentry_json.specs.Balanced.{IsBalanced, braces}
+use Rattle.sentry_framing.proofs.Conses.{same_tail}
 use Rattle.sentry_framing.proofs.Machine.{rest_after, plain_last, nothing_left}
 use Rattle.sentry_framing.proofs.Pieces.{found_inside, after_open}
 
@@ -26,10 +27,7 @@ pub none : (bytes s : List ℕ) (i d : ℕ) (place : Place) → bytes ≡ 123 �
     → (piece rest : List ℕ) → IsBalanced piece → bytes ≡ piece ++ rest → ⊥
 none bytes s i d place is past same piece rest h e =
     let (inside, begins, found) = after_open piece rest h in
-    let parts : s ≡ inside = tails 123 123 s inside (sym is ∙ e ∙ begins) in
+    let parts : s ≡ inside = same_tail 123 123 s inside (sym is ∙ e ∙ begins) in
     let nothing : rest_after s Plain 0 ≡ None = sym same ∙ at_drop_all (λ x. rest_after x place d) s i (omega arith) ∙ nothing_left place d in
     let same_rest : rest_after s Plain 0 ≡ Some rest = ap (λ x. rest_after x Plain 0) parts ∙ found in
     cc
-  where
-    tails : (a b : ℕ) (x y : List ℕ) → a ∷ x ≡ b ∷ y → x ≡ y
-    tails a b x y e = cc

@@ -7,7 +7,8 @@ use thiserror::Error;
 /// The texts are those of Sentry's own crate `sentry-types`.
 #[derive(Debug, Drop, Error)]
 pub enum EnvelopeError {
-    /// Fewer bytes are left than an item needs.
+    /// Only white space is left where an item is due, fewer bytes are left than its header states, or a file can't be
+    /// read.
     #[error("unexpected end of file")]
     UnexpectedEof,
     /// Not answered by any call: an empty header line is an `InvalidHeader`.

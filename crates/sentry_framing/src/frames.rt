@@ -16,7 +16,9 @@ use std::marker::Model;
 /// An item of an envelope: the bytes of its header, and of the payload that follows it.
 #[derive(Clone, Copy, Debug)]
 pub struct ItemFrame<'a> {
+    /// The bytes of its header, from its `{` to its `}`.
     pub header: &'a [u8],
+    /// The bytes of its payload, without the line feeds around it.
     pub payload: &'a [u8],
 }
 

@@ -8,7 +8,7 @@ ghost use Rattle.sentry_framing.specs.HeaderView.{header_view};
 
 use crate::error::EnvelopeError;
 use crate::kind::ItemKind;
-use sentry_rows::{TreeError, read_tree};
+use sentry_members::{TreeError, read_tree};
 use serde_json::Value;
 use std::alloc::Global;
 

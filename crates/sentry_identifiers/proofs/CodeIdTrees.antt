@@ -5,13 +5,13 @@ use Rattle.std.proofs.lemmas.Option.{same_Some}
 use Rattle.std.proofs.lemmas.List.Sums.{AllPass-from_list_all}
 use Rattle.sentry_tables.specs.Cell.{Cell, text}
 use Rattle.sentry_tables.specs.Lawful.{IsLawful, IsNormal, RefusesNull}
-use Rattle.sentry_rows.specs.Spelling.{SpellingLaws, word_of}
-use Rattle.sentry_rows.proofs.Spellings.{read_as_laws, spelled_laws, spelled_refuses_null}
+use Rattle.sentry_members.specs.Spelling.{SpellingLaws, word_of}
+use Rattle.sentry_members.proofs.Spellings.{read_as_laws, spelled_laws, spelled_refuses_null}
 use Rattle.sentry_identifiers.specs.CodeDigits.{code_digits, is_code_digit, are_code_digits}
 use Rattle.sentry_identifiers.specs.CodeIdTree.{IsCodeCell, code_of, code_spelling, code_kind}
 use Rattle.sentry_identifiers.proofs.CodeIds.{kept_are_digits, digits_are_kept}
-use Rattle.sentry_identifiers.proofs.ValueTexts.{ValueLaws, value_laws, value_normal}
-use Rattle.sentry_identifiers.proofs.Bounds.{small_within, small_utf8}
+use Rattle.sentry_numbers.proofs.ValueTexts.{ValueLaws, value_laws}
+use Rattle.sentry_numbers.proofs.Bounds.{small_within, small_utf8}
 
 abbrev Digits : List ℕ → Type 0
 Digits s = are_code_digits s ≡ true
@@ -45,4 +45,4 @@ pub code_refuses_null : RefusesNull code_kind
 code_refuses_null = spelled_refuses_null code_spelling
 
 pub code_normal : (c : Cell) → IsCodeCell c → IsNormal code_kind c
-code_normal = value_normal (λ s. Some (code_digits s)) (λ s. s) Digits text word_of IsCodeCell code_values
+code_normal c h = (h, tt, tt, refl)

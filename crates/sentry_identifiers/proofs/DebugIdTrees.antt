@@ -1,57 +1,27 @@
 -- The spelling of debug identifiers is lawful.
-use Rattle.std.proofs.Common.{◌≡◌, ◌⊎◌, ◌==◌, ◌&&◌, ◌+◌, ◌*◌, ◌<◌, ◌^◌, ℕ, List, [], ◌∷◌, length, Bool, true, false, cond, get_or, slice_index, Some, None, inl, inr, refl, sym, subst, arith, All, IsUtf8, eqb-true, lit<}
-use Rattle.std.specs.List.{list_all}
+use Rattle.std.proofs.Common.{◌≡◌, ◌⊎◌, ◌==◌, ◌<◌, ◌^◌, ℕ, List, [], ◌∷◌, length, false, Some, inl, inr, refl, sym, subst, arith, All, IsUtf8, lit<}
 use Rattle.std.specs.Fmt.{digits}
-use Rattle.std.proofs.lemmas.Bool.{and_parts, cases_eq, cond-true, cond-false, eq-eqb, ne_eqb}
-use Rattle.std.proofs.lemmas.Bool.Decides.{nat_tests}
+use Rattle.std.proofs.lemmas.Bool.{cases_eq, cond-true, cond-false, eq-eqb, ne_eqb}
 use Rattle.std.proofs.lemmas.Fmt.{digits_is_IsNumeral}
-use Rattle.std.proofs.lemmas.List.Sums.{AllPass-from_list_all}
-use Rattle.std.proofs.lemmas.Option.{cond_some}
 use Rattle.std.proofs.lemmas.Str.{IsUtf8-append, IsUtf8-from_ascii, IsUtf8-nil}
-use Rattle.uuid.specs.Text.{lower, by_index, is_hex_digit, value_of, byte_of_digits, parsed_simple, parsed_hyphenated, digits_of, has_hyphens, hyphenated_text}
-use Rattle.uuid.proofs.TextLemmas.{by_index_length, by_index_at, hyphenated_ascii}
+use Rattle.uuid.specs.Text.{lower, parsed_simple, parsed_hyphenated, hyphenated_text}
+use Rattle.uuid.proofs.TextLemmas.{hyphenated_ascii}
 use Rattle.sentry_tables.specs.Cell.{Cell, octets, choice}
 use Rattle.sentry_tables.specs.Lawful.{IsLawful, IsNormal, RefusesNull}
-use Rattle.sentry_rows.specs.Spelling.{SpellingLaws}
-use Rattle.sentry_rows.proofs.Spellings.{read_as_laws, spelled_laws, spelled_refuses_null}
+use Rattle.sentry_members.specs.Spelling.{SpellingLaws}
+use Rattle.sentry_members.proofs.Spellings.{read_as_laws, spelled_laws, spelled_refuses_null}
 use Rattle.sentry_identifiers.specs.DebugId.{IsAppendix, debug_id_of, debug_id_text, appendix_text}
 use Rattle.sentry_identifiers.specs.DebugIdTree.{debug_cell, IsDebugCell, debug_text, debug_spelling, debug_kind}
+use Rattle.sentry_identifiers.proofs.UuidLaws.{Bytes, gives_simple, gives_hyphenated}
 use Rattle.sentry_identifiers.proofs.DebugIds.{debug_id_of_iff, written_debug_id, eight_digits}
-use Rattle.sentry_identifiers.proofs.ValueTexts.{ValueLaws, value_laws, value_normal}
-use Rattle.sentry_identifiers.proofs.Bounds.{small_cons, small_utf8, digits_small}
+use Rattle.sentry_numbers.proofs.ValueTexts.{ValueLaws, value_laws}
+use Rattle.sentry_numbers.proofs.Bounds.{small_cons, small_utf8, digits_small}
 
 -- ---- what is read has sixteen bytes and 32 bits
 
-abbrev Bytes : List ℕ → Type 0
-Bytes bytes = (length bytes ≡ 16) × All (λ b. b < 256) bytes
-
-digit_below : (c : ℕ) → is_hex_digit c ≡ true → value_of c < 16
-digit_below c h = grind (arith, nat_tests)
-
-sixteen_bytes : (hex : List ℕ) → length hex ≡ 32 → list_all is_hex_digit hex ≡ true → Bytes (by_index 16 (byte_of_digits hex))
-sixteen_bytes hex long digits =
-    let size : length (by_index 16 (byte_of_digits hex)) ≡ 16 = by_index_length 16 (byte_of_digits hex) in
-    let digit : (k : ℕ) → k < 32 → value_of (slice_index hex k) < 16 = λ k h. digit_below (slice_index hex k) (AllPass-from_list_all is_hex_digit hex digits k 0 (omega arith)) in
-    let below : (k d : ℕ) → k < length (by_index 16 (byte_of_digits hex)) → get_or (by_index 16 (byte_of_digits hex)) k d < 256 = λ k d h.
-    let within : k < 16 = omega arith in
-    let high = digit (2 * k) (omega arith) in
-    let low = digit (2 * k + 1) (omega arith) in
-    rw (by_index_at 16 (byte_of_digits hex) k d within) (omega (arith, high, low)) in
-    (size, below)
-
-simple_bytes : (s bytes : List ℕ) → parsed_simple s ≡ Some bytes → Bytes bytes
-simple_bytes s bytes e =
-    let parts = cond_some _ (by_index 16 (byte_of_digits s)) bytes e in
-    let both = and_parts (length s == 32) (list_all is_hex_digit s) parts.0 in
-    subst Bytes parts.1 (sixteen_bytes s (eqb-true (length s) 32 both.0) both.1)
-
-hyphenated_bytes : (s bytes : List ℕ) (b : Bool) → cond b (parsed_simple (digits_of s)) None ≡ Some bytes → Bytes bytes
-hyphenated_bytes s bytes true e = simple_bytes (digits_of s) bytes e
-hyphenated_bytes s bytes false e = absurd (cc)
-
 id_bytes : (s bytes : List ℕ) → (parsed_simple s ≡ Some bytes) ⊎ (parsed_hyphenated s ≡ Some bytes) → Bytes bytes
-id_bytes s bytes (inl e) = simple_bytes s bytes e
-id_bytes s bytes (inr e) = hyphenated_bytes s bytes ((length s == 36) && has_hyphens s) e
+id_bytes s bytes (inl e) = gives_simple s bytes e
+id_bytes s bytes (inr e) = gives_hyphenated s bytes e
 
 tail_bits : (s : List ℕ) (n : ℕ) → IsAppendix s n → n < 2 ^ 32
 tail_bits s n (inl (none, is)) = omega (arith, is)
@@ -110,4 +80,4 @@ pub debug_refuses_null : RefusesNull debug_kind
 debug_refuses_null = spelled_refuses_null debug_spelling
 
 pub debug_normal : (c : Cell) → IsDebugCell c → IsNormal debug_kind c
-debug_normal = value_normal debug_id_of to_text IsHeld debug_cell debug_text IsDebugCell debug_values
+debug_normal c h = (h, tt, tt, refl)

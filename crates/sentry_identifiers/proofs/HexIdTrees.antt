@@ -1,17 +1,19 @@
 -- Ids of spans and traces as texts of trees are lawful.
-use Rattle.std.proofs.Common.{◌≡◌, ◌/◌, ◌%◌, ◌<◌, ℕ, zero, suc, List, [], ◌∷◌, length, slice_index, replicate, refl, ap, arith}
+use Rattle.std.proofs.Common.{◌≡◌, ◌/◌, ◌%◌, ◌<◌, ℕ, zero, suc, List, [], ◌∷◌, length, slice_index, replicate, Option, Some, None, option_map, Result, Ok, Err, refl, sym, ap, ◌∙◌, arith}
+use Rattle.std.specs.Result.{result_ok}
 use Rattle.std.specs.Str.{IsAscii}
 use Rattle.std.proofs.lemmas.Str.{IsUtf8-from_ascii}
 use Rattle.std.proofs.lemmas.Bool.Decides.{nat_tests}
-use Rattle.hex.specs.Hex.{IsBytes, encode_lower, encode_with, lower_digits}
+use Rattle.hex.specs.declared.error.FromHexError.{FromHexError}
+use Rattle.hex.specs.Hex.{IsBytes, decode_sized, encode_lower, encode_with, lower_digits}
 use Rattle.sentry_tables.specs.Cell.{Cell, octets}
 use Rattle.sentry_tables.specs.Kind.{draw}
 use Rattle.sentry_tables.specs.Lawful.{IsNormal, RuleLaws}
-use Rattle.sentry_rows.specs.Spelling.{SpellingLaws, spelled_kind}
-use Rattle.sentry_rows.proofs.Spellings.{read_as_laws, spelled_refuses_null}
+use Rattle.sentry_members.specs.Spelling.{SpellingLaws, spelled_kind}
+use Rattle.sentry_members.proofs.Spellings.{read_as_laws, spelled_refuses_null}
 use Rattle.sentry_identifiers.specs.HexId.{hex_id_of}
 use Rattle.sentry_identifiers.specs.HexIdTree.{IsOctets, hex_text, hex_id_spelling}
-use Rattle.sentry_identifiers.proofs.ValueTexts.{ValueLaws, value_laws, value_normal}
+use Rattle.sentry_numbers.proofs.ValueTexts.{ValueLaws, value_laws}
 use Rattle.sentry_identifiers.proofs.HexIds.{digit_of, hex_id_of_iff, written_id}
 
 -- ---- the written text is ASCII
@@ -25,6 +27,19 @@ digits_ascii [] fits i = omega arith
 digits_ascii (b ∷ bs) fits zero = digit_ascii (b / 16) (let one = fits 0 in omega (arith, one))
 digits_ascii (b ∷ bs) fits (suc zero) = digit_ascii (b % 16) (omega arith)
 digits_ascii (b ∷ bs) fits (suc (suc i)) = digits_ascii bs (λ k. fits (suc k)) i
+
+-- ---- what a text spells
+
+pub id_spelled : (n : ℕ) (text bytes : List ℕ) → Ok bytes ≡ decode_sized text n → option_map octets (hex_id_of n text) ≡ Some (octets bytes)
+unfolding hex_id_of
+id_spelled n text bytes e = sym (ap (λ (r : Result (List ℕ) FromHexError). option_map octets (result_ok r)) e)
+
+nothing : (o : Option Cell) (c : Cell) → None ≡ o → o ≡ Some c → ⊥
+nothing o c e f = cc
+
+pub none_spelled : (n : ℕ) (text : List ℕ) (error : FromHexError) → Err error ≡ decode_sized text n → (c : Cell) → option_map octets (hex_id_of n text) ≡ Some c → ⊥
+unfolding hex_id_of
+none_spelled n text error e c = nothing _ c (ap (λ (r : Result (List ℕ) FromHexError). option_map octets (result_ok r)) e)
 
 -- ---- the laws
 
@@ -52,7 +67,7 @@ module _ (n : ℕ) where
   -- ---- what may be drawn
 
   id_is_normal : (c : Cell) → IsOctets n c → IsNormal (spelled_kind (hex_id_spelling n)) c
-  id_is_normal = value_normal (hex_id_of n) encode_lower AreBytes octets hex_text (IsOctets n) id_values
+  id_is_normal c h = (h, tt, tt, refl)
 
   zeros_are_bytes : (k : ℕ) → IsBytes (replicate k 0)
   zeros_are_bytes zero i = omega arith

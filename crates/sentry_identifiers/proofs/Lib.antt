@@ -1,10 +1,10 @@
-pub mod NumberTexts
 pub mod HexIds
 pub mod DebugIds
 pub mod CodeIds
 pub mod HexIdTrees
-pub mod ProjectTrees
-pub mod Bounds
-pub mod ValueTexts
 pub mod CodeIdTrees
 pub mod DebugIdTrees
+pub mod UuidLaws
+pub mod UuidSingle
+pub mod UuidTexts
+pub mod UuidsWritten

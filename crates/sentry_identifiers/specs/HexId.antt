@@ -1,7 +1,8 @@
 -- Ids of spans and traces: bytes, written as hex digits.
-use Rattle.std.specs.Prelude.{◌≡◌, ℕ, List, map, length, Option}
+use Rattle.std.specs.Prelude.{◌≡◌, ℕ, List, map, length, Option, Result}
 use Rattle.std.specs.Char.{to_ascii_lowercase}
-use Rattle.std.specs.Result.{result_ok}
+use Rattle.std.specs.Result.{result_ok, result_map_both}
+use Rattle.hex.specs.declared.error.FromHexError.{FromHexError}
 use Rattle.hex.specs.Hex.{IsBytes, decode_sized, encode_lower}
 use Rattle.sentry_identifiers.specs.declared.span_id.SpanId.{SpanId}
 use Rattle.sentry_identifiers.specs.declared.trace_id.TraceId.{TraceId}
@@ -22,3 +23,7 @@ pub record IsHexId (n : ℕ) (text bytes : List ℕ) : Type 0 where
 -- what the text is read as
 unfoldable pub hex_id_of : ℕ → List ℕ → Option (List ℕ)
 hex_id_of n text = result_ok (decode_sized text n)
+
+-- the answer is the id of the n bytes that the digits write, and the error that names what is wrong where they write none
+abbrev pub ReadsHex : {A : Type 0} → ℕ → (A → List ℕ) → List ℕ → Result A FromHexError → Type 0
+ReadsHex n bytes_of text answer = result_map_both bytes_of (λ error. error) answer ≡ decode_sized text n

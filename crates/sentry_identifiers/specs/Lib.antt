@@ -1,10 +1,8 @@
-pub mod Number
 pub mod HexId
 pub mod DebugId
-pub mod ProjectId
 pub mod CodeDigits
 pub mod CodeId
 pub mod HexIdTree
-pub mod ProjectTree
 pub mod DebugIdTree
 pub mod CodeIdTree
+pub mod Uuids

@@ -3,10 +3,11 @@
 ghost use Rattle.std.specs.Prelude.{◌≡◌, IfOk, IsTrue, string_bytes};
 ghost use Rattle.sentry_identifiers.specs.CodeDigits.{code_digits, are_code_digits};
 
-use sentry_rows::{Room, Spelled, TreeError};
+use sentry_members::{Room, Spelled, TreeError};
 use std::alloc::{AllocError, Global};
 
-/// The identifier of a code file: hex digits in lower case.
+/// The identifier of a code file: hex digits in lower case, as
+/// <https://docs.sentry.io/platforms/native/data-management/debug-files/identifiers/> has it.
 #[derive(Debug, Drop, PartialEq, Eq, PartialOrd, Ord, Hash)]
 pub struct CodeId {
     digits: String,

@@ -1,11 +1,12 @@
 //! Debug identifiers.
 
-ghost use Rattle.std.specs.Prelude.{◌≡◌, ◌<◌, Some, All};
+ghost use Rattle.std.specs.Prelude.{◌≡◌, Some};
 ghost use Rattle.sentry_identifiers.specs.DebugId.{id_size, appendix_of, debug_id_of, appendix_text, debug_id_text};
-ghost use Rattle.sentry_identifiers.specs.Number.{ReadsAs};
+ghost use Rattle.sentry_numbers.specs.Number.{ReadsAs};
 
-use sentry_rows::spelled::printed;
-use sentry_rows::{Room, Spelled, TreeError};
+use crate::bytes::are_bytes;
+use sentry_members::spelled::printed;
+use sentry_members::{Room, Spelled, TreeError};
 use std::alloc::{AllocError, Global};
 use std::fmt;
 use std::str::FromStr;
@@ -16,7 +17,8 @@ use uuid::Uuid;
 ///
 /// It is read from the UUID as 32 digits or with hyphens, in any case, and then nothing, which is the
 /// appendix 0, or `-` and one to eight hex digits. It is written with hyphens and in lower case, the
-/// appendix only where it isn't 0.
+/// appendix only where it isn't 0:
+/// <https://docs.sentry.io/platforms/native/data-management/debug-files/identifiers/>.
 #[derive(Clone, Copy, Debug, PartialEq, Eq, PartialOrd, Ord, Hash)]
 pub struct DebugId {
     uuid: Uuid,
@@ -96,6 +98,12 @@ impl FromStr for DebugId {
 
     ghost from_str_gives = { ReadsAs debug_id_of debug_parts };
 
+    /// The identifier of a text.
+    ///
+    /// # Errors
+    ///
+    /// `ParseDebugIdError` where the text is no UUID as 32 digits or with hyphens, or what follows it is
+    /// no appendix.
     fn from_str(text: &str) -> Result<DebugId, ParseDebugIdError> {
         match read_parts(text) {
             Some((uuid, appendix)) => Ok(DebugId::from_parts(uuid, appendix)),
@@ -155,15 +163,10 @@ impl Spelled for DebugId {
 
     fn hold(&self) {
         let DebugId { uuid, .. } = *self;
-        hold_bytes(uuid.as_bytes());
+        are_bytes(uuid.as_bytes());
         let _appendix = self.appendix;
     }
 }
-
-// Nothing; a slice of bytes has numbers below 256.
-fn hold_bytes(bytes: &[u8])
-    ensures { All (λ b. b < 256) bytes.now }
-{}
 
 #[cfg(test)]
 mod tests {
@@ -175,6 +178,10 @@ mod tests {
         for (text, shown) in [
             (
                 "DFB8E43AF2423D73A453AEB6A777EF75-A",
+                "dfb8e43a-f242-3d73-a453-aeb6a777ef75-a",
+            ),
+            (
+                "DFB8E43AF2423D73A453AEB6A777EF75-0000000A",
                 "dfb8e43a-f242-3d73-a453-aeb6a777ef75-a",
             ),
             (
@@ -213,5 +220,12 @@ mod tests {
         ] {
             assert!(rt; text.parse::<DebugId>().is_err(), "{text}");
         }
+    }
+
+    #[test]
+    fn error_text(rt: HostRuntime) -> Result<(), Fail> {
+        let text = ParseDebugIdError.to_string(rt.alloc())?;
+        assert_eq!(rt; text.as_str(), "ParseDebugIdError");
+        Ok(())
     }
 }

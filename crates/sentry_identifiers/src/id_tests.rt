@@ -1,10 +1,8 @@
-use crate::{CodeId, DebugId, OrganizationId, OrganizationText, ProjectId, SpanId, TraceId};
-use json::Writer;
+use crate::{CodeId, DebugId, SpanId, TraceId};
 use rand_core::{Rng, SeedableRng};
 use rand_pcg::Pcg32;
+use sentry_members::{FromTree, Member, Own, TreeError, read_line, read_tree, text_of};
 use sentry_rows::draw::or_drawn_as;
-use sentry_rows::rows::required_as;
-use sentry_rows::{Codec, FromTree, Member, Own, TreeError, read_line, read_tree, text_of};
 use std::alloc::Global;
 use std::test::Fail;
 
@@ -76,54 +74,6 @@ fn absent_ids_are_drawn(rt: HostRuntime) -> Result<(), Fail> {
     assert_eq!(rt; drawn, TraceId::from(trace));
     assert!(rt; or_drawn_as::<Own, SpanId, Pcg32>(alloc, &tree, "none", &mut ids).is_err());
     assert!(rt; or_drawn_as::<Own, TraceId, Pcg32>(alloc, &tree, "given", &mut ids).is_err());
-    Ok(())
-}
-
-#[test]
-fn project_ids(rt: HostRuntime) -> Result<(), Fail> {
-    let alloc = rt.alloc();
-    let id: ProjectId = read_line(alloc, b"\"42\"")?;
-    assert_eq!(rt; id.value(), "42");
-    assert_eq!(rt; written(alloc, &id)?.as_str(), "\"42\"");
-    assert_eq!(rt; rewritten::<ProjectId>(alloc, "\"\"")?.as_str(), "\"\"");
-    assert!(rt; is_misfit::<ProjectId>(alloc, "42"));
-    assert!(rt; is_misfit::<ProjectId>(alloc, "null"));
-    Ok(())
-}
-
-#[test]
-fn organization_ids(rt: HostRuntime) -> Result<(), Fail> {
-    let alloc = rt.alloc();
-    for line in ["5", "0", "18446744073709551615"] {
-        assert_eq!(rt; rewritten::<OrganizationId>(alloc, line)?.as_str(), line);
-    }
-    for line in ["\"5\"", "-1", "18446744073709551616", "null"] {
-        assert!(rt; is_misfit::<OrganizationId>(alloc, line), "{line}");
-    }
-    let tree = read_tree(
-        alloc,
-        b"{\"five\":\"5\",\"plus\":\"+007\",\"number\":5,\"minus\":\"-1\",\"none\":null}",
-    )?;
-    for (key, shown) in [("five", "\"5\""), ("plus", "\"7\"")] {
-        let id = required_as::<OrganizationText, OrganizationId>(alloc, &tree, key)?;
-        let copy = OrganizationText::copy(&id)?;
-        assert_eq!(rt;
-            OrganizationText::to_tree(&copy, alloc)?
-                .to_string(alloc)?
-                .as_str(),
-            shown
-        );
-        let mut out = Writer::new(Vec::new(alloc));
-        OrganizationText::write(&id, &mut out)?;
-        assert_eq!(rt; String::from_utf8(out.into_inner())?.as_str(), shown);
-        assert!(rt; OrganizationText::is_plain(&id));
-    }
-    for key in ["number", "minus", "none", "absent"] {
-        assert!(rt;
-            required_as::<OrganizationText, OrganizationId>(alloc, &tree, key).is_err(),
-            "{key}"
-        );
-    }
     Ok(())
 }
 

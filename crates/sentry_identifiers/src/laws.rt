@@ -1,32 +1,45 @@
 //! Laws of the texts: each is read from what writes it and from nothing else, and what is printed is
 //! read back.
 
-ghost use Rattle.std.specs.Prelude.{◌≡◌, ◌<◌, ◌^◌, ◌↔◌, true, IsTrue, ℕ, List, Some, length, All, decimal};
+ghost use Rattle.std.specs.Cmp.Lexicographic.{slice_cmp};
+ghost use Rattle.std.specs.Ordering.{nat_cmp, ordering_then};
+ghost use Rattle.std.specs.Prelude.{◌≡◌, ◌<◌, ◌^◌, ◌↔◌, true, IsTrue, ℕ, List, Some, length, All};
 ghost use Rattle.sentry_identifiers.specs.DebugId.{IsDebugId, debug_id_of, debug_id_text, debug_parts};
 ghost use Rattle.sentry_identifiers.specs.CodeDigits.{code_digits, are_code_digits};
 ghost use Rattle.hex.specs.Hex.{IsBytes, encode_lower};
 ghost use Rattle.sentry_identifiers.specs.HexId.{IsHexId, hex_id_of, span_bytes, trace_bytes};
-ghost use Rattle.sentry_identifiers.specs.Number.{IsNumber, number_of};
 ghost use Rattle.sentry_tables.specs.Cell.{Cell};
-ghost use Rattle.sentry_tables.specs.Basic.{IsText};
 ghost use Rattle.sentry_tables.specs.Kind.{draw};
 ghost use Rattle.sentry_tables.specs.Lawful.{IsNormal, RefusesNull, RuleLaws};
 ghost use Rattle.sentry_tables.specs.Laws.{HasLaws};
-ghost use Rattle.sentry_rows.specs.Cells.{natural_cell};
 ghost use Rattle.sentry_identifiers.specs.HexIdTree.{IsOctets, span_kind, trace_kind};
-ghost use Rattle.sentry_identifiers.specs.ProjectTree.{project_kind, organization_kind, organization_text_kind};
 ghost use Rattle.sentry_identifiers.specs.DebugIdTree.{IsDebugCell, debug_kind};
 ghost use Rattle.sentry_identifiers.specs.CodeIdTree.{IsCodeCell, code_kind};
 ghost use Rattle.sentry_identifiers.specs.CodeId.{code_text};
-ghost use Rattle.sentry_identifiers.specs.ProjectId.{project_text, organization_value};
+ghost use Rattle.sentry_identifiers.specs.Uuids.{IsUuid, IsRandomUuid, uuid_of, hyphenated, simple, hyphenated_kind, simple_kind};
 ghost use Rattle.sentry_identifiers.specs.declared.span_id.SpanId.{SpanId as SpanIds};
 ghost use Rattle.sentry_identifiers.specs.declared.trace_id.TraceId.{TraceId as TraceIds};
 ghost use Rattle.sentry_identifiers.specs.declared.debug_id.DebugId.{DebugId as DebugIds};
 ghost use Rattle.sentry_identifiers.specs.declared.code_id.CodeId.{CodeId as CodeIds};
-ghost use Rattle.sentry_identifiers.specs.declared.project_id.ProjectId.{ProjectId as ProjectIds};
-ghost use Rattle.sentry_identifiers.specs.declared.project_id.OrganizationId.{OrganizationId as OrganizationIds};
 
-use crate::{CodeId, DebugId, OrganizationId, ProjectId, SpanId, TraceId};
+use crate::{CodeId, DebugId, SpanId, TraceId};
+
+/// A UUID's text reads back as that UUID, with hyphens and without.
+#[tactic(auto, using(crate::proofs::UuidLaws::hyphenated_back, crate::proofs::UuidLaws::simple_back))]
+pub fn uuids()
+    ensures hyphenated { (id : Cell) → IsUuid id → uuid_of (hyphenated id) ≡ Some id }
+    ensures simple { (id : Cell) → IsUuid id → uuid_of (simple id) ≡ Some id }
+{}
+
+/// UUIDs in trees, with hyphens and without; random ones may be drawn, and each is its own normal form.
+pub fn uuid_trees()
+    ensures hyphenated { HasLaws hyphenated_kind }
+    ensures simple { HasLaws simple_kind }
+    ensures drawn_hyphenated { RuleLaws (draw IsRandomUuid) hyphenated_kind }
+    ensures drawn_simple { RuleLaws (draw IsRandomUuid) simple_kind }
+    ensures normal_hyphenated { (id : Cell) → IsUuid id → IsNormal hyphenated_kind id }
+    ensures normal_simple { (id : Cell) → IsUuid id → IsNormal simple_kind id }
+{}
 
 /// Ids of spans (8 bytes) and traces (16 bytes).
 pub fn hex_ids()
@@ -40,12 +53,6 @@ pub fn debug_ids()
     ensures texts { (text bytes : List ℕ) (n : ℕ) → debug_id_of text ≡ Some (bytes, n) ↔ IsDebugId text bytes n }
     ensures read_back { (bytes : List ℕ) (n : ℕ) → length bytes ≡ 16 → All (λ b. b < 256) bytes → n < 2 ^ 32
         → debug_id_of (debug_id_text bytes n) ≡ Some (bytes, n) }
-{}
-
-/// Whole numbers in base 10, as ids of organizations are.
-pub fn numbers()
-    ensures texts { (text : List ℕ) (n : ℕ) → number_of 10 text ≡ Some n ↔ IsNumber 10 text n }
-    ensures read_back { (n : ℕ) → n < 2 ^ 64 → number_of 10 (decimal n) ≡ Some n }
 {}
 
 /// Code identifiers.
@@ -62,23 +69,6 @@ pub fn hex_id_trees()
     ensures drawn_traces { RuleLaws (draw (IsOctets 16)) trace_kind }
 {}
 
-/// Ids of projects in trees; each is its own normal form.
-pub fn project_trees()
-    ensures laws { HasLaws project_kind }
-    ensures no_null { RefusesNull project_kind }
-    ensures normal { (c : Cell) → IsText c → IsNormal project_kind c }
-{}
-
-/// Ids of organizations in trees, as numbers and as texts; each is its own normal form.
-pub fn organization_trees()
-    ensures numbers { HasLaws organization_kind }
-    ensures texts { HasLaws organization_text_kind }
-    ensures no_null_number { RefusesNull organization_kind }
-    ensures no_null_text { RefusesNull organization_text_kind }
-    ensures normal_number { (n : ℕ) → n < 2 ^ 64 → IsNormal organization_kind (natural_cell n) }
-    ensures normal_text { (n : ℕ) → n < 2 ^ 64 → IsNormal organization_text_kind (natural_cell n) }
-{}
-
 /// Debug identifiers in trees; each is its own normal form.
 pub fn debug_id_trees()
     ensures laws { HasLaws debug_kind }
@@ -93,12 +83,18 @@ pub fn code_id_trees()
     ensures normal { (c : Cell) → IsCodeCell c → IsNormal code_kind c }
 {}
 
-/// Two ids are equal exactly where their bytes, parts, texts or numbers are the same.
+/// Two ids are equal exactly where their bytes, parts or texts are the same.
 pub fn equal_ids()
     ensures spans { (a b : SpanIds) → ⟦<SpanId as PartialEq>⟧.eq a b ≡ true ↔ (span_bytes a ≡ span_bytes b) }
     ensures traces { (a b : TraceIds) → ⟦<TraceId as PartialEq>⟧.eq a b ≡ true ↔ (trace_bytes a ≡ trace_bytes b) }
     ensures debug_ids { (a b : DebugIds) → ⟦<DebugId as PartialEq>⟧.eq a b ≡ true ↔ (debug_parts a ≡ debug_parts b) }
     ensures code_ids { (a b : CodeIds) → ⟦<CodeId as PartialEq>⟧.eq a b ≡ true ↔ (code_text a ≡ code_text b) }
-    ensures projects { (a b : ProjectIds) → ⟦<ProjectId as PartialEq>⟧.eq a b ≡ true ↔ (project_text a ≡ project_text b) }
-    ensures organizations { (a b : OrganizationIds) → ⟦<OrganizationId as PartialEq>⟧.eq a b ≡ true ↔ (organization_value a ≡ organization_value b) }
+{}
+
+/// Debug identifiers are ordered by the bytes of their UUIDs, then by their appendices, and code
+/// identifiers as their texts, by bytes.
+pub fn ordered_ids()
+    ensures debug_ids { (a b : DebugIds) → ⟦<DebugId as Ord>⟧.cmp a b
+        ≡ ordering_then (slice_cmp nat_cmp (debug_parts a).0 (debug_parts b).0) (nat_cmp (debug_parts a).1 (debug_parts b).1) }
+    ensures code_ids { (a b : CodeIds) → ⟦<CodeId as Ord>⟧.cmp a b ≡ slice_cmp nat_cmp (code_text a) (code_text b) }
 {}

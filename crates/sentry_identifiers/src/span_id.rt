@@ -3,22 +3,24 @@
 ghost use Rattle.std.specs.Prelude.{◌≡◌, IfOk, Some, string_bytes};
 ghost use Rattle.hex.specs.Hex.{encode_lower};
 ghost use Rattle.rand_core.specs.Stream.{fill_bytes};
-ghost use Rattle.sentry_identifiers.specs.HexId.{hex_id_of};
+ghost use Rattle.sentry_identifiers.specs.HexId.{ReadsHex};
 ghost use Rattle.sentry_identifiers.specs.HexIdTree.{IsOctets, hex_id_spelling};
-ghost use Rattle.sentry_identifiers.specs.Number.{ReadsAs};
 
-use crate::hex_id::{are_bytes, read_bytes};
+use crate::bytes::are_bytes;
+use crate::hex_id::read_bytes;
 use hex::FromHexError;
 use rand_core::Rng;
-use sentry_rows::spelled::printed;
-use sentry_rows::{Drawn, Own, Room, Spelled, TreeError};
+use sentry_members::spelled::printed;
+use sentry_members::{Own, Room, Spelled, TreeError};
+use sentry_rows::Drawn;
 use std::alloc::{AllocError, Global};
 use std::str::FromStr;
 use std::{fmt, str};
 
 /// The id of a span: eight bytes.
 ///
-/// It is read from 16 hex digits in any case, and written in lower case.
+/// It is read from 16 hex digits in any case, and written in lower case:
+/// <https://develop.sentry.dev/sdk/data-model/event-payloads/contexts/#trace-context>.
 #[derive(Clone, Copy, PartialEq, Eq, Hash)]
 pub struct SpanId([u8; 8]);
 
@@ -56,14 +58,19 @@ impl From<[u8; 8]> for SpanId {
     }
 }
 
-/// Reads 16 hex digits in any case.
 impl FromStr for SpanId {
     type Err = FromHexError;
 
     ghost use Rattle.sentry_identifiers.specs.HexId.{span_bytes};
 
-    ghost from_str_gives = { ReadsAs (hex_id_of 8) span_bytes };
+    ghost from_str_gives = { ReadsHex 8 span_bytes };
 
+    /// The id of 16 hex digits, in any case.
+    ///
+    /// # Errors
+    ///
+    /// `OddLength` where the text has an odd number of bytes, else `InvalidStringLength` where it hasn't 16,
+    /// else `InvalidHexCharacter` with the first byte that is no hex digit, and its index.
     fn from_str(text: &str) -> Result<SpanId, FromHexError> {
         Ok(SpanId(read_bytes(text)?))
     }
@@ -74,8 +81,13 @@ impl TryFrom<String> for SpanId {
 
     ghost use Rattle.sentry_identifiers.specs.HexId.{span_bytes};
 
-    ghost try_from_gives = { λ text r. ReadsAs (hex_id_of 8) span_bytes (string_bytes text) r };
+    ghost try_from_gives = { λ text r. ReadsHex 8 span_bytes (string_bytes text) r };
 
+    /// The id of 16 hex digits, in any case.
+    ///
+    /// # Errors
+    ///
+    /// Those of [`SpanId::from_str`].
     fn try_from(text: String) -> Result<SpanId, FromHexError> {
         text.as_str().parse()
     }
@@ -106,6 +118,7 @@ impl Spelled for SpanId {
 
     ghost cell_of = { span_cell };
 
+    #[tactic(auto, using(crate::proofs::HexIdTrees::id_spelled, crate::proofs::HexIdTrees::none_spelled))]
     fn of_text(_alloc: Global, text: &str) -> Result<SpanId, TreeError> {
         match text.parse() {
             Ok(id) => Ok(id),
@@ -171,6 +184,23 @@ mod tests {
             assert!(rt; text.parse::<SpanId>().is_err(), "{text}");
         }
         Ok(())
+    }
+
+    #[test]
+    fn refusals(rt: HostRuntime) {
+        for (text, expected) in [
+            ("", FromHexError::InvalidStringLength),
+            ("d42cee9fc3e74f5", FromHexError::OddLength),
+            (
+                "d42cee9fc3e74f5g",
+                FromHexError::InvalidHexCharacter { c: 'g', index: 15 },
+            ),
+        ] {
+            match text.parse::<SpanId>() {
+                Ok(id) => assert!(rt; false, "{id}"),
+                Err(error) => assert_eq!(rt; error, expected, "{text}"),
+            }
+        }
     }
 
     #[test]

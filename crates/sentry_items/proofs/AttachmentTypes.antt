@@ -2,15 +2,16 @@
 use Rattle.std.proofs.Common.{◌≡◌, ℕ, zero, suc, List, [], ◌∷◌, Bool, true, false, ◌||◌, cond, Some, codes, refl, sym, ap, subst, IsUtf8, bytes_eq}
 use Rattle.std.specs.Prelude.{⊤}
 use Rattle.std.proofs.lemmas.Bool.{false≢true}
+use Rattle.std.proofs.lemmas.Option.{same_Some}
 use Rattle.std.proofs.lemmas.Slice.Eq.{bytes_eq-Decides}
 use Rattle.json.proofs.Printed.Utf8.{IsUtf8-are_ascii}
 use Rattle.sentry_tables.specs.Cell.{Cell, text, choice}
 use Rattle.sentry_tables.specs.Kind.{has_key}
 use Rattle.sentry_tables.specs.Laws.{HasLaws}
-use Rattle.sentry_tables.proofs.Basic.{WordLaws}
 use Rattle.sentry_tables.proofs.Laws.{has_laws}
-use Rattle.sentry_rows.proofs.Spellings.{read_as_laws, spelled_laws}
-use Rattle.sentry_items.specs.AttachmentWords.{attachment_words, known, custom, attachment_type_of, attachment_type_text, attachment_type_spelling, attachment_type_kind, IsAttachmentType}
+use Rattle.sentry_members.specs.Spelling.{SpellingLaws}
+use Rattle.sentry_members.proofs.Spellings.{ReadLaws, read_to_laws, spelled_laws}
+use Rattle.sentry_items.specs.AttachmentWords.{attachment_words, known, custom, attachment_type_of, attachment_type_text, attachment_type_norm, attachment_type_spelling, attachment_type_kind, IsAttachmentType}
 
 -- a type that a text is read as has that text
 pub type_text_of : (word : List ℕ) → attachment_type_text (attachment_type_of word) ≡ word
@@ -56,16 +57,49 @@ type_read word utf8 = go (has_key word attachment_words) refl
     go true e = e
     go false e = utf8
 
-inside : (a b : Cell) → Some a ≡ Some b → a ≡ b
-inside a b e = cc
+-- ---- the normal form
 
-type_words : WordLaws (λ word. Some (attachment_type_of word)) attachment_type_text IsAttachmentType
-type_words = record {
-  reads = λ c stored. (attachment_type_of (attachment_type_text c), refl);
-  stored = λ word c utf8 read. subst IsAttachmentType (inside (attachment_type_of word) c read) (type_read word utf8);
-  stable = λ word c read. subst (λ x. Some (attachment_type_of (attachment_type_text x)) ≡ Some x) (inside (attachment_type_of word) c read) (ap (λ w. Some (attachment_type_of w)) (type_text_of word));
+-- the text of a type is read as its normal form
+pub type_read_back : (c : Cell) → IsAttachmentType c → attachment_type_of (attachment_type_text c) ≡ attachment_type_norm c
+type_read_back (choice zero (text word)) h = ap (λ b. cond b (known word) (custom word)) h
+type_read_back (choice zero _) h = absurd h
+type_read_back (choice (suc zero) (text word)) h = refl
+type_read_back (choice (suc zero) _) h = absurd h
+type_read_back (choice (suc (suc n)) c) h = absurd h
+type_read_back _ h = absurd h
+
+type_is_normal : (word : List ℕ) → attachment_type_norm (attachment_type_of word) ≡ attachment_type_of word
+type_is_normal word = go (has_key word attachment_words) refl
+  where
+    go : (b : Bool) → has_key word attachment_words ≡ b → attachment_type_norm (cond b (known word) (custom word)) ≡ cond b (known word) (custom word)
+    go true e = refl
+    go false e = ap (λ b. cond b (known word) (custom word)) e
+
+-- for any cell, the normal form is its own, and has the same text
+pub type_norm_again : (c : Cell) → attachment_type_norm (attachment_type_norm c) ≡ attachment_type_norm c
+type_norm_again (choice zero c) = refl
+type_norm_again (choice (suc zero) (text word)) = type_is_normal word
+type_norm_again (choice (suc zero) _) = refl
+type_norm_again (choice (suc (suc n)) c) = refl
+type_norm_again _ = refl
+
+pub type_norm_text : (c : Cell) → attachment_type_text (attachment_type_norm c) ≡ attachment_type_text c
+type_norm_text (choice zero c) = refl
+type_norm_text (choice (suc zero) (text word)) = type_text_of word
+type_norm_text (choice (suc zero) _) = refl
+type_norm_text (choice (suc (suc n)) c) = refl
+type_norm_text _ = refl
+
+type_reads : ReadLaws (λ word. Some (attachment_type_of word)) attachment_type_text attachment_type_norm IsAttachmentType
+type_reads = record {
+  reads = λ c stored. ap Some (type_read_back c stored);
+  stored = λ word c utf8 read. subst IsAttachmentType (same_Some (attachment_type_of word) c read) (type_read word utf8);
+  normal = λ word c read. subst (λ x. attachment_type_norm x ≡ x) (same_Some (attachment_type_of word) c read) (type_is_normal word);
   utf8 = type_text;
 }
 
+pub type_laws : SpellingLaws attachment_type_spelling
+type_laws = read_to_laws (λ word. Some (attachment_type_of word)) attachment_type_text attachment_type_norm IsAttachmentType type_reads
+
 pub type_has_laws : HasLaws attachment_type_kind
-type_has_laws = has_laws attachment_type_kind (spelled_laws attachment_type_spelling (read_as_laws (λ word. Some (attachment_type_of word)) attachment_type_text IsAttachmentType type_words))
+type_has_laws = has_laws attachment_type_kind (spelled_laws attachment_type_spelling type_laws)

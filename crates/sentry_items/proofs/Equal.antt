@@ -7,7 +7,7 @@ use lib.Dec.{eqb}
 use Rattle.std.specs.Option.{option_eq}
 use Rattle.std.specs.String.{string_eq}
 use Rattle.sentry_items.specs.Attached.{Attached}
-use Rattle.sentry_items.specs.View.{attachment_type_cell, attachment_view, item_view, attachment, replay_recording}
+use Rattle.sentry_items.specs.View.{attachment_type_cell, attachment_view, item_held, attachment, replay_recording}
 use Rattle.sentry_items.specs.declared.attachment.Attachment.{Attachment}
 use Rattle.sentry_items.specs.declared.attachment_type.AttachmentType.{AttachmentType}
 use Rattle.sentry_items.specs.contracts.attachment_type.AttachmentTypePartialEq.TheImpl.{eq-value as of_types}
@@ -41,7 +41,7 @@ attachments_decide a b =
       λ same. parts.1 (ap (λ (v : Attached). v.buffer) same, (ap (λ (v : Attached). v.filename) same, (ap (λ (v : Attached). v.content_type) same, ap (λ (v : Attached). v.ty) same))),
     )
 
-pub items_decide : (a b : EnvelopeItem) → Decides (of_items.it a b) (item_view a ≡ item_view b)
+pub items_decide : (a b : EnvelopeItem) → Decides (of_items.it a b) (item_held a ≡ item_held b)
 items_decide (item.Attachment a) (item.Attachment b) = (λ same. ap attachment ((attachments_decide a b).0 same), λ same. (attachments_decide a b).1 (cc))
 items_decide (item.ReplayRecording a) (item.ReplayRecording b) =
     let bytes = slice_eq-Decides Decides-eqb a.buffer.items b.buffer.items _ refl in

@@ -4,7 +4,7 @@ use Rattle.serde_json.specs.Data.{number, unsigned, string, object, Members, no_
 use Rattle.serde_json.specs.Written.{compact_text}
 use Rattle.sentry_json.specs.Line.{newline}
 use Rattle.sentry_tables.specs.Cell.{Cell}
-use Rattle.sentry_items.specs.AttachmentWords.{known, attachment_type_of, attachment_type_text, IsAttachmentType}
+use Rattle.sentry_items.specs.AttachmentWords.{known, attachment_type_norm, attachment_type_text, IsAttachmentType}
 
 pub record Attached : Type 0 where
   pub buffer : List ℕ
@@ -41,7 +41,7 @@ attachment_text a = compact_text (object (attachment_header (codes "attachment")
 abbrev pub attached_norm : Attached → Attached
 attached_norm a = record a {
   content_type = Some (attached_content_type a);
-  ty = Some (attachment_type_of (attachment_type_text (attached_type a)));
+  ty = Some (attachment_type_norm (attached_type a));
 }
 
 -- ---- what Rust's types hold

@@ -2,7 +2,7 @@
 use Rattle.std.specs.Prelude.{◌≡◌, ℕ, zero, suc, List, [], ◌∷◌, true, Some, codes, cond, IsUtf8}
 use Rattle.sentry_tables.specs.Cell.{Cell, text, choice}
 use Rattle.sentry_tables.specs.Kind.{Kind, has_key}
-use Rattle.sentry_rows.specs.Spelling.{Spelling, read_as, spelled_kind}
+use Rattle.sentry_members.specs.Spelling.{Spelling, read_to, spelled_kind}
 
 abbrev pub attachment_words : List (List ℕ)
 attachment_words =
@@ -42,9 +42,14 @@ IsAttachmentType (choice zero c) = IsKnownWord c
 IsAttachmentType (choice (suc zero) c) = IsUtf8Text c
 IsAttachmentType _ = ⊥
 
+-- a custom text that is a known word is the known type
+abbrev pub attachment_type_norm : Cell → Cell
+attachment_type_norm (choice (suc zero) (text word)) = attachment_type_of word
+attachment_type_norm c = c
+
 -- each text is read as a type, and a type is written as its text
 abbrev pub attachment_type_spelling : Spelling
-attachment_type_spelling = read_as (λ word. Some (attachment_type_of word)) attachment_type_text IsAttachmentType
+attachment_type_spelling = read_to (λ word. Some (attachment_type_of word)) attachment_type_text attachment_type_norm IsAttachmentType
 
 abbrev pub attachment_type_kind : Kind
 attachment_type_kind = spelled_kind attachment_type_spelling

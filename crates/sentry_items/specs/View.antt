@@ -35,7 +35,7 @@ pub data ItemView : Type 0 where
   raw : ItemView
 
 -- an item by what it holds
-abbrev pub item_view : EnvelopeItem → ItemView
-item_view (item_variants.Attachment a) = attachment (attachment_view a)
-item_view (item_variants.ReplayRecording r) = replay_recording r.buffer.items
-item_view item_variants.Raw = raw
+abbrev pub item_held : EnvelopeItem → ItemView
+item_held (item_variants.Attachment a) = attachment (attachment_view a)
+item_held (item_variants.ReplayRecording r) = replay_recording r.buffer.items
+item_held item_variants.Raw = raw

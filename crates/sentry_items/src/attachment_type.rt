@@ -1,6 +1,6 @@
 //! What an attachment is for.
 
-use sentry_rows::{Room, Spelled, TreeError};
+use sentry_members::{Room, Spelled, TreeError};
 use std::alloc::{AllocError, Global};
 
 /// The type of an attachment.

@@ -1,6 +1,6 @@
 //! What is counted as lost.
 
-use sentry_rows::{Room, Spelled, TreeError};
+use sentry_members::{Room, Spelled, TreeError};
 use sentry_words::IndexedEnum;
 use std::alloc::{AllocError, Global};
 
@@ -103,7 +103,7 @@ impl IndexedEnum for Category {
 }
 
 impl Spelled for Category {
-    ghost use Rattle.sentry_rows.specs.Spelling.{word_cell};
+    ghost use Rattle.sentry_members.specs.Spelling.{word_cell};
     ghost use Rattle.sentry_items.specs.Categories.{category_word, category_spelling};
 
     ghost spelling = { category_spelling };

@@ -19,11 +19,11 @@ pub enum EnvelopeItem {
 
 impl EnvelopeItem {
     ghost use Rattle.std.specs.Prelude.{◌≡◌, IfOk};
-    ghost use Rattle.sentry_items.specs.View.{item_view};
+    ghost use Rattle.sentry_items.specs.View.{item_held};
 
     /// The same item. It fails where memory is refused.
     pub fn clone(&self) -> Result<EnvelopeItem, AllocError>
-        ensures { IfOk result (λ item. item_view item ≡ item_view self.now) }
+        ensures { IfOk result (λ item. item_held item ≡ item_held self.now) }
     {
         match self {
             EnvelopeItem::Attachment(attachment) => Ok(EnvelopeItem::Attachment(

@@ -2,8 +2,8 @@ use crate::{
     Attachment, AttachmentType, Category, EnvelopeItem, ItemLoss, ItemLossIter, LossSlice,
     LossSource, Reason, ReplayRecording,
 };
-use sentry_rows::text::text_of;
-use sentry_rows::{FromTree, read_line};
+use sentry_members::text::text_of;
+use sentry_members::{FromTree, read_line};
 use sentry_words::IndexedEnum;
 use std::alloc::{AllocError, Global};
 use std::test::Fail;

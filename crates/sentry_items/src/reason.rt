@@ -1,6 +1,6 @@
 //! Why something was lost.
 
-use sentry_rows::{Room, Spelled, TreeError};
+use sentry_members::{Room, Spelled, TreeError};
 use sentry_words::IndexedEnum;
 use std::alloc::{AllocError, Global};
 
@@ -88,7 +88,7 @@ impl IndexedEnum for Reason {
 }
 
 impl Spelled for Reason {
-    ghost use Rattle.sentry_rows.specs.Spelling.{word_cell};
+    ghost use Rattle.sentry_members.specs.Spelling.{word_cell};
     ghost use Rattle.sentry_items.specs.Categories.{reason_word, reason_spelling};
 
     ghost spelling = { reason_spelling };

@@ -23,6 +23,7 @@ use Rattle.url.proofs.SchemeLemmas.{IsAscii-scheme}
 use Rattle.url.proofs.SetterLemmas.{own_host}
 use Rattle.url.proofs.TextLemmas.{All_kept}
 use Rattle.url.proofs.ValidLemmas.{segment_list_kept, hierarchical, special_has_authority, base_from_authority}
+use Rattle.sentry_urls.proofs.UrlTrees.{named_valid}
 use Rattle.sentry_keys.specs.declared.dsn.Dsn.{Dsn}
 use Rattle.sentry_keys.specs.declared.scheme.Scheme.{Scheme}
 use Rattle.sentry_keys.specs.declared.scheme.Scheme.TheVariants.{Http, Https}
@@ -31,8 +32,6 @@ use Rattle.sentry_keys.specs.DsnPath.{IsSplit, inner}
 use Rattle.sentry_keys.specs.Dsn.{DsnParts, dsn_parts, IsDsn, IsDsnText, DsnReadsBack, dsn_text, port_text}
 use Rattle.sentry_keys.proofs.DsnPaths.{inner_again, inner_valid}
 use Rattle.sentry_keys.proofs.DsnAuthorities.{keyed, parse_keyed}
-use Rattle.sentry_keys.proofs.DsnUrls.{parsed_valid}
-use Rattle.sentry_keys.proofs.Utf8Bytes.{utf8_bytes}
 
 -- ---- the URL that is printed
 
@@ -180,7 +179,7 @@ dsn_ascii url d valid is =
 -- ---- the DSN of a text
 
 url_of_text : (text : List ℕ) (d : DsnParts) → IsUtf8 text → IsDsnText text d → (url : Parts) × IsValid url × IsDsn url d
-url_of_text text d utf8 (url, parsed, is) = (url, parsed_valid text url (utf8_bytes text utf8) (special_kind url d is) parsed, is)
+url_of_text text d utf8 (url, parsed, is) = (url, named_valid text url utf8 parsed, is)
 
 pub named_ascii : (text : List ℕ) (d : DsnParts) → IsUtf8 text → IsDsnText text d → IsAscii (dsn_text d)
 named_ascii text d utf8 named = let found = url_of_text text d utf8 named in dsn_ascii found.0 d found.1 found.2

@@ -2,7 +2,7 @@
 use Rattle.std.proofs.Common.{◌≡◌, ℕ, List, sym, ap, ◌∙◌}
 use Rattle.sentry_tables.specs.Cell.{Cell}
 use Rattle.sentry_tables.specs.Single.{IsSingle}
-use Rattle.sentry_rows.proofs.Single.{spelled_functional}
+use Rattle.sentry_members.proofs.Single.{spelled_functional}
 use Rattle.sentry_keys.specs.DsnTree.{parts_cell, dsn_spelling, dsn_kind}
 use Rattle.sentry_keys.proofs.DsnAnswers.{one_dsn_text}
 

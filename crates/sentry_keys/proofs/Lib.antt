@@ -6,8 +6,6 @@ pub mod DsnHosts
 pub mod DsnPaths
 pub mod DsnAuthorities
 pub mod DsnReadBack
-pub mod DsnUrls
-pub mod Utf8Bytes
 pub mod DsnTrees
 pub mod Equal
 pub mod AuthChoices

@@ -1,11 +1,12 @@
 -- DSNs in trees of JSON: as their texts.
 use Rattle.std.specs.Prelude.{◌≡◌, ◌++◌, ℕ, List, [], codes, decimal, pos, IsUtf8}
-use Rattle.sentry_tables.specs.Cell.{Cell, absent, present, text, whole, sequence, Cells, no_cells, cell}
+use Rattle.sentry_tables.specs.Cell.{Cell, present, text, whole, sequence, Cells, no_cells, cell}
 use Rattle.sentry_tables.specs.Kind.{Kind}
-use Rattle.sentry_rows.specs.Cells.{natural_cell, option_cell}
-use Rattle.sentry_rows.specs.Spelling.{Spelling, spelled_kind}
-use Rattle.sentry_rows.specs.declared.error.TreeError.{TreeError}
-use Rattle.sentry_rows.specs.declared.error.TreeError.TheVariants as tree
+use Rattle.sentry_members.specs.Cells.{natural_cell, option_cell}
+use Rattle.sentry_members.specs.Spelling.{Spelling, spelled_kind}
+use Rattle.sentry_members.specs.declared.error.TreeError.{TreeError}
+use Rattle.sentry_members.specs.declared.error.TreeError.TheVariants as tree
+use Rattle.sentry_urls.specs.CellParts.{cells_of, first, others}
 use Rattle.sentry_keys.specs.declared.dsn_error.ParseDsnError.{ParseDsnError}
 use Rattle.sentry_keys.specs.declared.dsn_error.ParseDsnError.TheVariants.{Memory}
 use Rattle.sentry_keys.specs.declared.dsn.Dsn.{Dsn}
@@ -22,18 +23,6 @@ abbrev pub dsn_cell : Dsn → Cell
 dsn_cell d = parts_cell (dsn_parts d)
 
 -- ---- the written text, by the cells of the parts
-
-abbrev pub cells_of : Cell → Cells
-cells_of (sequence cs) = cs
-cells_of _ = no_cells
-
-abbrev pub first : Cells → Cell
-first no_cells = absent
-first (cell c cs) = c
-
-abbrev pub others : Cells → Cells
-others no_cells = no_cells
-others (cell c cs) = cs
 
 abbrev pub text_of : Cell → List ℕ
 text_of (text s) = s

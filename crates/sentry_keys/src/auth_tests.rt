@@ -1,6 +1,6 @@
 use crate::auth::{Auth, LATEST, ParseAuthError};
+use sentry_members::{FromTree, Member, TreeError};
 use sentry_moments::Moment;
-use sentry_rows::{FromTree, Member, TreeError};
 use serde_json::Value;
 use std::alloc::Global;
 use std::test::Fail;

@@ -2,7 +2,7 @@
 
 ghost use Rattle.std.specs.Prelude.{◌≡◌, [], MatchOption, MatchResult, IfOk, ℕ, Some, None, option_map, option_copied, unwrap_or, string_bytes};
 ghost use Rattle.url.specs.Parts.{Parts, IsValid};
-ghost use Rattle.sentry_identifiers.specs.ProjectId.{project_text, organization_value};
+ghost use Rattle.sentry_numbers.specs.ProjectId.{project_text, organization_value};
 ghost use Rattle.sentry_keys.specs.Dsn as spec;
 ghost use Rattle.sentry_keys.specs.DsnOrganization.{NamesOrganization};
 
@@ -10,7 +10,7 @@ use crate::dsn_error::ParseDsnError;
 use crate::dsn_organization::organization_of;
 use crate::dsn_path::split_path;
 use crate::scheme::Scheme;
-use sentry_identifiers::{OrganizationId, ParseProjectIdError, ProjectId};
+use sentry_numbers::{OrganizationId, ParseProjectIdError, ProjectId};
 use std::alloc::{AllocError, Global};
 use std::fmt;
 use url::{ParseError, Url};

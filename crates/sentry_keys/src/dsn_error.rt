@@ -3,7 +3,7 @@
 ghost use Rattle.std.specs.Prelude.{◌≡◌};
 ghost use Rattle.sentry_keys.specs.declared.dsn_error.ParseDsnError.TheVariants.{InvalidProjectId, Memory};
 
-use sentry_identifiers::ParseProjectIdError;
+use sentry_numbers::ParseProjectIdError;
 use std::alloc::AllocError;
 use thiserror::Error;
 

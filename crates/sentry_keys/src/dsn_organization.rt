@@ -1,10 +1,10 @@
 //! The organization that the host of a DSN names.
 
 ghost use Rattle.std.specs.Prelude.{◌≡◌, ◌↔◌, ◌∷◌, [], ℕ, List, IsTrue, MatchOption};
-ghost use Rattle.sentry_identifiers.specs.ProjectId.{organization_value};
+ghost use Rattle.sentry_numbers.specs.ProjectId.{organization_value};
 ghost use Rattle.sentry_keys.specs.DsnOrganization.{labels, sentry, IsSentry, IsIngestHost, IsDigits, NamesOrganization};
 
-use sentry_identifiers::OrganizationId;
+use sentry_numbers::OrganizationId;
 
 // The first label of a host, and the others.
 fn first_label(host: &str) -> Option<(&str, &str)>

@@ -1,7 +1,7 @@
 use super::*;
-use sentry_identifiers::ParseProjectIdError;
+use sentry_members::{FromTree, Member, TreeError, read_tree, text_of};
 use sentry_moments::Moment;
-use sentry_rows::{FromTree, Member, TreeError, read_tree, text_of};
+use sentry_numbers::ParseProjectIdError;
 use serde_json::Value;
 use std::alloc::Global;
 use std::process::Abort;

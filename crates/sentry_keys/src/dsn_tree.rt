@@ -1,7 +1,7 @@
 //! DSNs in trees of JSON, as their texts.
 
 ghost use Rattle.std.specs.Prelude.{◌≡◌, IsUtf8};
-ghost use Rattle.sentry_rows.specs.Spelling.{ReadsSpelling};
+ghost use Rattle.sentry_members.specs.Spelling.{ReadsSpelling};
 ghost use Rattle.sentry_keys.specs.Dsn.{dsn_parts, dsn_text};
 ghost use Rattle.sentry_keys.specs.DsnTree as spec;
 ghost use Rattle.sentry_keys.specs.DsnTree.{dsn_cell, dsn_kind, dsn_spelling};
@@ -9,7 +9,7 @@ ghost use Rattle.sentry_keys.specs.DsnTree.{dsn_cell, dsn_kind, dsn_spelling};
 use crate::dsn::Dsn;
 use crate::dsn_error::ParseDsnError;
 use json::Writer;
-use sentry_rows::{FromTree, Member, TreeError};
+use sentry_members::{FromTree, Member, TreeError};
 use serde_json::Value;
 use std::alloc::{AllocError, Global};
 
@@ -71,7 +71,7 @@ impl Member for Dsn {
 }
 
 impl FromTree for Dsn {
-    #[tactic(auto, using(sentry_rows::proofs::Spellings::text_read, sentry_rows::proofs::Spellings::not_text))]
+    #[tactic(auto, using(sentry_members::proofs::Spellings::text_read, sentry_members::proofs::Spellings::not_text))]
     fn from_tree(alloc: Global, tree: &Value) -> Result<Dsn, TreeError> {
         match tree.as_str() {
             Some(text) => dsn_of_text(alloc, text),

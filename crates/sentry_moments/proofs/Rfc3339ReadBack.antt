@@ -11,6 +11,7 @@ use Rattle.sentry_moments.specs.Rfc3339.{IsMomentTime, IsRfc3339, IsFraction, Ab
 use Rattle.sentry_moments.specs.MomentTexts.{day_after, civil_at, rfc3339_text}
 use Rattle.sentry_moments.proofs.Places.{IsCut, is_cut, value_of_digits, length-digits}
 use Rattle.sentry_moments.proofs.Calendar.{day_after-is, year_below}
+use Rattle.sentry_moments.proofs.Rfc3339Texts.{cons_append}
 
 -- the places are those of the number
 nanoseconds_of : (n : ℕ) (xs : List ℕ) → n < 10 ^ 9 → IsCut 9 n xs → n ≡ nanoseconds xs
@@ -43,9 +44,6 @@ written nanos false e h =
   where
     not_none : (n : ℕ) → eqb n 0 ≡ false → 0 < n
     not_none n e = grind (arith, nat_tests)
-
-cons_append : (x : ℕ) (xs ys : List ℕ) → (x ∷ xs) ++ ys ≡ x ∷ (xs ++ ys)
-cons_append x xs ys = refl
 
 regroup : (d c f z : List ℕ) (s : ℕ) → d ++ (s ∷ (c ++ (f ++ z))) ≡ d ++ s ∷ c ++ f ++ z
 regroup d c f z s = simp (append_assoc, cons_append)

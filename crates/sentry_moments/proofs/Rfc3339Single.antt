@@ -2,7 +2,7 @@
 use Rattle.std.proofs.Common.{◌≡◌, ℕ, List, ap₂}
 use Rattle.sentry_tables.specs.Cell.{Cell, moment}
 use Rattle.sentry_tables.specs.Single.{IsSingle}
-use Rattle.sentry_rows.proofs.Single.{spelled_functional}
+use Rattle.sentry_members.proofs.Single.{spelled_functional}
 use Rattle.sentry_moments.specs.MomentForms.{NamesMoment, rfc3339_spelling, rfc3339_kind}
 use Rattle.sentry_moments.proofs.Rfc3339Texts.{one_moment}
 

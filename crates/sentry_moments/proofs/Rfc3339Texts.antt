@@ -411,7 +411,7 @@ zone_again text n (Behind h m a b) = (ap (option_map (λ (n : ℕ). neg_ℤ (pos
 
 -- ---- the whole text
 
-cons_append : (x : ℕ) (xs ys : List ℕ) → (x ∷ xs) ++ ys ≡ x ∷ (xs ++ ys)
+pub cons_append : (x : ℕ) (xs ys : List ℕ) → (x ∷ xs) ++ ys ≡ x ∷ (xs ++ ys)
 cons_append x xs ys = refl
 
 assemble : (y m d h i s f z t r1 r2 r3 r4 : List ℕ) (c : ℕ) → t ≡ y ++ 45 ∷ m ++ 45 ∷ d ++ r1 → r1 ≡ c ∷ r2 → r2 ≡ h ++ 58 ∷ i ++ 58 ∷ s ++ r3 → r3 ≡ f ++ r4 → r4 ≡ z

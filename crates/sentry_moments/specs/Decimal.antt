@@ -2,6 +2,7 @@
 use Rattle.std.specs.Prelude.{◌≡◌, ℕ, ◌+◌, ◌*◌, ◌/◌, ◌^◌, ◌<◌, ◌≤◌, ◌⊎◌, ◌&&◌, nat_lt, Bool, true, false, List, [], ◌∷◌, ◌++◌, length, Result, Ok, Err, if◌then◌else◌}
 use Rattle.std.specs.Fmt.{decimal}
 use Rattle.std.specs.Str.Parse.{AllDigits, digits_value}
+use Rattle.sentry_moments.specs.Characters.{full_stop, lower_e, minus_sign, plus_sign, upper_e}
 use Rattle.sentry_moments.specs.Digits.{fraction_text}
 use Rattle.sentry_moments.specs.declared.decimal.DecimalError.{DecimalError}
 use Rattle.sentry_moments.specs.declared.decimal.DecimalError.TheVariants.{InvalidText, OutOfRange}
@@ -9,18 +10,18 @@ use Rattle.sentry_moments.specs.declared.decimal.DecimalError.TheVariants.{Inval
 -- no sign, `+` or `-`, and whether it is a minus
 pub data IsSign : List ℕ → Bool → Type 0 where
   NoSign : IsSign [] false
-  Plus : IsSign (43 ∷ []) false
-  Minus : IsSign (45 ∷ []) true
+  Plus : IsSign (plus_sign ∷ []) false
+  Minus : IsSign (minus_sign ∷ []) true
 
 -- the point and the digits after it, or nothing
 pub data IsPoint : List ℕ → List ℕ → Type 0 where
   NoPoint : IsPoint [] []
-  Point : (fraction : List ℕ) → AllDigits 10 fraction → IsPoint (46 ∷ fraction) fraction
+  Point : (fraction : List ℕ) → AllDigits 10 fraction → IsPoint (full_stop ∷ fraction) fraction
 
 -- `e` or `E`, a sign and one to three digits, or nothing: whether the exponent is below 0, and its number
 pub data IsExponent : List ℕ → Bool → ℕ → Type 0 where
   NoExponent : IsExponent [] false 0
-  Exponent : (letter : ℕ) (sign : List ℕ) (down : Bool) (ds : List ℕ) → (letter ≡ 69) ⊎ (letter ≡ 101) → IsSign sign down → AllDigits 10 ds → 0 < length ds → length ds ≤ 3
+  Exponent : (letter : ℕ) (sign : List ℕ) (down : Bool) (ds : List ℕ) → (letter ≡ upper_e) ⊎ (letter ≡ lower_e) → IsSign sign down → AllDigits 10 ds → 0 < length ds → length ds ≤ 3
       → IsExponent (letter ∷ sign ++ ds) down (digits_value 10 ds)
 
 -- number times 10 ^ (x - places) in billionths, cut off below, where `down` says that x is below 0

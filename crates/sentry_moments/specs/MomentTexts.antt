@@ -1,7 +1,8 @@
 -- How moments are written.
 use Rattle.std.specs.Prelude.{ℕ, zero, suc, ◌+◌, ◌/◌, ◌%◌, List, [], ◌∷◌, ◌++◌, pos, nat_lt, if◌then◌else◌}
 use Rattle.jiff_core.specs.Calendar.{days_in_month}
-use Rattle.sentry_moments.specs.Digits.{digits, fraction_text}
+use Rattle.sentry_moments.specs.Characters.{upper_t, upper_z}
+use Rattle.sentry_moments.specs.Digits.{fraction_text}
 use Rattle.sentry_moments.specs.Rfc3339.{Civil, date_text, clock_text}
 
 -- a day of the calendar
@@ -36,11 +37,4 @@ civil_at secs = record {
 -- `2020-07-20T14:51:14.296Z`
 abbrev pub rfc3339_text : ℕ → ℕ → List ℕ
 rfc3339_text secs nanos =
-    date_text (civil_at secs) ++ (84 ∷ (clock_text (civil_at secs) ++ (fraction_text nanos ++ 90 ∷ [])))
-
--- a date and a time of day in digits
-abbrev pub date_digits : ℕ → ℕ → ℕ → List ℕ
-date_digits year month day = digits 4 year ++ (45 ∷ (digits 2 month ++ (45 ∷ digits 2 day)))
-
-abbrev pub clock_digits : ℕ → ℕ → ℕ → List ℕ
-clock_digits hour minute second = digits 2 hour ++ (58 ∷ (digits 2 minute ++ (58 ∷ digits 2 second)))
+    date_text (civil_at secs) ++ (upper_t ∷ (clock_text (civil_at secs) ++ (fraction_text nanos ++ upper_z ∷ [])))

@@ -2,6 +2,7 @@
 use Rattle.std.specs.Prelude.{◌≡◌, ℕ, ◌+◌, ◌*◌, ◌<◌, ◌≤◌, ◌^◌, ◌⊎◌, ℤ, pos, neg_ℤ, ◌+ℤ◌, ◌-ℤ◌, ◌*ℤ◌, List, [], ◌∷◌, ◌++◌, take, replicate}
 use Rattle.std.specs.Str.Parse.{AllDigits, digits_value}
 use Rattle.jiff_core.specs.Calendar.{IsCivilDate, days_from_civil}
+use Rattle.sentry_moments.specs.Characters.{colon, full_stop, lower_t, lower_z, minus_sign, plus_sign, space, upper_t, upper_z, zero_digit}
 use Rattle.sentry_moments.specs.Digits.{digits}
 
 -- seconds and nanoseconds from 1970-01-01T00:00:00Z to the end of the year 9999
@@ -26,12 +27,19 @@ pub record IsCivil (c : Civil) : Type 0 where
   pub second : c.second < 60
 
 -- `2020-07-20`
-unfoldable pub date_text : Civil → List ℕ
-date_text c = digits 4 c.year ++ (45 ∷ (digits 2 c.month ++ (45 ∷ digits 2 c.day)))
+abbrev pub date_digits : ℕ → ℕ → ℕ → List ℕ
+date_digits year month day = digits 4 year ++ (minus_sign ∷ (digits 2 month ++ (minus_sign ∷ digits 2 day)))
 
 -- `14:51:14`
+abbrev pub clock_digits : ℕ → ℕ → ℕ → List ℕ
+clock_digits hour minute second = digits 2 hour ++ (colon ∷ (digits 2 minute ++ (colon ∷ digits 2 second)))
+
+-- the date and the time of day as they are written
+unfoldable pub date_text : Civil → List ℕ
+date_text c = date_digits c.year c.month c.day
+
 unfoldable pub clock_text : Civil → List ℕ
-clock_text c = digits 2 c.hour ++ (58 ∷ (digits 2 c.minute ++ (58 ∷ digits 2 c.second)))
+clock_text c = clock_digits c.hour c.minute c.second
 
 -- the seconds from 1970-01-01T00:00:00 on the same clock
 abbrev pub civil_seconds : Civil → ℤ
@@ -41,23 +49,23 @@ civil_seconds c =
 
 -- `T`, `t` or a space stands between the date and the time
 abbrev pub IsSeparator : ℕ → Type 0
-IsSeparator b = (b ≡ 84) ⊎ ((b ≡ 116) ⊎ (b ≡ 32))
+IsSeparator b = (b ≡ upper_t) ⊎ ((b ≡ lower_t) ⊎ (b ≡ space))
 
 -- a point and one or more digits, or nothing
 pub data IsFraction : List ℕ → List ℕ → Type 0 where
   Absent : IsFraction [] []
-  Present : (d : ℕ) (ds : List ℕ) → AllDigits 10 (d ∷ ds) → IsFraction (46 ∷ d ∷ ds) (d ∷ ds)
+  Present : (d : ℕ) (ds : List ℕ) → AllDigits 10 (d ∷ ds) → IsFraction (full_stop ∷ d ∷ ds) (d ∷ ds)
 
 -- the first nine digits of a fraction, as nanoseconds
 abbrev pub nanoseconds : List ℕ → ℕ
-nanoseconds ds = digits_value 10 (take 9 (ds ++ replicate 9 48))
+nanoseconds ds = digits_value 10 (take 9 (ds ++ replicate 9 zero_digit))
 
 -- `Z`, `z`, or a sign, an hour and a minute: how many seconds the clock is ahead
 pub data IsZone : List ℕ → ℤ → Type 0 where
-  Upper : IsZone (90 ∷ []) (pos 0)
-  Lower : IsZone (122 ∷ []) (pos 0)
-  Ahead : (hour minute : ℕ) → hour < 24 → minute < 60 → IsZone (43 ∷ digits 2 hour ++ 58 ∷ digits 2 minute) (pos (hour * 3_600 + minute * 60))
-  Behind : (hour minute : ℕ) → hour < 24 → minute < 60 → IsZone (45 ∷ digits 2 hour ++ 58 ∷ digits 2 minute) (neg_ℤ (pos (hour * 3_600 + minute * 60)))
+  Upper : IsZone (upper_z ∷ []) (pos 0)
+  Lower : IsZone (lower_z ∷ []) (pos 0)
+  Ahead : (hour minute : ℕ) → hour < 24 → minute < 60 → IsZone (plus_sign ∷ digits 2 hour ++ colon ∷ digits 2 minute) (pos (hour * 3_600 + minute * 60))
+  Behind : (hour minute : ℕ) → hour < 24 → minute < 60 → IsZone (minus_sign ∷ digits 2 hour ++ colon ∷ digits 2 minute) (neg_ℤ (pos (hour * 3_600 + minute * 60)))
 
 -- the text names the moment this many seconds and nanoseconds after 1970-01-01T00:00:00Z
 pub record IsRfc3339 (text : List ℕ) (secs nanos : ℕ) : Type 0 where

@@ -3,6 +3,7 @@ use Rattle.std.specs.Prelude.{ℕ, ◌+◌, ◌-◌, ◌*◌, ◌==◌, nat_lt, 
 use Rattle.std.specs.Borrow.{Bor}
 use Rattle.std.specs.Char.{is_ascii_digit}
 use Rattle.jiff_core.specs.Calendar.{days_in_month, days_from_civil}
+use Rattle.sentry_moments.specs.Characters.{colon, full_stop, lower_t, lower_z, minus_sign, plus_sign, space, upper_t, upper_z, zero_digit}
 use Rattle.sentry_moments.specs.Digits.{front_digits, after_digits}
 use Rattle.sentry_moments.specs.Rfc3339.{nanoseconds}
 
@@ -28,7 +29,7 @@ after byte (c ∷ rest) = if c == byte then Some rest else None
 unfoldable pub two_digits : List ℕ → Read ℕ
 two_digits (high ∷ low ∷ rest) =
     if is_ascii_digit high && is_ascii_digit low
-    then Some ((high - 48) * 10 + (low - 48), rest)
+    then Some ((high - zero_digit) * 10 + (low - zero_digit), rest)
     else None
 two_digits _ = None
 
@@ -54,33 +55,33 @@ day_number y m d =
 unfoldable pub day : List ℕ → Read ℤ
 day text = do
   y ← four_digits text
-  dash ← after 45 y.1
-  m ← two_digits dash
-  second_dash ← after 45 m.1
-  d ← two_digits second_dash
+  month_text ← after minus_sign y.1
+  m ← two_digits month_text
+  day_text ← after minus_sign m.1
+  d ← two_digits day_text
   n ← day_number y.0 m.0 d.0
   Some (n, d.1)
 
 -- the text after the separator of date and time
 unfoldable pub after_separator : List ℕ → Option (List ℕ)
 after_separator [] = None
-after_separator (c ∷ rest) = if (c == 84) || (c == 116) || (c == 32) then Some rest else None
+after_separator (c ∷ rest) = if (c == upper_t) || (c == lower_t) || (c == space) then Some rest else None
 
 -- the second of the day
 unfoldable pub clock : List ℕ → Read ℕ
 clock text = do
   h ← below 24 text
-  colon ← after 58 h.1
-  m ← below 60 colon
-  second_colon ← after 58 m.1
-  s ← below 60 second_colon
+  minute_text ← after colon h.1
+  m ← below 60 minute_text
+  second_text ← after colon m.1
+  s ← below 60 second_text
   Some (h.0 * 3_600 + m.0 * 60 + s.0, s.1)
 
 -- the nanoseconds of a fraction, if there is one
 unfoldable pub fraction : List ℕ → Read ℕ
 fraction [] = Some (0, [])
 fraction (c ∷ rest) =
-    if c == 46
+    if c == full_stop
     then (if length (front_digits rest) == 0 then None else Some (nanoseconds (front_digits rest), after_digits rest))
     else Some (0, c ∷ rest)
 
@@ -88,17 +89,17 @@ fraction (c ∷ rest) =
 unfoldable pub hour_and_minute : List ℕ → Option ℕ
 hour_and_minute text = do
   h ← below 24 text
-  colon ← after 58 h.1
-  m ← below 60 colon
+  minute_text ← after colon h.1
+  m ← below 60 minute_text
   if length m.1 == 0 then Some (h.0 * 3_600 + m.0 * 60) else None
 
 -- how many seconds the clock is ahead, to the end of the text
 unfoldable pub zone : List ℕ → Option ℤ
 zone [] = None
 zone (c ∷ rest) =
-    if (c == 90) || (c == 122) then (if length rest == 0 then Some (pos 0) else None)
-    else (if c == 43 then option_map pos (hour_and_minute rest)
-    else (if c == 45 then option_map (λ n. neg_ℤ (pos n)) (hour_and_minute rest) else None))
+    if (c == upper_z) || (c == lower_z) then (if length rest == 0 then Some (pos 0) else None)
+    else (if c == plus_sign then option_map pos (hour_and_minute rest)
+    else (if c == minus_sign then option_map (λ n. neg_ℤ (pos n)) (hour_and_minute rest) else None))
 
 -- the seconds from 1970 on and the nanoseconds
 unfoldable pub moment : List ℕ → Option (ℤ × ℕ)

@@ -1,5 +1,6 @@
 -- How a random sampling value is written.
 use Rattle.std.specs.Prelude.{◌≡◌, ℕ, ◌+◌, ◌*◌, ◌/◌, ◌%◌, ◌≤◌, ◌⊎◌, min, nat_lt, List, ◌∷◌, if◌then◌else◌}
+use Rattle.sentry_moments.specs.Characters.{full_stop, zero_digit}
 use Rattle.sentry_moments.specs.Digits.{digits}
 
 -- the number of thousands nearest to b, and of two the even one
@@ -14,7 +15,7 @@ millionths billionths = min (nearest_thousand billionths) 999_999
 
 -- `0.` and six places
 abbrev pub sample_rand_text : ℕ → List ℕ
-sample_rand_text billionths = 48 ∷ 46 ∷ digits 6 (millionths billionths)
+sample_rand_text billionths = zero_digit ∷ full_stop ∷ digits 6 (millionths billionths)
 
 -- m thousands are nearest to b, and of two m is even
 pub record IsNearestEven (b m : ℕ) : Type 0 where

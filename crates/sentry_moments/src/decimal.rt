@@ -13,7 +13,7 @@ use std::fmt;
 use thiserror::Error;
 
 /// Why a text is no decimal in the range that is wanted.
-#[derive(Clone, Copy, Debug, PartialEq, Eq, Error)]
+#[derive(Debug, Drop, Error)]
 pub enum DecimalError {
     /// The text isn't an optional sign, digits with an optional point, and an optional exponent of
     /// one to three digits.
@@ -234,6 +234,18 @@ mod tests {
             let number = Decimal { whole, billionths };
             assert_eq!(rt; format!(in rt.alloc(); "{number}")?.as_str(), text);
         }
+        Ok(())
+    }
+
+    #[test]
+    fn errors_are_printed(rt: HostRuntime) -> Result<(), Fail> {
+        let invalid = DecimalError::InvalidText;
+        assert_eq!(rt;
+            format!(in rt.alloc(); "{invalid}")?.as_str(),
+            "InvalidText"
+        );
+        let outside = DecimalError::OutOfRange;
+        assert_eq!(rt; format!(in rt.alloc(); "{outside}")?.as_str(), "OutOfRange");
         Ok(())
     }
 }

@@ -6,8 +6,8 @@ ghost use Rattle.sentry_moments.specs.MomentForms.{moment_text, rfc3339_kind, se
 
 use crate::moment::Moment;
 use json::Writer;
-use sentry_rows::spelled::{Room, printed};
-use sentry_rows::{Codec, ReadCodec, TreeError};
+use sentry_members::spelled::{Room, printed};
+use sentry_members::{Codec, ReadCodec, TreeError};
 use serde_json::Value;
 use std::alloc::{AllocError, Global};
 
@@ -37,13 +37,13 @@ impl Codec<Moment> for Rfc3339 {
 
     ghost cell_of = { moment_cell };
 
-    #[tactic(auto, using(sentry_rows::proofs::Spellings::text_tree))]
+    #[tactic(auto, using(sentry_members::proofs::Spellings::text_tree))]
     fn to_tree(value: &Moment, alloc: Global) -> Result<Value, AllocError> {
         let mut room = Room::new();
         Value::try_from_str(alloc, text(value, &mut room)?)
     }
 
-    #[tactic(auto, using(sentry_rows::proofs::Spellings::spelling_wrote))]
+    #[tactic(auto, using(sentry_members::proofs::Spellings::spelling_wrote))]
     fn write(value: &Moment, out: &mut Writer) -> Result<(), AllocError> {
         let mut room = Room::new();
         out.string(text(value, &mut room)?)
@@ -60,7 +60,7 @@ impl Codec<Moment> for Rfc3339 {
 }
 
 impl ReadCodec<Moment> for Rfc3339 {
-    #[tactic(auto, using(crate::proofs::MomentsShown::named_shown, crate::proofs::MomentsShown::not_named, sentry_rows::proofs::Spellings::not_text))]
+    #[tactic(auto, using(crate::proofs::MomentsShown::named_shown, crate::proofs::MomentsShown::not_named, sentry_members::proofs::Spellings::not_text))]
     fn from_tree(_alloc: Global, tree: &Value) -> Result<Moment, TreeError> {
         match tree.as_str() {
             Some(text) => match Moment::from_rfc3339(text) {
@@ -99,9 +99,8 @@ impl Codec<Moment> for Seconds {
         Rfc3339::copy(value)
     }
 
-    #[tactic(auto, using(crate::proofs::MomentRange::moment_in_range))]
-    fn is_plain(_value: &Moment) -> bool {
-        true
+    fn is_plain(value: &Moment) -> bool {
+        Rfc3339::is_plain(value)
     }
 }
 

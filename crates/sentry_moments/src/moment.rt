@@ -1,9 +1,9 @@
 //! Moments and their texts.
 
-ghost use Rattle.std.specs.Prelude.{ℕ, ◌≡◌, ◌↔◌, ◌⊎◌, ◌≤◌, ◌<◌, ◌^◌, ◌*◌, ◌+◌, ◌/◌, IsSome, IfSome, IsSomeAnd, IfOk, Some, pos, string_bytes, List, IsUtf8};
-ghost use Rattle.sentry_moments.specs.Decimal.{IsDecimal, IsNoDecimal, Worth, Billionths, decimal_text};
-ghost use Rattle.sentry_moments.specs.Rfc3339.{IsMomentTime, IsRfc3339};
-ghost use Rattle.sentry_moments.specs.MomentTexts.{day_after, rfc3339_text, date_digits, clock_digits};
+ghost use Rattle.std.specs.Prelude.{ℕ, ◌≡◌, ◌↔◌, ◌≤◌, ◌<◌, ◌^◌, ◌*◌, ◌+◌, ◌/◌, IsSome, IfSome, IsSomeAnd, IfOk, Some, pos, string_bytes};
+ghost use Rattle.sentry_moments.specs.Decimal.{IsDecimal, Billionths, decimal_text};
+ghost use Rattle.sentry_moments.specs.Rfc3339.{IsMomentTime, IsRfc3339, date_digits, clock_digits};
+ghost use Rattle.sentry_moments.specs.MomentTexts.{day_after, rfc3339_text};
 
 use crate::decimal::{self, Decimal};
 use crate::fraction::Fraction;
@@ -200,30 +200,10 @@ impl fmt::Display for Moment {
     }
 }
 
-/// RFC 3339 texts: the text of a moment names it and is UTF-8, no text names two moments, and each
-/// names one or none.
-pub fn rfc3339_texts()
-    ensures read_back { (secs nanos : ℕ) → IsMomentTime secs nanos → IsRfc3339 (rfc3339_text secs nanos) secs nanos }
-    ensures are_texts { (secs nanos : ℕ) → IsUtf8 (rfc3339_text secs nanos) }
-    ensures one { (text : List ℕ) (secs nanos s n : ℕ) → IsRfc3339 text secs nanos → IsRfc3339 text s n →
-        (secs ≡ s) × (nanos ≡ n) }
-    ensures decided { (text : List ℕ) → ((secs : ℕ) × (nanos : ℕ) × IsRfc3339 text secs nanos) ⊎
-        ((secs nanos : ℕ) → IsRfc3339 text secs nanos → ⊥) }
-{}
-
-/// Decimal texts: the text of a moment is worth its seconds and is UTF-8, no text is worth two things,
-/// and each is a decimal or none.
-pub fn decimal_texts()
-    ensures read_back { (secs nanos : ℕ) → IsMomentTime secs nanos →
-        IsDecimal (decimal_text secs nanos) (Billionths (secs * 10 ^ 9 + nanos)) }
-    ensures are_texts { (secs nanos : ℕ) → secs < 2 ^ 64 → IsUtf8 (decimal_text secs nanos) }
-    ensures one { (text : List ℕ) (w v : Worth) → IsDecimal text w → IsDecimal text v → w ≡ v }
-    ensures decided { (text : List ℕ) → ((w : Worth) × IsDecimal text w) ⊎ IsNoDecimal text }
-{}
-
 #[cfg(test)]
 mod tests {
     use super::*;
+    use std::cmp::Ordering;
     use std::test::Fail;
 
     fn parts(moment: Option<Moment>) -> Option<(u64, u32)> {
@@ -257,6 +237,9 @@ mod tests {
         assert!(rt; early < late);
         assert!(rt; early < Moment::new(5, 8).ok_or("later")?);
         assert_eq!(rt; early, Moment::new(5, 7).ok_or("same")?);
+        assert!(rt; early != Moment::new(5, 8).ok_or("later")?);
+        assert_eq!(rt; late.cmp(&early), Ordering::Greater);
+        assert_eq!(rt; early.cmp(&early), Ordering::Equal);
         Ok(())
     }
 
@@ -282,6 +265,7 @@ mod tests {
         assert_eq!(rt; rfc("1970-01-01t00:00:00Z"), Some((0, 0)));
         assert_eq!(rt; rfc("1969-12-31T23:59:59Z"), None);
         assert_eq!(rt; rfc("9999-12-31T23:59:59-00:01"), None);
+        assert_eq!(rt; rfc("9999-12-31T23:59:59.999999999-23:59"), None);
         assert_eq!(rt;
             rfc("9999-12-31T23:59:59+00:00"),
             Some((253_402_300_799, 0))
@@ -348,6 +332,9 @@ mod tests {
         assert_eq!(rt; decimal("5."), Some((5, 0)));
         assert_eq!(rt; decimal("-0.0"), Some((0, 0)));
         assert_eq!(rt; decimal("-1"), None);
+        assert_eq!(rt; decimal("-10000"), None);
+        assert_eq!(rt; decimal("inf"), None);
+        assert_eq!(rt; decimal("123123123"), Some((123_123_123, 0)));
         assert_eq!(rt; decimal(" 1"), None);
         assert_eq!(rt; decimal("+-1"), None);
         assert_eq!(rt; decimal(""), None);

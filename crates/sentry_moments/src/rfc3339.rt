@@ -3,6 +3,7 @@ ghost use Rattle.std.specs.Prelude.{ℕ, ◌≡◌, ◌+◌, ◌*◌, ◌<◌, �
 ghost use Rattle.std.specs.Char.{digit_value};
 ghost use Rattle.std.specs.Str.Parse.{AllDigits};
 ghost use Rattle.jiff_core.specs.Calendar.{IsEpochDay, IsBetween, IsWithin};
+ghost use Rattle.sentry_moments.specs.Characters.{zero_digit};
 ghost use Rattle.sentry_moments.specs.Rfc3339Scan as spec;
 ghost use Rattle.sentry_moments.specs.Rfc3339 as texts;
 
@@ -105,7 +106,7 @@ fn clock(text: &[u8]) -> Option<(u32, &[u8])>
 fn digit_at(digits: &[u8], place: usize) -> u8
     requires are_digits { AllDigits 10 digits.now }
     requires within { place < 9 }
-    ensures value { result ≡ digit_value (slice_index (digits.now ++ replicate 9 48) place) }
+    ensures value { result ≡ digit_value (slice_index (digits.now ++ replicate 9 zero_digit) place) }
     ensures bound { result < 10 }
 {
     if place < digits.len() {

@@ -1,12 +1,11 @@
 //! The random value that a trace is sampled by.
 
-ghost use Rattle.std.specs.Prelude.{ℕ, ◌≡◌, ◌+◌, ◌*◌, ◌^◌, ◌<◌, ◌≤◌, ◌↔◌, IsOk, IfOk, IfErr, Some, IsUtf8};
-ghost use Rattle.sentry_moments.specs.Decimal.{IsDecimal, Billionths};
-ghost use Rattle.sentry_moments.specs.SampleRand.{IsNearestEven, millionths as millionths_of, sample_rand_text};
+ghost use Rattle.std.specs.Prelude.{◌≡◌, ◌^◌, ◌<◌, ◌↔◌, IsOk, IfOk, IfErr, Some};
+ghost use Rattle.sentry_moments.specs.SampleRand.{millionths as millionths_of, sample_rand_text};
 
 use crate::decimal::{self, DecimalError};
-use sentry_rows::spelled::printed;
-use sentry_rows::{Room, Spelled, TreeError};
+use sentry_members::spelled::printed;
+use sentry_members::{Room, Spelled, TreeError};
 use std::alloc::{AllocError, Global};
 use std::fmt;
 use std::str::FromStr;
@@ -22,7 +21,7 @@ pub struct SampleRand {
 }
 
 /// Why a value is no [`SampleRand`].
-#[derive(Clone, Copy, Debug, PartialEq, Eq, Error)]
+#[derive(Debug, Drop, Error)]
 pub enum InvalidSampleRandError {
     /// The text is no decimal.
     #[error("failed to parse f64")]
@@ -37,6 +36,7 @@ impl From<DecimalError> for InvalidSampleRandError {
 
     ghost from_gives = { λ error e. e ≡ sample_rand_error error };
 
+    /// `InvalidFloat` for a text that is no decimal, and `OutOfRange` for a value out of range.
     fn from(error: DecimalError) -> InvalidSampleRandError {
         match error {
             DecimalError::InvalidText => InvalidSampleRandError::InvalidFloat,
@@ -48,7 +48,9 @@ impl From<DecimalError> for InvalidSampleRandError {
 impl SampleRand {
     /// The value of so many billionths.
     ///
-    /// Fails with `OutOfRange` from a whole unit on.
+    /// # Errors
+    ///
+    /// `OutOfRange` from a whole unit on.
     pub fn from_billionths(billionths: u64) -> Result<SampleRand, InvalidSampleRandError>
         ensures exactly { IsOk result ↔ (billionths < 10 ^ 9) }
         ensures same { IfOk result (λ r. r.billionths ≡ billionths) }
@@ -76,6 +78,13 @@ impl FromStr for SampleRand {
 
     ghost from_str_gives = { λ text r. ReadsSampleRand text r };
 
+    /// The value of a decimal text: an optional sign, digits with an optional point, and an optional
+    /// exponent of one to three digits. Places past the ninth are cut off. Takes no memory.
+    ///
+    /// # Errors
+    ///
+    /// - `InvalidFloat`: the text is no such decimal.
+    /// - `OutOfRange`: it is below 0, however near to it, or 1 or more.
     fn from_str(text: &str) -> Result<SampleRand, InvalidSampleRandError> {
         let billionths = decimal::read(text, 1_000_000_000)?;
         Ok(SampleRand {
@@ -131,16 +140,6 @@ impl Spelled for SampleRand {
     fn hold(&self) {}
 }
 
-/// The printed text of a value reads as the printed millionths: half to even, and 0.999999 from
-/// 0.9999995 on. What was read from a printed text is printed as that text again.
-pub fn printed_sample_rands()
-    ensures nearest { (b : ℕ) → b < 999_999_500 → IsNearestEven b (millionths_of b) }
-    ensures last { (b : ℕ) → 999_999_500 ≤ b → millionths_of b ≡ 999_999 }
-    ensures reads { (b : ℕ) → IsDecimal (sample_rand_text b) (Billionths (1000 * millionths_of b)) }
-    ensures is_text { (b : ℕ) → IsUtf8 (sample_rand_text b) }
-    ensures again { (b : ℕ) → millionths_of (1000 * millionths_of b) ≡ millionths_of b }
-{}
-
 #[cfg(test)]
 mod tests {
     use super::*;
@@ -152,28 +151,46 @@ mod tests {
 
     #[test]
     fn texts_are_read(rt: HostRuntime) -> Result<(), Fail> {
-        assert_eq!(rt; read(".5"), Ok(500_000_000));
-        assert_eq!(rt; read("1e-9"), Ok(1));
-        assert_eq!(rt; read("1e-10"), Ok(0));
-        assert_eq!(rt; read("-0"), Ok(0));
-        assert_eq!(rt; read("1"), Err(InvalidSampleRandError::OutOfRange));
-        assert_eq!(rt; read("-1e-10"), Err(InvalidSampleRandError::OutOfRange));
-        assert_eq!(rt; read("."), Err(InvalidSampleRandError::InvalidFloat));
-        assert_eq!(rt; read("inf"), Err(InvalidSampleRandError::InvalidFloat));
-        assert_eq!(rt; read("0.9999999999"), Ok(999_999_999));
-        assert_eq!(rt; read("+0000.25"), Ok(250_000_000));
-        assert_eq!(rt; read("-0e-999"), Ok(0));
-        assert_eq!(rt; read("-0e-1000"), Err(InvalidSampleRandError::InvalidFloat));
-        assert_eq!(rt; read(""), Err(InvalidSampleRandError::InvalidFloat));
+        let texts = [
+            (".5", 500_000_000),
+            ("1e-9", 1),
+            ("1e-10", 0),
+            ("-0", 0),
+            ("0.9999999999", 999_999_999),
+            ("+0000.25", 250_000_000),
+            ("-0e-999", 0),
+        ];
+        for (text, billionths) in texts {
+            assert_eq!(rt; read(text).ok(), Some(billionths), "{text}");
+        }
+        Ok(())
+    }
+
+    #[test]
+    fn texts_are_refused(rt: HostRuntime) -> Result<(), Fail> {
+        for text in ["1", "-1e-10", "-.5", "1e999"] {
+            let read = read(text);
+            assert!(rt;
+                matches!(read, Err(InvalidSampleRandError::OutOfRange)),
+                "{text}"
+            );
+        }
+        for text in [".", "inf", "-0e-1000", ""] {
+            let read = read(text);
+            assert!(rt;
+                matches!(read, Err(InvalidSampleRandError::InvalidFloat)),
+                "{text}"
+            );
+        }
         Ok(())
     }
 
     #[test]
     fn billionths_are_in_range(rt: HostRuntime) -> Result<(), Fail> {
         let last = SampleRand::from_billionths(999_999_999).map(|value| value.billionths());
-        assert_eq!(rt; last, Ok(999_999_999));
-        let whole = SampleRand::from_billionths(1_000_000_000).map(|value| value.billionths());
-        assert_eq!(rt; whole, Err(InvalidSampleRandError::OutOfRange));
+        assert_eq!(rt; last.ok(), Some(999_999_999));
+        let whole = SampleRand::from_billionths(1_000_000_000);
+        assert!(rt; matches!(whole, Err(InvalidSampleRandError::OutOfRange)));
         Ok(())
     }
 
@@ -193,6 +210,28 @@ mod tests {
             let value = SampleRand::from_billionths(billionths).ok().ok_or("value")?;
             assert_eq!(rt; format!(in rt.alloc(); "{value}")?.as_str(), text);
         }
+        Ok(())
+    }
+
+    #[test]
+    fn read_values_are_printed(rt: HostRuntime) -> Result<(), Fail> {
+        let printed = [
+            ("0.9999995", "0.999999"),
+            ("5e-7", "0.000000"),
+            ("15e-7", "0.000002"),
+        ];
+        for (text, wanted) in printed {
+            let value = text.parse::<SampleRand>().ok().ok_or("value")?;
+            assert_eq!(rt; format!(in rt.alloc(); "{value}")?.as_str(), wanted);
+        }
+        Ok(())
+    }
+
+    #[test]
+    fn values_of_the_same_billionths_are_equal(rt: HostRuntime) -> Result<(), Fail> {
+        let half = SampleRand::from_billionths(500_000_000).ok().ok_or("half")?;
+        assert!(rt; half == "0.5".parse::<SampleRand>().ok().ok_or("text")?);
+        assert!(rt; half != "0.500000001".parse::<SampleRand>().ok().ok_or("next")?);
         Ok(())
     }
 

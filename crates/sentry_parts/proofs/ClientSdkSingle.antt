@@ -1,6 +1,6 @@
 -- A tree shows at most one software that sends messages.
 use Rattle.sentry_tables.specs.Single.{IsSingle}
-use Rattle.sentry_rows.proofs.Single.{text_functional}
+use Rattle.sentry_members.proofs.Single.{text_functional}
 use Rattle.sentry_parts.specs.ClientSdk.{package_kind, sdk_kind}
 
 pub package_single : IsSingle package_kind

@@ -4,9 +4,10 @@ ghost use Rattle.sentry_parts.specs.ClientSdk.{sdk_fields, sdk_in_order, sdk_kin
 
 use crate::client_sdk_package::ClientSdkPackage;
 use json::Writer;
+use sentry_members::{FromTree, Member, TreeError};
 use sentry_rows::rows::{list, object, required};
 use sentry_rows::table::{table_tree, write_table};
-use sentry_rows::{FromTree, Member, Sink, Table, TreeError};
+use sentry_rows::{Sink, Table};
 use serde_json::Value;
 use std::alloc::{AllocError, Global};
 

@@ -3,9 +3,10 @@
 ghost use Rattle.sentry_parts.specs.ClientSdk.{package_fields, package_in_order, package_kind, package_cell};
 
 use json::Writer;
+use sentry_members::{FromTree, Member, TreeError};
 use sentry_rows::rows::{object, required};
 use sentry_rows::table::{table_tree, write_table};
-use sentry_rows::{FromTree, Member, Sink, Table, TreeError};
+use sentry_rows::{Sink, Table};
 use serde_json::Value;
 use std::alloc::{AllocError, Global};
 

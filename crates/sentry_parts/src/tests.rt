@@ -1,5 +1,5 @@
 use crate::{ClientSdkInfo, ClientSdkPackage};
-use sentry_rows::{Member, TreeError, read_line, text_of};
+use sentry_members::{Member, TreeError, read_line, text_of};
 use std::alloc::Global;
 use std::test::Fail;
 

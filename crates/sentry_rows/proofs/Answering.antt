@@ -7,9 +7,9 @@ use Rattle.serde_json.specs.Find.{as_object}
 use Rattle.sentry_tables.specs.Cell.{Cell, fields, Cells, no_cells, cell}
 use Rattle.sentry_tables.specs.Kind.{Rule, Kind, table, Rows, no_rows, row, Other, ignored, keys, others}
 use Rattle.sentry_tables.specs.Shows.{RowsShow, members_in, AreFields}
-use Rattle.sentry_rows.specs.Reading.{Shown, Refused, RowRefused, RowShown, ShownAt, RefusedAt, RowRefusedAt, RowShownAt, Only}
-use Rattle.sentry_rows.specs.declared.error.TreeError.{TreeError}
-use Rattle.sentry_rows.specs.declared.error.TreeError.TheVariants.{Misfit, Memory}
+use Rattle.sentry_members.specs.Reading.{Shown, Refused, RowRefused, RowShown, ShownAt, RefusedAt, RowRefusedAt, RowShownAt, Only}
+use Rattle.sentry_members.specs.declared.error.TreeError.{TreeError}
+use Rattle.sentry_members.specs.declared.error.TreeError.TheVariants.{Misfit, Memory}
 
 pub data Found : Type 1 where
   nothing : Found

@@ -14,9 +14,9 @@ use Rattle.sentry_tables.specs.Cell.{Cells}
 use Rattle.sentry_tables.specs.Kind.{Rows, keys}
 use Rattle.sentry_tables.specs.Written.{put_all, rows_given, in_order}
 use Rattle.sentry_tables.proofs.Given.{put_all_later, put_all_ordered, rows_given_ordered}
-use Rattle.sentry_rows.specs.Cells.{tree_cell}
-use Rattle.sentry_rows.specs.Kinds.{any_kind}
-use Rattle.sentry_rows.specs.Written.{written}
+use Rattle.sentry_members.specs.Cells.{tree_cell}
+use Rattle.sentry_members.specs.Kinds.{any_kind}
+use Rattle.sentry_members.specs.Written.{written}
 use Rattle.sentry_rows.specs.Given.{both}
 use Rattle.sentry_rows.specs.Merged.{Merges, ClearsWay}
 

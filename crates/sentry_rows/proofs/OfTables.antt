@@ -9,10 +9,10 @@ use Rattle.sentry_tables.specs.Cell.{Cell, fields}
 use Rattle.sentry_tables.specs.Kind.{Kind, Other, keys, must, list, values, table, tag}
 use Rattle.sentry_tables.specs.Written.{rows_given, put_all, in_order}
 use Rattle.sentry_tables.proofs.Given.{rows_tree_put, rows_tree_in_order}
-use Rattle.sentry_rows.specs.Cells.{list_cell}
+use Rattle.sentry_members.specs.Cells.{list_cell}
 use Rattle.sentry_rows.specs.Given.{row_given, case_written}
-use Rattle.sentry_rows.specs.Written.{written, WritesTree, WritesMembers}
-use Rattle.sentry_rows.proofs.Tokens.{object_wrote}
+use Rattle.sentry_members.specs.Written.{written, WritesTree, WritesMembers}
+use Rattle.sentry_members.proofs.Tokens.{object_wrote}
 
 pub table_is : {A : Type 0} (fs : List (Field A)) (v : A) (d : Data) (old new : Members) → d ≡ object new → new ≡ put_all (rows_given (rows_of fs) (cells_by fs v)) old → old ≡ no_members → d ≡ written (table_of fs) (fields_by fs v)
 unfolding written

@@ -10,7 +10,7 @@ use Rattle.sentry_tables.specs.Norm.{norm}
 use Rattle.sentry_tables.specs.Written.{tree, row_tree, given, rows_given}
 use Rattle.sentry_tables.specs.Meets.{RowMeets, RowsMeet, IsPlain, IsStored, plain_demand, stored_demand}
 use Rattle.sentry_rows.specs.Given.{both, row_given}
-use Rattle.sentry_rows.specs.Written.{written}
+use Rattle.sentry_members.specs.Written.{written}
 
 given-both : (k : List ℕ) (o : Option Data) (ms : Members) → both (given k o no_members) ms ≡ given k o ms
 given-both k None ms = refl

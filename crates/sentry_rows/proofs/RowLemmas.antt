@@ -6,9 +6,9 @@ use Rattle.serde_json.specs.Find.{get, as_null}
 use Rattle.sentry_tables.specs.Cell.{Cell, absent, present}
 use Rattle.sentry_tables.specs.Kind.{must, may, may_null, may_strict, default, always, draw, at_once, Kind}
 use Rattle.sentry_tables.specs.Shows.{Shows, unless_null_at, IsPresent}
-use Rattle.sentry_rows.specs.Reading.{Shown, Refused, RowShown, RowRefused, Reads, ReadsRow, ShownAt, RefusedAt, RowShownAt, RowRefusedAt, ReadsAt, ReadsRowAt, Only}
-use Rattle.sentry_rows.specs.declared.error.TreeError.{TreeError}
-use Rattle.sentry_rows.specs.declared.error.TreeError.TheVariants.{Misfit, Memory}
+use Rattle.sentry_members.specs.Reading.{Shown, Refused, RowShown, RowRefused, Reads, ReadsRow, ShownAt, RefusedAt, RowShownAt, RowRefusedAt, ReadsAt, ReadsRowAt, Only}
+use Rattle.sentry_members.specs.declared.error.TreeError.{TreeError}
+use Rattle.sentry_members.specs.declared.error.TreeError.TheVariants.{Misfit, Memory}
 
 is_null : (e : Data) → is_some (as_null e) ≡ true → unless_null_at e ≡ None
 is_null null h = refl

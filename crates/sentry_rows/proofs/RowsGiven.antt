@@ -4,9 +4,9 @@ use Rattle.std.specs.Prelude.{◌==◌}
 use Rattle.serde_json.specs.Data.{no_members, member}
 use Rattle.sentry_tables.specs.Cell.{Cell}
 use Rattle.sentry_tables.specs.Kind.{Kind, default, list, map, values}
-use Rattle.sentry_rows.specs.Cells.{list_cell, map_cell, empty_list, empty_map}
+use Rattle.sentry_members.specs.Cells.{list_cell, map_cell, empty_list, empty_map}
 use Rattle.sentry_rows.specs.Given.{row_given}
-use Rattle.sentry_rows.specs.Written.{written}
+use Rattle.sentry_members.specs.Written.{written}
 
 pub list_given : {A : Type 0} (key : List ℕ) (K : Kind) (f : A → Cell) (xs : List A) → (length xs == 0) ≡ false
     → row_given key (default empty_list) (list K) (list_cell f xs) ≡ member key (written (list K) (list_cell f xs)) no_members

@@ -1,5 +1,5 @@
 -- Members after members: that the two sinks go on.
-use Rattle.std.proofs.Common.{◌≡◌, List, ◌∷◌, ◌++◌, Bool, true, false, refl, sym, ap, ◌∙◌, append_assoc, append-nil}
+use Rattle.std.proofs.Common.{◌≡◌, ◌∷◌, ◌++◌, Bool, true, false, refl, ap, ◌∙◌, append_assoc}
 use Rattle.std.specs.Prelude.{◌||◌}
 use Rattle.std.proofs.lemmas.Bool.{or_parts}
 use Rattle.json.specs.Token.{Token}
@@ -8,15 +8,10 @@ use Rattle.serde_json.specs.Data.{Members, no_members, member, put}
 use Rattle.serde_json.specs.Written.{has_float, members_have_float}
 use Rattle.sentry_tables.specs.Written.{put_all}
 use Rattle.sentry_rows.specs.Given.{both}
-use Rattle.sentry_rows.specs.Written.{tokens_of, member_tokens, Continues, WritesMembers}
+use Rattle.sentry_members.specs.Continued.{continues_on, continues_as}
+use Rattle.sentry_members.specs.Written.{tokens_of, member_tokens, WritesMembers}
 
 -- ---- text
-
-pub continues_on : (a b c : Written) (ts us : List Token) → Continues a b ts → Continues b c us → Continues a c (ts ++ us)
-continues_on a b c ts us x y = (y.0 ∙ x.0, y.1 ∙ ap (λ s. s ++ us) x.1 ∙ append_assoc a.tokens ts us)
-
-pub continues_as : (a b : Written) (ts us : List Token) → ts ≡ us → Continues a b ts → Continues a b us
-continues_as a b ts us e x = (x.0, x.1 ∙ ap (λ s. a.tokens ++ s) e)
 
 pub tokens-both : (ms ns : Members) → member_tokens ms ++ member_tokens ns ≡ member_tokens (both ms ns)
 tokens-both no_members ns = refl
@@ -32,10 +27,6 @@ floats-both (member k d ms) ns h =
     let p = or_parts (has_float d) (members_have_float (both ms ns)) h in
     let q = floats-both ms ns p.1 in
     (neither (has_float d) (members_have_float ms) p.0 q.0, q.1)
-
-pub no_members_wrote : (a : Written) → WritesMembers no_members a a
-unfolding WritesMembers
-no_members_wrote a h = (refl, sym (append-nil a.tokens))
 
 pub members_join : (ms ns : Members) (a b c : Written) → WritesMembers ms a b → WritesMembers ns b c → WritesMembers (both ms ns) a c
 unfolding WritesMembers

@@ -1,9 +1,4 @@
-pub mod Cells
 pub mod Given
 pub mod Joined
-pub mod Kinds
 pub mod Merged
-pub mod Reading
 pub mod Sinks
-pub mod Spelling
-pub mod Written

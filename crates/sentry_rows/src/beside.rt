@@ -9,9 +9,9 @@ ghost use Rattle.sentry_tables.specs.Kind.{tag};
 ghost use Rattle.sentry_rows.specs.Merged.{ClearsWay};
 ghost use Rattle.sentry_rows.specs.Sinks.{tag_left, others_left};
 
-use crate::codec::{Codec, Own};
 use crate::sink::Sink;
 use crate::table::Table;
+use sentry_members::{Codec, Own};
 use serde_json::{Map, Value};
 use std::alloc::AllocError;
 use std::cmp::Ordering;

@@ -3,11 +3,10 @@
 ghost use Rattle.serde_json.specs.View.{view};
 ghost use Rattle.sentry_tables.specs.Cell.{Cell};
 ghost use Rattle.sentry_tables.specs.Kind.{draw};
-ghost use Rattle.sentry_rows.specs.Reading.{ReadsRow};
+ghost use Rattle.sentry_members.specs.Reading.{ReadsRow};
 
-use crate::error::TreeError;
-use crate::read::ReadCodec;
 use rand_core::Rng;
+use sentry_members::{ReadCodec, TreeError};
 use serde_json::Value;
 use std::alloc::Global;
 

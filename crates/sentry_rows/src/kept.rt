@@ -7,9 +7,9 @@ ghost use Rattle.serde_json.specs.Written.{members_have_float};
 ghost use Rattle.sentry_json.specs.Sound.{IsRegular, HasTexts};
 ghost use Rattle.sentry_tables.specs.Meets.{IsClear};
 
-use crate::member::Member;
 use crate::rows::is_named;
-use crate::tree::has_float;
+use sentry_members::Member;
+use sentry_members::tree::has_float;
 use serde_json::{Map, Value};
 use std::alloc::AllocError;
 

@@ -9,14 +9,12 @@ ghost use Rattle.serde_json.specs.Find.{as_object};
 ghost use Rattle.sentry_tables.specs.Cell.{text};
 ghost use Rattle.sentry_tables.specs.Kind.{must, may, may_null, may_strict, default as default_rule, always, list as list_kind, map as map_kind, has_key, without};
 ghost use Rattle.sentry_tables.specs.Shows.{members_in};
-ghost use Rattle.sentry_rows.specs.Cells.{text_cell, option_cell, list_cell, map_cell, empty_list, empty_map};
-ghost use Rattle.sentry_rows.specs.Kinds.{text_kind};
-ghost use Rattle.sentry_rows.specs.Reading.{ReadsRow};
-ghost use Rattle.sentry_rows.specs.declared.error.TreeError.TheVariants.{Misfit};
+ghost use Rattle.sentry_members.specs.Cells.{text_cell, option_cell, list_cell, map_cell, empty_list, empty_map};
+ghost use Rattle.sentry_members.specs.Kinds.{text_kind};
+ghost use Rattle.sentry_members.specs.Reading.{ReadsRow};
+ghost use Rattle.sentry_members.specs.declared.error.TreeError.TheVariants.{Misfit};
 
-use crate::codec::Own;
-use crate::error::TreeError;
-use crate::read::{FromTree, ReadCodec};
+use sentry_members::{FromTree, Own, ReadCodec, TreeError};
 use serde_json::{Map, Value};
 use std::alloc::{AllocError, Global};
 

@@ -6,17 +6,18 @@ ghost use Rattle.serde_json.specs.View.{view, members_view};
 ghost use Rattle.sentry_tables.specs.Written.{put_all};
 ghost use Rattle.sentry_tables.specs.Cell.{Cell, text as text_of};
 ghost use Rattle.sentry_tables.specs.Kind.{must, may, may_null, may_strict, default, always, draw, at_once, list as list_kind, map as map_kind, values as values_kind};
-ghost use Rattle.sentry_rows.specs.Cells.{option_cell, list_cell, map_cell, empty_list, empty_map};
-ghost use Rattle.sentry_rows.specs.Kinds.{text_kind};
+ghost use Rattle.sentry_members.specs.Cells.{option_cell, list_cell, map_cell, empty_list, empty_map};
+ghost use Rattle.sentry_members.specs.Kinds.{text_kind};
 ghost use Rattle.sentry_rows.specs.Given.{both, row_given};
-ghost use Rattle.sentry_rows.specs.Written.{written, WritesMembers};
+ghost use Rattle.sentry_members.specs.Written.{written, WritesMembers};
 
-use crate::codec::{Codec, DefaultedCodec, Own};
 use crate::draw::Drawn;
 use crate::kept::copy_others;
-use crate::member::{Defaulted, Member, Usual};
 use crate::values::Values;
 use json::Writer;
+use sentry_members::codec::DefaultedCodec;
+use sentry_members::member::{Defaulted, Usual};
+use sentry_members::{Codec, Member, Own};
 use serde_json::{Map, Value, put};
 use std::alloc::{AllocError, Global};
 use std::convert::AsStr;
@@ -214,7 +215,7 @@ pub trait Sink {
     }
 
     /// A text that is left out where it is the usual one.
-    #[tactic(auto, unfolding(crate::specs::Given::row_given, crate::specs::Written::written))]
+    #[tactic(auto, unfolding(crate::specs::Given::row_given, sentry_members::specs::Written::written))]
     final fn text_unless<T: AsStr>(
         &mut self,
         key: &str,
@@ -276,7 +277,8 @@ pub trait Sink {
 }
 
 impl Sink for Writer {
-    ghost use Rattle.sentry_rows.specs.Joined.{no_members_wrote, members_join};
+    ghost use Rattle.sentry_rows.specs.Joined.{members_join};
+    ghost use Rattle.sentry_members.specs.Continued.{no_members_wrote};
 
     ghost Adds = { λ a b ms. WritesMembers ms a b };
 

@@ -8,7 +8,7 @@ ghost use Rattle.sentry_tables.specs.Fields.{Field, table_of, fields_by, rows_of
 ghost use Rattle.sentry_tables.specs.Kind.{Other, keys, table};
 ghost use Rattle.sentry_tables.specs.Written.{rows_given, in_order};
 ghost use Rattle.sentry_rows.specs.Given.{case_written};
-ghost use Rattle.sentry_rows.specs.Written.{written, WritesTree};
+ghost use Rattle.sentry_members.specs.Written.{written, WritesTree};
 
 use crate::beside::{Kept, Tag, case_beside, rows_beside};
 use crate::sink::{Sink, TreeRows};

@@ -1,19 +1,18 @@
 ghost use Rattle.std.specs.Prelude.{◌≡◌, [], ◌∷◌, codes, refl};
 ghost use Rattle.sentry_tables.specs.Fields.{field};
 ghost use Rattle.sentry_tables.specs.Kind.{may};
-ghost use Rattle.sentry_rows.specs.Cells.{text_cell, option_cell};
-ghost use Rattle.sentry_rows.specs.Kinds.{text_kind};
+ghost use Rattle.sentry_members.specs.Cells.{text_cell, option_cell};
+ghost use Rattle.sentry_members.specs.Kinds.{text_kind};
 
 use crate::kept::others_are_plain;
-use crate::member::Member;
 use crate::sink::{Sink, TreeRows};
 use crate::table::{
     Table, case_tree, kept_case_tree, kept_tree, table_tree, write_case, write_kept,
     write_kept_case, write_table,
 };
-use crate::text::{text_of, write_text};
 use crate::values::Values;
 use json::Writer;
+use sentry_members::{Member, text_of};
 use serde_json::{Map, Value};
 use std::alloc::{AllocError, Global};
 use std::borrow::CowStr;
@@ -48,42 +47,6 @@ impl Table for Unknown {
     ghost ordered = { refl };
 }
 
-fn written<T: Member>(alloc: Global, value: &T) -> Result<String, Fail> {
-    let text = String::from_utf8(text_of(alloc, value)?)?;
-    let tree = value.copy()?.to_tree(alloc)?.to_string(alloc)?;
-    if text.as_str() == tree.as_str() {
-        Ok(text)
-    } else {
-        Err("two texts")?
-    }
-}
-
-#[test]
-fn leaves_are_written(rt: HostRuntime) -> Result<(), Fail> {
-    let alloc = rt.alloc();
-    assert_eq!(rt;
-        written(alloc, &String::from_str(alloc, "a\"\n\u{1}é")?)?.as_str(),
-        "\"a\\\"\\n\\u0001é\""
-    );
-    assert_eq!(rt;
-        written(alloc, &CowStr::Borrowed("other"))?.as_str(),
-        "\"other\""
-    );
-    assert_eq!(rt; written(alloc, &true)?.as_str(), "true");
-    assert_eq!(rt; written(alloc, &u8::MAX)?.as_str(), "255");
-    assert_eq!(rt; written(alloc, &u16::MAX)?.as_str(), "65535");
-    assert_eq!(rt; written(alloc, &u32::MAX)?.as_str(), "4294967295");
-    assert_eq!(rt; written(alloc, &u64::MAX)?.as_str(), "18446744073709551615");
-    assert_eq!(rt; written(alloc, &i32::MIN)?.as_str(), "-2147483648");
-    assert_eq!(rt; written(alloc, &i64::MIN)?.as_str(), "-9223372036854775808");
-    assert_eq!(rt; written(alloc, &(1u64, 2u64))?.as_str(), "[1,2]");
-    Ok(())
-}
-
-fn tree(alloc: Global, text: &str) -> Result<Value, Fail> {
-    Ok(Value::from_str(alloc, text)?)
-}
-
 fn members(alloc: Global, text: &str) -> Result<Map<String, Value>, Fail> {
     match Value::from_str(alloc, text)? {
         Value::Object(members) => Ok(members),
@@ -92,26 +55,17 @@ fn members(alloc: Global, text: &str) -> Result<Map<String, Value>, Fail> {
 }
 
 #[test]
-fn lists_and_trees_are_written(rt: HostRuntime) -> Result<(), Fail> {
+fn values_are_written_under_their_key(rt: HostRuntime) -> Result<(), Fail> {
     let alloc = rt.alloc();
-    let text = "{\"a\":[null,true,-1,{}],\"b\":{\"c\":18446744073709551615,\"d\":\"\"}}";
-    assert_eq!(rt; written(alloc, &tree(alloc, text)?)?.as_str(), text);
-    let members = members(alloc, text)?;
-    assert_eq!(rt; written(alloc, &members)?.as_str(), text);
+    let members = members(alloc, "{\"a\":[null,true,-1,{}]}")?;
     let list = Values {
         values: Vec::from_array(alloc, [members, Map::new(alloc)])?,
     };
-    assert_eq!(rt; written(alloc, &list)?.len(), text.len() + 16);
+    let wanted = "{\"values\":[{\"a\":[null,true,-1,{}]},{}]}";
+    assert_eq!(rt; String::from_utf8(text_of(alloc, &list)?)?.as_str(), wanted);
+    let tree = list.copy()?.to_tree(alloc)?;
+    assert_eq!(rt; tree.to_string(alloc)?.as_str(), wanted);
     assert!(rt; list.is_plain());
-    assert!(rt; !tree(alloc, "[0.5]")?.is_plain());
-    Ok(())
-}
-
-#[test]
-fn text_is_written_after_what_stands_there(rt: HostRuntime) -> Result<(), Fail> {
-    let mut out = Vec::from_array(rt.alloc(), [b'1', b'\n'])?;
-    write_text(&tree(rt.alloc(), "{\"a\":[]}")?, &mut out)?;
-    assert_eq!(rt; String::from_utf8(out)?.as_str(), "1\n{\"a\":[]}");
     Ok(())
 }
 

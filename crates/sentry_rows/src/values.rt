@@ -2,11 +2,11 @@
 
 ghost use Rattle.std.specs.Prelude.{◌≡◌, ◌↔◌, IfOk, IsTrue, OnOk};
 ghost use Rattle.sentry_tables.specs.Kind.{values as values_kind};
-ghost use Rattle.sentry_rows.specs.Cells.{list_cell};
+ghost use Rattle.sentry_members.specs.Cells.{list_cell};
 
-use crate::member::Member;
 use crate::sink::{Sink, TreeRows};
 use json::Writer;
+use sentry_members::Member;
 use serde_json::Value;
 use std::alloc::{AllocError, Global};
 

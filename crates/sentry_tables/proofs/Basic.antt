@@ -251,20 +251,13 @@ any_laws = record {
 
 -- what a table of words owes
 pub record WordLaws (of_text : List ℕ → Option Cell) (to_text : Cell → List ℕ) (Stored : Cell → Type 0) : Type 0 where
-  -- the written text of a stored value is read
-  pub reads : (c : Cell) → Stored c → (x : Cell) × (of_text (to_text c) ≡ Some x)
-  -- what is read is stored, and its written text is read as the same
+  -- a stored value is read from its written text
+  pub reads : (c : Cell) → Stored c → of_text (to_text c) ≡ Some c
+  -- what is read is stored
   pub stored : (s : List ℕ) (c : Cell) → IsUtf8 s → of_text s ≡ Some c → Stored c
-  pub stable : (s : List ℕ) (c : Cell) → of_text s ≡ Some c → of_text (to_text c) ≡ Some c
   pub utf8 : (c : Cell) → Stored c → IsUtf8 (to_text c)
 
 module _ (of_text : List ℕ → Option Cell) (to_text : Cell → List ℕ) (Stored : Cell → Type 0) (own : WordLaws of_text to_text Stored) where
-  abbrev word_norm : Cell → Cell
-  word_norm c = unwrap_or (of_text (to_text c)) c
-
-  word_back : (c : Cell) → Stored c → of_text (to_text c) ≡ Some (word_norm c)
-  word_back c p = let x = own.reads c p in x.1 ∙ ap Some (sym (ap (λ o. unwrap_or o c) x.1))
-
   -- what is shown is what some text is read as
   spelled : (P : Cell → Type 0) → (d : Data) (c : Cell) → ((s : List ℕ) → d ≡ string s → of_text s ≡ Some c → P c) → option_and_then of_text (as_str d) ≡ Some c → P c
   spelled P (string s) c f e = f s refl e
@@ -272,10 +265,10 @@ module _ (of_text : List ℕ → Option Cell) (to_text : Cell → List ℕ) (Sto
 
   pub word_laws : ScalarLaws (word_scalar of_text to_text Stored)
   word_laws = record {
-    back = λ c p q. word_back c p.0;
-    only = λ c x p q h. inside x (word_norm c) (sym h ∙ word_back c p.0);
-    again = λ c p. ap (λ o. unwrap_or o (word_norm c)) (own.stable (to_text c) (word_norm c) (word_back c p.0));
-    stored_norm = λ c p. own.stored (to_text c) (word_norm c) (own.utf8 c p.0) (word_back c p.0);
+    back = λ c p q. own.reads c p.0;
+    only = λ c x p q h. inside x c (sym h ∙ own.reads c p.0);
+    again = λ c p. refl;
+    stored_norm = λ c p. p.0;
     plain_norm = λ c p. tt;
     readable_norm = λ c p q. tt;
     depth_norm = λ c p. omega arith;
@@ -285,7 +278,7 @@ module _ (of_text : List ℕ → Option Cell) (to_text : Cell → List ℕ) (Sto
     shown_stored = λ d c sound h. spelled Stored d c (λ s is e. own.stored s c (subst IsSound is sound) e) h;
     shown_plain = λ d c sound h. tt;
     shown_null = λ d c h e. absurd (false≢true e);
-    shown_tree = λ d c sound h. spelled (λ x. word_tree to_text x ≡ word_tree to_text (word_norm x)) d c (λ s is e. ap (word_tree to_text) (sym (ap (λ o. unwrap_or o c) (own.stable s c e)))) h;
+    shown_tree = λ d c sound h. refl;
     decide = λ d. told (option_and_then of_text (as_str d));
   }
 

@@ -116,9 +116,8 @@ switch_utf8 _ h = absurd h
 switch_laws : ScalarLaws switch_scalar
 switch_laws =
     word_laws switch_of switch_text IsTruth (record {
-      reads = λ c h. (c, switch_reads c h);
+      reads = switch_reads;
       stored = λ s c u e. switch_stored s c e;
-      stable = λ s c e. switch_reads c (switch_stored s c e);
       utf8 = switch_utf8;
     })
 

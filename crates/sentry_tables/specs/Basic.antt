@@ -129,12 +129,12 @@ any_scalar =
 abbrev pub word_tree : (Cell → List ℕ) → Cell → Data
 word_tree to_text c = string (to_text c)
 
--- The normal form of a value is what its text is read as.
+-- Each value is its own normal form.
 abbrev pub word_scalar : (List ℕ → Option Cell) → (Cell → List ℕ) → (Cell → Type 0) → Scalar
 word_scalar of_text to_text Stored = record {
   shows = λ d c. option_and_then of_text (as_str d) ≡ Some c;
   tree = word_tree to_text;
-  norm = λ c. unwrap_or (of_text (to_text c)) c;
+  norm = λ c. c;
   is_null = λ c. false;
   stored = Stored;
   plain = λ c. ⊤;

@@ -6,18 +6,26 @@ pub mod timed;
 pub use sentry_addresses::{Addr, IpAddress, IpText, ParseIpError, RegVal};
 pub use sentry_crontab::{CrontabParseError, validate};
 pub use sentry_identifiers::{
-    CodeId, DebugId, FromHexError, OrganizationId, OrganizationText, ParseDebugIdError,
-    ParseNumberError, ParseProjectIdError, ProjectId, SpanId, TraceId,
+    CodeId, DebugId, FromHexError, Hyphenated, ParseDebugIdError, Simple, SpanId, TraceId,
+    random_uuid,
+};
+pub use sentry_members::{
+    Codec, FromTree, Member, Own, ReadCodec, TreeError, read_line, read_tree, whole,
 };
 pub use sentry_moments::{
     Decimal, DecimalError, InvalidSampleRandError, Moment, Rfc3339, SampleRand, SampleRate, Seconds,
 };
+pub use sentry_numbers::{
+    LogSeverityNumber, OrganizationId, OrganizationText, ParseNumberError, ParseProjectIdError,
+    ProjectId, SeverityOutOfRange,
+};
+pub use sentry_rows::draw::or_drawn_as;
+pub use sentry_rows::{Drawn, rows, tagged};
+pub use sentry_units::Unit;
 pub use sentry_words::{
-    Codec, Drawn, FromTree, Hyphenated, IndexedEnum, Level, LogLevel, LogSeverityNumber, Member,
-    MetricType, MonitorCheckInStatus, MonitorIntervalUnit, Orientation, Own, ParseLevelError,
-    ParseSessionStatusError, ParseStatusError, ParseWordError, ReadCodec, Sampled, SessionStatus,
-    SeverityOutOfRange, Simple, SpanStatus, TreeError, Unit, or_drawn_as, random_uuid, read_line,
-    read_tree, rows, tagged, whole,
+    IndexedEnum, Level, LogLevel, MetricType, MonitorCheckInStatus, MonitorIntervalUnit,
+    Orientation, ParseLevelError, ParseSessionStatusError, ParseStatusError, ParseWordError,
+    Sampled, SessionStatus, SpanStatus,
 };
 pub use timed::FromTreeAt;
 

@@ -4,14 +4,14 @@
 
 ghost use Rattle.serde_json.specs.View.{view};
 ghost use Rattle.sentry_tables.specs.Kind.{at_once, default as default_rule, list as list_kind, map as map_kind, may, must, values as values_kind};
-ghost use Rattle.sentry_rows.specs.Cells.{option_cell, list_cell, map_cell, empty_list, empty_map};
-ghost use Rattle.sentry_rows.specs.Reading.{ReadsAt, ReadsRowAt, ReadsTextAt};
+ghost use Rattle.sentry_members.specs.Cells.{option_cell, list_cell, map_cell, empty_list, empty_map};
+ghost use Rattle.sentry_members.specs.Reading.{ReadsAt, ReadsRowAt, ReadsTextAt};
 ghost use Rattle.sentry_moments.specs.Moments.{moment_cell};
 
 use rand_core::Rng;
+use sentry_members::line::read_tree;
+use sentry_members::{Member, ReadCodec, TreeError};
 use sentry_moments::Moment;
-use sentry_rows::line::read_tree;
-use sentry_rows::{Member, ReadCodec, TreeError};
 use serde_json::{Map, Value};
 use std::alloc::Global;
 
@@ -169,7 +169,7 @@ pub fn map_at<T: FromTreeAt, R: Rng>(
 /// The list that a tree shows at a moment as a bare array, or as an object's array at the key `values`.
 ///
 /// Fails with `Misfit` where the tree shows none, and with `Memory` where memory is refused.
-#[tactic(auto, using(sentry_rows::proofs::ValuesShown::bare_read_at, sentry_rows::proofs::ValuesShown::no_values_at))]
+#[tactic(auto, using(sentry_members::proofs::ValuesShown::bare_read_at, sentry_members::proofs::ValuesShown::no_values_at))]
 pub fn read_values_at<T: FromTreeAt, R: Rng>(
     alloc: Global,
     tree: &Value,
@@ -191,7 +191,7 @@ pub fn read_values_at<T: FromTreeAt, R: Rng>(
 /// The value that a line shows at the moment `now`; absent ids are drawn from `ids`.
 ///
 /// Fails with `Misfit` where the line shows none, and with `Memory` where memory is refused.
-#[tactic(auto, using(sentry_rows::proofs::Texts::no_text_at, sentry_rows::proofs::Texts::text_read_at))]
+#[tactic(auto, using(sentry_members::proofs::Texts::no_text_at, sentry_members::proofs::Texts::text_read_at))]
 pub fn read_line_at<T: FromTreeAt, R: Rng>(
     alloc: Global,
     line: &[u8],

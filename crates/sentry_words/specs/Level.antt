@@ -1,7 +1,7 @@
 -- The words of a level.
 use Rattle.std.specs.Prelude.{ℕ, List, [], ◌∷◌, Option, codes}
 use Rattle.sentry_tables.specs.Kind.{Kind}
-use Rattle.sentry_rows.specs.Spelling.{Spelling, enumeration, spelled_kind}
+use Rattle.sentry_members.specs.Spelling.{Spelling, enumeration, spelled_kind}
 use Rattle.sentry_words.specs.Lookup.{lookup}
 use Rattle.sentry_words.specs.declared.level.Level.{Level}
 use Rattle.sentry_words.specs.declared.level.Level.TheVariants as level
@@ -27,3 +27,11 @@ level_spelling = enumeration level_of level_word
 
 abbrev pub level_kind : Kind
 level_kind = spelled_kind level_spelling
+
+-- the place among the variants
+abbrev pub level_index : Level → ℕ
+level_index level.Debug = 0
+level_index level.Info = 1
+level_index level.Warning = 2
+level_index level.Error = 3
+level_index level.Fatal = 4

@@ -1,4 +1,3 @@
-pub mod Ids
 pub mod Level
 pub mod LogLevel
 pub mod Lookup
@@ -8,6 +7,4 @@ pub mod MonitorIntervalUnit
 pub mod Orientation
 pub mod Sampled
 pub mod SessionStatus
-pub mod Severity
 pub mod SpanStatus
-pub mod Units

@@ -1,7 +1,7 @@
 -- The words of a session's status.
 use Rattle.std.specs.Prelude.{ℕ, List, [], ◌∷◌, Option, codes}
 use Rattle.sentry_tables.specs.Kind.{Kind}
-use Rattle.sentry_rows.specs.Spelling.{Spelling, enumeration, spelled_kind}
+use Rattle.sentry_members.specs.Spelling.{Spelling, enumeration, spelled_kind}
 use Rattle.sentry_words.specs.Lookup.{lookup, by_word}
 use Rattle.sentry_words.specs.declared.session_status.SessionStatus.{SessionStatus}
 use Rattle.sentry_words.specs.declared.session_status.SessionStatus.TheVariants as session_status
@@ -25,3 +25,10 @@ session_status_spelling = enumeration session_status_of session_status_word
 
 abbrev pub session_status_kind : Kind
 session_status_kind = spelled_kind session_status_spelling
+
+-- the place among the variants
+abbrev pub session_status_index : SessionStatus → ℕ
+session_status_index session_status.Ok = 0
+session_status_index session_status.Exited = 1
+session_status_index session_status.Crashed = 2
+session_status_index session_status.Abnormal = 3

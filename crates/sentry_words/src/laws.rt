@@ -1,22 +1,18 @@
-//! Laws of ids and words: a spelling stands once in a table, what is printed or written is read back, and
-//! each type's form as a tree has the laws of field tables.
+//! Laws of words: a spelling stands once in a table, what is printed or written is read back, and each
+//! type's form as a tree has the laws of field tables and refuses null.
 
-ghost use Rattle.std.specs.Prelude.{◌≡◌, ◌↔◌, ℕ, true, List, Some, codes, bytes_eq};
-ghost use Rattle.std.specs.List.{IsDistinct};
-ghost use Rattle.sentry_tables.specs.Cell.{Cell};
-ghost use Rattle.sentry_tables.specs.Laws.{HasLaws, ReadsBack};
-ghost use Rattle.sentry_tables.specs.Norm.{norm};
-ghost use Rattle.sentry_words.specs.Ids.{IsUuid, uuid_of, hyphenated, simple, hyphenated_kind, simple_kind};
-ghost use Rattle.sentry_words.specs.declared.unit.Unit.{Unit as Units};
-ghost use Rattle.sentry_words.specs.Units.{units, spellings, known, other, unit_cell, unit_of, unit_text, unit_kind};
-ghost use Rattle.sentry_words.specs.Sampled.{sampled_kind};
+ghost use Rattle.std.specs.Prelude.{◌≡◌, ◌↔◌, true, Bool, ℕ, List, Some};
+ghost use Rattle.std.specs.Ordering.{nat_cmp};
+ghost use Rattle.sentry_tables.specs.Lawful.{RefusesNull};
+ghost use Rattle.sentry_tables.specs.Laws.{HasLaws};
+ghost use Rattle.sentry_words.specs.Sampled.{sampled_word, sampled_of, sampled_kind};
 ghost use Rattle.sentry_words.specs.Lookup.{HasEachOnce};
 ghost use Rattle.sentry_words.specs.declared.level.Level.{Level as Levels};
-ghost use Rattle.sentry_words.specs.Level.{level_words, level_of, level_kind};
+ghost use Rattle.sentry_words.specs.Level.{level_words, level_of, level_kind, level_index};
 ghost use Rattle.sentry_words.specs.declared.span_status.SpanStatus.{SpanStatus as SpanStatuses};
 ghost use Rattle.sentry_words.specs.SpanStatus.{span_status_words, span_status_of, span_status_kind};
 ghost use Rattle.sentry_words.specs.declared.session_status.SessionStatus.{SessionStatus as SessionStatuses};
-ghost use Rattle.sentry_words.specs.SessionStatus.{session_status_words, session_status_of, session_status_kind};
+ghost use Rattle.sentry_words.specs.SessionStatus.{session_status_words, session_status_of, session_status_kind, session_status_index};
 ghost use Rattle.sentry_words.specs.declared.log_level.LogLevel.{LogLevel as LogLevels};
 ghost use Rattle.sentry_words.specs.LogLevel.{log_level_word, log_level_words, log_level_of, log_level_kind};
 ghost use Rattle.sentry_words.specs.declared.metric_type.MetricType.{MetricType as MetricTypes};
@@ -27,49 +23,22 @@ ghost use Rattle.sentry_words.specs.declared.monitor_interval_unit.MonitorInterv
 ghost use Rattle.sentry_words.specs.MonitorIntervalUnit.{interval_unit_word, interval_unit_words, interval_unit_of, interval_unit_kind};
 ghost use Rattle.sentry_words.specs.declared.monitor_check_in_status.MonitorCheckInStatus.{MonitorCheckInStatus as MonitorCheckInStatuses};
 ghost use Rattle.sentry_words.specs.MonitorCheckInStatus.{check_in_status_word, check_in_status_words, check_in_status_of, check_in_status_kind};
-ghost use Rattle.sentry_words.specs.Severity.{severity_kind};
 
 use crate::level::Level;
-use crate::log_severity_number::LogSeverityNumber;
+use crate::log_level::LogLevel;
+use crate::metric_type::MetricType;
+use crate::monitor_check_in_status::MonitorCheckInStatus;
+use crate::monitor_interval_unit::MonitorIntervalUnit;
+use crate::orientation::Orientation;
 use crate::session_status::SessionStatus;
 use crate::span_status::SpanStatus;
-use crate::unit::Unit;
 use std::fmt::Display;
 
-/// A UUID's text reads back as that UUID, with hyphens and without; and so does its tree, at each of the two kinds.
-#[tactic(auto, using(crate::proofs::UuidLaws::hyphenated_back, crate::proofs::UuidLaws::simple_back, crate::proofs::UuidLaws::hyphenated_reads_back, crate::proofs::UuidLaws::simple_reads_back))]
-pub fn uuids()
-    ensures hyphenated { (id : Cell) → IsUuid id → uuid_of (hyphenated id) ≡ Some id }
-    ensures simple { (id : Cell) → IsUuid id → uuid_of (simple id) ≡ Some id }
-    ensures hyphenated_tree { ReadsBack hyphenated_kind }
-    ensures simple_tree { ReadsBack simple_kind }
-{}
-
-/// No text spells two units, nor one of them twice.
-#[tactic(auto, using(crate::proofs::UnitLaws::no_spelling_twice))]
-pub fn no_spelling_stands_twice()
-    ensures { IsDistinct bytes_eq (spellings units) }
-{}
-
-/// A unit's tree shows the unit that its text spells, and nothing else; that unit's text spells it again.
-/// So `Other` of a known spelling becomes the known unit.
-#[tactic(auto, using(crate::proofs::UnitLaws::units_read_back, crate::proofs::UnitLaws::unit_back, crate::proofs::UnitLaws::symbol_read))]
-pub fn units_read_back()
-    ensures tree { ReadsBack unit_kind }
-    ensures norm { (word : List ℕ) → norm unit_kind (other word) ≡ unit_of word }
-    ensures again { (word : List ℕ) → unit_of (unit_text (unit_of word)) ≡ unit_of word }
-    ensures symbol { norm unit_kind (other (codes "ms")) ≡ known (codes "millisecond") }
-{}
-
-/// Two units are equal exactly where they are the same variant with the same text.
-pub fn equal_units()
-    ensures { (a b : Units) → ⟦<Unit as PartialEq>⟧.eq a b ≡ true ↔ (unit_cell a ≡ unit_cell b) }
-{}
-
-/// A truth value's text shows that truth value, and nothing else.
-#[tactic(auto, using(crate::proofs::SampledLaws::sampled_reads_back))]
+/// Truth values as texts.
 pub fn sampled_texts_read_back()
-    ensures { ReadsBack sampled_kind }
+    ensures read_back { (truth : Bool) → sampled_of (sampled_word truth) ≡ Some truth }
+    ensures laws { HasLaws sampled_kind }
+    ensures no_null { RefusesNull sampled_kind }
 {}
 
 /// Levels.
@@ -78,6 +47,7 @@ pub fn levels()
     ensures printed { (level : Levels) (text : List ℕ) → ⟦<Level as Display>⟧.output level ≡ Some text → level_of text ≡ Some level }
     ensures usual { (level : Levels) → ⟦<Level as Default>⟧.is_default level → level ≡ Level.Info }
     ensures laws { HasLaws level_kind }
+    ensures no_null { RefusesNull level_kind }
 {}
 
 /// Statuses of spans.
@@ -85,6 +55,7 @@ pub fn span_statuses()
     ensures once { HasEachOnce span_status_words }
     ensures printed { (status : SpanStatuses) (text : List ℕ) → ⟦<SpanStatus as Display>⟧.output status ≡ Some text → span_status_of text ≡ Some status }
     ensures laws { HasLaws span_status_kind }
+    ensures no_null { RefusesNull span_status_kind }
 {}
 
 /// Statuses of sessions.
@@ -93,6 +64,7 @@ pub fn session_statuses()
     ensures printed { (status : SessionStatuses) (text : List ℕ) → ⟦<SessionStatus as Display>⟧.output status ≡ Some text → session_status_of text ≡ Some status }
     ensures usual { (status : SessionStatuses) → ⟦<SessionStatus as Default>⟧.is_default status → status ≡ SessionStatus.Ok }
     ensures laws { HasLaws session_status_kind }
+    ensures no_null { RefusesNull session_status_kind }
 {}
 
 /// Levels of logs.
@@ -100,6 +72,7 @@ pub fn log_levels()
     ensures once { HasEachOnce log_level_words }
     ensures read_back { (level : LogLevels) → log_level_of (log_level_word level) ≡ Some level }
     ensures laws { HasLaws log_level_kind }
+    ensures no_null { RefusesNull log_level_kind }
 {}
 
 /// Types of metrics.
@@ -107,6 +80,7 @@ pub fn metric_types()
     ensures once { HasEachOnce metric_type_words }
     ensures read_back { (metric_type : MetricTypes) → metric_type_of (metric_type_word metric_type) ≡ Some metric_type }
     ensures laws { HasLaws metric_type_kind }
+    ensures no_null { RefusesNull metric_type_kind }
 {}
 
 /// Orientations of devices.
@@ -114,6 +88,7 @@ pub fn orientations()
     ensures once { HasEachOnce orientation_words }
     ensures read_back { (orientation : Orientations) → orientation_of (orientation_word orientation) ≡ Some orientation }
     ensures laws { HasLaws orientation_kind }
+    ensures no_null { RefusesNull orientation_kind }
 {}
 
 /// Units of monitors' intervals.
@@ -121,6 +96,7 @@ pub fn monitor_interval_units()
     ensures once { HasEachOnce interval_unit_words }
     ensures read_back { (unit : MonitorIntervalUnits) → interval_unit_of (interval_unit_word unit) ≡ Some unit }
     ensures laws { HasLaws interval_unit_kind }
+    ensures no_null { RefusesNull interval_unit_kind }
 {}
 
 /// Statuses of check-ins.
@@ -128,11 +104,23 @@ pub fn monitor_check_in_statuses()
     ensures once { HasEachOnce check_in_status_words }
     ensures read_back { (status : MonitorCheckInStatuses) → check_in_status_of (check_in_status_word status) ≡ status }
     ensures laws { HasLaws check_in_status_kind }
+    ensures no_null { RefusesNull check_in_status_kind }
 {}
 
-/// Severities of logs.
-pub fn log_severity_numbers()
-    ensures least { LogSeverityNumber.MIN ≡ 1 }
-    ensures greatest { LogSeverityNumber.MAX ≡ 24 }
-    ensures laws { HasLaws severity_kind }
+/// Two words are equal exactly where they are the same variant.
+pub fn equal_words()
+    ensures levels { (a b : Levels) → ⟦<Level as PartialEq>⟧.eq a b ≡ true ↔ (a ≡ b) }
+    ensures span_statuses { (a b : SpanStatuses) → ⟦<SpanStatus as PartialEq>⟧.eq a b ≡ true ↔ (a ≡ b) }
+    ensures session_statuses { (a b : SessionStatuses) → ⟦<SessionStatus as PartialEq>⟧.eq a b ≡ true ↔ (a ≡ b) }
+    ensures log_levels { (a b : LogLevels) → ⟦<LogLevel as PartialEq>⟧.eq a b ≡ true ↔ (a ≡ b) }
+    ensures metric_types { (a b : MetricTypes) → ⟦<MetricType as PartialEq>⟧.eq a b ≡ true ↔ (a ≡ b) }
+    ensures orientations { (a b : Orientations) → ⟦<Orientation as PartialEq>⟧.eq a b ≡ true ↔ (a ≡ b) }
+    ensures monitor_interval_units { (a b : MonitorIntervalUnits) → ⟦<MonitorIntervalUnit as PartialEq>⟧.eq a b ≡ true ↔ (a ≡ b) }
+    ensures monitor_check_in_statuses { (a b : MonitorCheckInStatuses) → ⟦<MonitorCheckInStatus as PartialEq>⟧.eq a b ≡ true ↔ (a ≡ b) }
+{}
+
+/// Levels and statuses of sessions are ordered as their variants stand.
+pub fn ordered_words()
+    ensures levels { (a b : Levels) → ⟦<Level as Ord>⟧.cmp a b ≡ nat_cmp (level_index a) (level_index b) }
+    ensures session_statuses { (a b : SessionStatuses) → ⟦<SessionStatus as Ord>⟧.cmp a b ≡ nat_cmp (session_status_index a) (session_status_index b) }
 {}

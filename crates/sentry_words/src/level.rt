@@ -2,10 +2,10 @@
 
 ghost use Rattle.std.specs.Prelude.{◌≡◌, ◌↔◌, IsTrue, Some};
 ghost use Rattle.std.specs.Result.{result_ok};
-ghost use Rattle.sentry_rows.specs.Spelling.{word_cell};
+ghost use Rattle.sentry_members.specs.Spelling.{word_cell};
 
-use sentry_rows::member::Usual;
-use sentry_rows::{Room, Spelled, TreeError};
+use sentry_members::member::Usual;
+use sentry_members::{Room, Spelled, TreeError};
 use std::alloc::{AllocError, Global};
 use std::fmt;
 use std::str::FromStr;
@@ -105,6 +105,11 @@ impl FromStr for Level {
 
     ghost from_str_gives = { λ text r. result_ok r ≡ level_of text };
 
+    /// The level of a word.
+    ///
+    /// # Errors
+    ///
+    /// `ParseLevelError` where the text is neither the word of a level nor `log`, in lower case.
     fn from_str(text: &str) -> Result<Level, ParseLevelError> {
         match text {
             "debug" => Ok(Level::Debug),

@@ -2,10 +2,10 @@
 
 ghost use Rattle.std.specs.Prelude.{◌≡◌};
 ghost use Rattle.std.specs.Result.{result_ok};
-ghost use Rattle.sentry_rows.specs.Spelling.{word_cell};
+ghost use Rattle.sentry_members.specs.Spelling.{word_cell};
 
 use crate::parse_word_error::ParseWordError;
-use sentry_rows::{Room, Spelled, TreeError};
+use sentry_members::{Room, Spelled, TreeError};
 use std::alloc::{AllocError, Global};
 use std::str::FromStr;
 
@@ -53,6 +53,11 @@ impl FromStr for LogLevel {
 
     ghost from_str_gives = { λ text r. result_ok r ≡ log_level_of text };
 
+    /// The level of a word.
+    ///
+    /// # Errors
+    ///
+    /// `ParseWordError` where the text is no word of a level, in lower case.
     fn from_str(text: &str) -> Result<LogLevel, ParseWordError> {
         match text {
             "trace" => Ok(LogLevel::Trace),

@@ -2,10 +2,10 @@
 
 ghost use Rattle.std.specs.Prelude.{◌≡◌};
 ghost use Rattle.std.specs.Result.{result_ok};
-ghost use Rattle.sentry_rows.specs.Spelling.{word_cell};
+ghost use Rattle.sentry_members.specs.Spelling.{word_cell};
 
 use crate::parse_word_error::ParseWordError;
-use sentry_rows::{Room, Spelled, TreeError};
+use sentry_members::{Room, Spelled, TreeError};
 use std::alloc::{AllocError, Global};
 use std::str::FromStr;
 
@@ -44,6 +44,11 @@ impl FromStr for MetricType {
 
     ghost from_str_gives = { λ text r. result_ok r ≡ metric_type_of text };
 
+    /// The type of a word.
+    ///
+    /// # Errors
+    ///
+    /// `ParseWordError` where the text is no word of a type, in lower case.
     fn from_str(text: &str) -> Result<MetricType, ParseWordError> {
         match text {
             "counter" => Ok(MetricType::Counter),

@@ -1,9 +1,9 @@
 //! How a check-in of a monitor went.
 
 ghost use Rattle.std.specs.Prelude.{◌≡◌};
-ghost use Rattle.sentry_rows.specs.Spelling.{word_cell};
+ghost use Rattle.sentry_members.specs.Spelling.{word_cell};
 
-use sentry_rows::{Room, Spelled, TreeError};
+use sentry_members::{Room, Spelled, TreeError};
 use std::alloc::{AllocError, Global};
 
 /// How a check-in of a monitor went.

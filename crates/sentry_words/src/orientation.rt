@@ -2,10 +2,10 @@
 
 ghost use Rattle.std.specs.Prelude.{◌≡◌};
 ghost use Rattle.std.specs.Result.{result_ok};
-ghost use Rattle.sentry_rows.specs.Spelling.{word_cell};
+ghost use Rattle.sentry_members.specs.Spelling.{word_cell};
 
 use crate::parse_word_error::ParseWordError;
-use sentry_rows::{Room, Spelled, TreeError};
+use sentry_members::{Room, Spelled, TreeError};
 use std::alloc::{AllocError, Global};
 use std::str::FromStr;
 
@@ -41,6 +41,11 @@ impl FromStr for Orientation {
 
     ghost from_str_gives = { λ text r. result_ok r ≡ orientation_of text };
 
+    /// The orientation of a word.
+    ///
+    /// # Errors
+    ///
+    /// `ParseWordError` where the text is no word of an orientation, in lower case.
     fn from_str(text: &str) -> Result<Orientation, ParseWordError> {
         match text {
             "portrait" => Ok(Orientation::Portrait),

@@ -1,11 +1,11 @@
 //! Truth values as texts.
 
 ghost use Rattle.std.specs.Prelude.{◌≡◌};
-ghost use Rattle.sentry_rows.specs.Spelling.{ReadsSpelling};
+ghost use Rattle.sentry_members.specs.Spelling.{ReadsSpelling};
 ghost use Rattle.sentry_words.specs.Sampled.{sampled_word, sampled_kind, sampled_spelling, sampled_cell};
 
 use json::Writer;
-use sentry_rows::{Codec, ReadCodec, TreeError};
+use sentry_members::{Codec, ReadCodec, TreeError};
 use serde_json::Value;
 use std::alloc::{AllocError, Global};
 
@@ -38,12 +38,12 @@ impl Codec<bool> for Sampled {
 
     ghost cell_of = { sampled_cell };
 
-    #[tactic(auto, unfolding(sentry_rows::specs::Written::written))]
+    #[tactic(auto, unfolding(sentry_members::specs::Written::written))]
     fn to_tree(value: &bool, alloc: Global) -> Result<Value, AllocError> {
         Value::try_from_str(alloc, word(*value))
     }
 
-    #[tactic(auto, using(sentry_rows::proofs::Spellings::spelling_wrote))]
+    #[tactic(auto, using(sentry_members::proofs::Spellings::spelling_wrote))]
     fn write(value: &bool, out: &mut Writer) -> Result<(), AllocError> {
         out.string(word(*value))
     }
@@ -59,7 +59,7 @@ impl Codec<bool> for Sampled {
 }
 
 impl ReadCodec<bool> for Sampled {
-    #[tactic(auto, using(sentry_rows::proofs::Spellings::text_read, sentry_rows::proofs::Spellings::not_text))]
+    #[tactic(auto, using(sentry_members::proofs::Spellings::text_read, sentry_members::proofs::Spellings::not_text))]
     fn from_tree(_alloc: Global, tree: &Value) -> Result<bool, TreeError> {
         match tree.as_str() {
             Some(text) => truth_of(text),
@@ -71,7 +71,7 @@ impl ReadCodec<bool> for Sampled {
 #[cfg(test)]
 mod tests {
     use super::*;
-    use sentry_rows::read_tree;
+    use sentry_members::read_tree;
     use sentry_rows::rows::required_as;
     use std::test::Fail;
 

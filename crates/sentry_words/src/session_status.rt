@@ -2,10 +2,10 @@
 
 ghost use Rattle.std.specs.Prelude.{◌≡◌, Some};
 ghost use Rattle.std.specs.Result.{result_ok};
-ghost use Rattle.sentry_rows.specs.Spelling.{word_cell};
+ghost use Rattle.sentry_members.specs.Spelling.{word_cell};
 
-use sentry_rows::member::Usual;
-use sentry_rows::{Room, Spelled, TreeError};
+use sentry_members::member::Usual;
+use sentry_members::{Room, Spelled, TreeError};
 use std::alloc::{AllocError, Global};
 use std::fmt;
 use std::str::FromStr;
@@ -67,6 +67,11 @@ impl FromStr for SessionStatus {
 
     ghost from_str_gives = { λ text r. result_ok r ≡ session_status_of text };
 
+    /// The status of a word.
+    ///
+    /// # Errors
+    ///
+    /// `ParseSessionStatusError` where the text is no word of a status, in lower case.
     fn from_str(text: &str) -> Result<SessionStatus, ParseSessionStatusError> {
         match text {
             "ok" => Ok(SessionStatus::Ok),

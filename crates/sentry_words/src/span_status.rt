@@ -2,9 +2,9 @@
 
 ghost use Rattle.std.specs.Prelude.{◌≡◌, Some};
 ghost use Rattle.std.specs.Result.{result_ok};
-ghost use Rattle.sentry_rows.specs.Spelling.{word_cell};
+ghost use Rattle.sentry_members.specs.Spelling.{word_cell};
 
-use sentry_rows::{Room, Spelled, TreeError};
+use sentry_members::{Room, Spelled, TreeError};
 use std::alloc::{AllocError, Global};
 use std::fmt;
 use std::str::FromStr;
@@ -102,6 +102,11 @@ impl FromStr for SpanStatus {
 
     ghost from_str_gives = { λ text r. result_ok r ≡ span_status_of text };
 
+    /// The status of a word.
+    ///
+    /// # Errors
+    ///
+    /// `ParseStatusError` where the text is no word of a status, in lower case.
     fn from_str(text: &str) -> Result<SpanStatus, ParseStatusError> {
         match text {
             "ok" => Ok(SpanStatus::Ok),

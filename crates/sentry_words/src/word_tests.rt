@@ -2,13 +2,13 @@ ghost use Rattle.std.specs.Prelude.{[], ◌∷◌, refl};
 
 use crate::indexed::IndexedEnum;
 use crate::{
-    Level, LogLevel, LogSeverityNumber, MetricType, MonitorCheckInStatus, MonitorIntervalUnit,
-    Orientation, ParseLevelError, ParseSessionStatusError, ParseStatusError, ParseWordError,
-    SessionStatus, SeverityOutOfRange, SpanStatus,
+    Level, LogLevel, MetricType, MonitorCheckInStatus, MonitorIntervalUnit, Orientation,
+    ParseLevelError, ParseSessionStatusError, ParseStatusError, ParseWordError, SessionStatus,
+    SpanStatus,
 };
-use sentry_rows::member::Usual;
-use sentry_rows::text::text_of;
-use sentry_rows::{FromTree, TreeError, read_line};
+use sentry_members::member::Usual;
+use sentry_members::text::text_of;
+use sentry_members::{FromTree, TreeError, read_line};
 use std::alloc::Global;
 use std::fmt::Display;
 use std::str::FromStr;
@@ -293,27 +293,6 @@ fn check_in_statuses(rt: HostRuntime) -> Result<(), Fail> {
 }
 
 #[test]
-fn severities(rt: HostRuntime) -> Result<(), Fail> {
-    let alloc = rt.alloc();
-    for (number, line) in [(1, "1"), (24, "24")] {
-        let severity = LogSeverityNumber::try_from(number)?;
-        assert_eq!(rt; severity.value(), number);
-        assert!(rt; is_line_of(alloc, line, &severity)?);
-    }
-    assert!(rt; LogSeverityNumber::try_from(0).is_err());
-    assert!(rt; LogSeverityNumber::try_from(25).is_err());
-    assert!(rt;
-        are_refused::<LogSeverityNumber>(
-            alloc,
-            &[
-                "0", "25", "-1", "255", "256", "257", "1.5", "\"1\"", "null", "true", "[1]"
-            ],
-        )
-    );
-    Ok(())
-}
-
-#[test]
 fn errors(rt: HostRuntime) -> Result<(), Fail> {
     let alloc = rt.alloc();
     assert_eq!(rt; ParseLevelError.to_string(alloc)?.as_str(), "invalid level");
@@ -326,10 +305,6 @@ fn errors(rt: HostRuntime) -> Result<(), Fail> {
         "invalid session status"
     );
     assert_eq!(rt; ParseWordError.to_string(alloc)?.as_str(), "ParseWordError");
-    assert_eq!(rt;
-        SeverityOutOfRange.to_string(alloc)?.as_str(),
-        "Log severity number must be between 1 and 24"
-    );
     Ok(())
 }
 

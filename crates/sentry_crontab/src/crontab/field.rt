@@ -1,5 +1,5 @@
 ghost use Rattle.std.specs.Prelude.{◌≡◌, ◌≢◌, ℕ, ◌<◌, ◌↔◌, ◌∷◌, ◌++◌, map, IsTrue, IfSome, MatchOption, length, slice_index, Some};
-ghost use Rattle.sentry_identifiers.specs.Number.{IsNumber};
+ghost use Rattle.sentry_numbers.specs.Number.{IsNumber};
 ghost use Rattle.sentry_crontab.specs.Crontab.{AreBounds, IsWithin, IsStep, IsRange, IsSteppedRange, IsItem, AreItems, IsPart, IsOneOf, names_of, low_of, high_of};
 
 /// A field of a schedule.

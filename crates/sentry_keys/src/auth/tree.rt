@@ -2,14 +2,15 @@
 
 ghost use Rattle.std.specs.Prelude.{◌≡◌, None, IfOk};
 ghost use Rattle.serde_json.specs.View.{view};
-ghost use Rattle.sentry_rows.specs.Reading.{Reads};
+ghost use Rattle.sentry_members.specs.Reading.{Reads};
 ghost use Rattle.sentry_keys.specs.AuthFields.{auth_table, rows_cell};
 
 use crate::auth::Auth;
 use json::Writer;
+use sentry_members::{FromTree, Member, TreeError};
 use sentry_rows::rows::{object, optional_or_null, required};
 use sentry_rows::table::{table_tree, write_table};
-use sentry_rows::{FromTree, Member, Sink, Table, TreeError};
+use sentry_rows::{Sink, Table};
 use serde_json::Value;
 use std::alloc::{AllocError, Global};
 

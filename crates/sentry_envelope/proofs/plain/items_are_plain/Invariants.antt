@@ -1,7 +1,7 @@
 use Rattle.std.proofs.Common.{◌↔◌, drop}
 use Rattle.std.specs.Prelude.{map}
-use Rattle.sentry_envelope.specs.Envelope.{ItemsMeet}
-use Rattle.sentry_envelope.specs.EnvelopeView.{item_view, plain_content, stored_content}
+use Rattle.sentry_envelope.specs.Envelope.{plain_content, stored_content, ItemsMeet}
+use Rattle.sentry_envelope.specs.EnvelopeView.{item_view}
 use Rattle.sentry_envelope.specs.SentryProfile.{item_types}
 use Rattle.sentry_envelope.proofs.plain.items_are_plain.Given as goal
 

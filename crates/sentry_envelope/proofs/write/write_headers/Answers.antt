@@ -1,4 +1,4 @@
-use Rattle.sentry_rows.specs.Written.{written}
+use Rattle.sentry_members.specs.Written.{written}
 use Rattle.sentry_envelope.specs.HeaderFields.{headers_cell}
 use Rattle.sentry_envelope.proofs.HeaderValues.{header_whole, with_ready}
 use Rattle.sentry_envelope.proofs.write.write_headers.Goals as goal

@@ -2,7 +2,7 @@ use Rattle.std.proofs.Common.{sym, ap, ◌∙◌, arith}
 use Rattle.std.specs.Option.{option_map}
 use Rattle.std.proofs.lemmas.Bool.{true≢false}
 use Rattle.std.proofs.lemmas.Str.Pattern.{starts_char}
-use Rattle.sentry_identifiers.specs.ProjectId.{organization_value}
+use Rattle.sentry_numbers.specs.ProjectId.{organization_value}
 use Rattle.sentry_keys.proofs.DsnHosts.{numbered_parts}
 use Rattle.sentry_keys.proofs.dsn_organization.numbered.Goals as goal
 

@@ -1,5 +1,10 @@
+use Rattle.sentry_members.proofs.Spellings.{spelled_refuses_null}
+use Rattle.sentry_words.specs.Level.{level_spelling}
 use Rattle.sentry_words.proofs.Enumerations.{level_has_laws}
 use Rattle.sentry_words.proofs.laws.levels.Goals as goal
 
 pub returns-clause-laws : goal.returns-clause-laws
 returns-clause-laws c = level_has_laws
+
+pub returns-clause-no_null : goal.returns-clause-no_null
+returns-clause-no_null c = spelled_refuses_null level_spelling

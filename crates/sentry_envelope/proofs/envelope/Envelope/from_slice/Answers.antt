@@ -4,7 +4,7 @@ use Rattle.sentry_envelope.specs.EnvelopeFault.{Fault}
 use Rattle.sentry_envelope.specs.HeaderFields.{headers_cell}
 use Rattle.sentry_moments.specs.Moments.{moment_cell}
 use Rattle.sentry_envelope.specs.SentryProfile.{profile}
-use Rattle.sentry_envelope.proofs.WholeReads.{line_at_fault, body_at_fault, whole_spelled, spelled_stored}
+use Rattle.sentry_envelope.proofs.WholeReads.{line_at_fault, body_at_fault, whole_spelled, spelled_stored, spelled_rewritten}
 use Rattle.sentry_envelope.proofs.envelope.Envelope.from_slice.Goals as goal
 
 pub returns-in_err-headers-clause-fault : goal.returns-in_err-headers-clause-fault
@@ -35,3 +35,9 @@ returns-clause-stored g c =
     let frames = c.new-frames.result in
     let shown = rw c.header_line.ensures at c.in_ok-headers.ensures.ok in
     spelled_stored c.args.bytes.now c.args.now _ (whole_spelled c.args.bytes.now frames.header_line frames.rest c.new-frames.ensures (moment_cell c.args.now) (headers_cell c.in_ok-headers.headers) c.in_ok-items.items.items shown c.in_ok-items.ensures.ok)
+
+pub returns-clause-rewritten : goal.returns-clause-rewritten
+returns-clause-rewritten g c =
+    let frames = c.new-frames.result in
+    let shown = rw c.header_line.ensures at c.in_ok-headers.ensures.ok in
+    spelled_rewritten c.args.bytes.now c.args.now _ (whole_spelled c.args.bytes.now frames.header_line frames.rest c.new-frames.ensures (moment_cell c.args.now) (headers_cell c.in_ok-headers.headers) c.in_ok-items.items.items shown c.in_ok-items.ensures.ok)

@@ -2,8 +2,8 @@ use Rattle.std.proofs.Common.{[], ◌∷◌, refl}
 use Rattle.std.specs.Prelude.{codes}
 use Rattle.sentry_tables.specs.Fields.{field}
 use Rattle.sentry_tables.specs.Kind.{may}
-use Rattle.sentry_rows.specs.Cells.{text_cell, option_cell}
-use Rattle.sentry_rows.specs.Kinds.{text_kind}
+use Rattle.sentry_members.specs.Cells.{text_cell, option_cell}
+use Rattle.sentry_members.specs.Kinds.{text_kind}
 use Rattle.sentry_rows.proofs.RowByRow.{rows_added}
 use Rattle.sentry_rows.proofs.tests.SystemTable.rows.Goals as goal
 

@@ -4,8 +4,8 @@ use Rattle.std.specs.Map.{keys_of}
 use Rattle.serde_json.specs.View.{view, members_view}
 use Rattle.serde_json.proofs.Views.{Entry}
 use Rattle.sentry_tables.specs.Kind.{map}
-use Rattle.sentry_rows.specs.Reading.{Only, RefusedAt}
-use Rattle.sentry_rows.proofs.ListsShown.{not_map_at, map_fails_at, map_shown_at, map_more, shown_here}
+use Rattle.sentry_members.specs.Reading.{Only, RefusedAt}
+use Rattle.sentry_members.proofs.ListsShown.{not_map_at, map_fails_at, map_shown_at, map_more, shown_here}
 use Rattle.sentry_moments.specs.Moments.{moment_cell}
 use Rattle.sentry_text.proofs.timed.MapStringFromTreeAt.from_tree.Goals as goal
 

@@ -5,7 +5,7 @@ use Rattle.serde_json.specs.Find.{as_object}
 use Rattle.serde_json.specs.View.{view, members_view}
 use Rattle.serde_json.proofs.Views.{Entry}
 use Rattle.sentry_tables.specs.Shows.{Shows, MembersShow}
-use Rattle.sentry_rows.specs.Cells.{entries}
+use Rattle.sentry_members.specs.Cells.{entries}
 use Rattle.sentry_moments.specs.Moments.{moment_cell}
 use Rattle.sentry_text.proofs.timed.MapStringFromTreeAt.from_tree.Given as goal
 

@@ -1,6 +1,6 @@
 use Rattle.std.proofs.Common.{take}
 use Rattle.serde_json.specs.View.{items_view}
-use Rattle.sentry_rows.specs.Cells.{cells}
+use Rattle.sentry_members.specs.Cells.{cells}
 use Rattle.sentry_tables.specs.Shows.{Shows, ItemsShow}
 use Rattle.sentry_moments.specs.Moments.{moment_cell}
 use Rattle.sentry_text.proofs.timed.VecFromTreeAt.from_tree.Given as goal

@@ -1,0 +1,13 @@
+use Rattle.std.proofs.Common.{rules, sym}
+use Rattle.std.proofs.lemmas.Bool.{false≢true}
+use Rattle.sentry_identifiers.proofs.UuidTexts.{uuid_shown, not_uuid, not_text}
+use Rattle.sentry_identifiers.proofs.uuids.read_uuid.Goals as goal
+
+pub returns-in-Ok : goal.returns-in-Ok
+returns-in-Ok c = λ to_text. uuid_shown to_text c.in-Some.text.now c.in-Ok.id _ (search rules) (sym c.in-Ok.ensures.bytes)
+
+pub returns-in-Err : goal.returns-in-Err
+returns-in-Err c = λ to_text. not_uuid to_text c.in-Some.text.now _ (search rules) (λ b e. false≢true (c.in-Err.ensures.ok.1 (b, e)))
+
+pub returns-in-None : goal.returns-in-None
+returns-in-None c = λ to_text. not_text to_text _ (search rules)

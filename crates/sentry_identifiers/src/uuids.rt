@@ -1,0 +1,139 @@
+//! UUIDs.
+
+ghost use Rattle.std.specs.Prelude.{◌≡◌, ℕ, List};
+ghost use Rattle.rand_core.specs.Stream.{fill_bytes};
+ghost use Rattle.uuid.specs.Parts.{v4_of_fill};
+ghost use Rattle.serde_json.specs.View.{view};
+ghost use Rattle.sentry_tables.specs.Cell.{Cell, octets};
+ghost use Rattle.sentry_identifiers.specs.Uuids.{uuid_kind, hyphenated_kind, simple_kind, IsRandomUuid};
+ghost use Rattle.sentry_members.specs.Reading.{Reads};
+
+use crate::bytes::are_bytes;
+use json::Writer;
+use rand_core::Rng;
+use sentry_members::{Codec, ReadCodec, TreeError};
+use sentry_rows::Drawn;
+use serde_json::Value;
+use std::alloc::{AllocError, Global};
+use uuid::Uuid;
+
+/// The form of a UUID that is written with hyphens, in lower case.
+///
+/// It is read with hyphens (RFC 9562), as 32 digits, as a URN (`urn:uuid:`), or in braces, in any case.
+pub struct Hyphenated;
+
+/// The form of a UUID that is written as 32 digits, in lower case.
+///
+/// It is read with hyphens (RFC 9562), as 32 digits, as a URN (`urn:uuid:`), or in braces, in any case.
+pub struct Simple;
+
+impl Codec<Uuid> for Hyphenated {
+    ghost kind = { hyphenated_kind };
+
+    ghost cell_of = { octets };
+
+    #[tactic(auto, unfolding(sentry_members::specs::Written::written))]
+    fn to_tree(value: &Uuid, alloc: Global) -> Result<Value, AllocError> {
+        let mut buffer = [0; 36];
+        Value::try_from_str(alloc, value.hyphenated().encode_lower(&mut buffer))
+    }
+
+    #[tactic(auto, using(crate::proofs::UuidsWritten::hyphenated_wrote))]
+    fn write(value: &Uuid, out: &mut Writer) -> Result<(), AllocError> {
+        let mut buffer = [0; 36];
+        out.string(value.hyphenated().encode_lower(&mut buffer))
+    }
+
+    fn copy(value: &Uuid) -> Result<Uuid, AllocError> {
+        Ok(*value)
+    }
+
+    fn is_plain(value: &Uuid) -> bool {
+        are_bytes(value.as_bytes());
+        true
+    }
+}
+
+impl Codec<Uuid> for Simple {
+    ghost kind = { simple_kind };
+
+    ghost cell_of = { octets };
+
+    #[tactic(auto, unfolding(sentry_members::specs::Written::written))]
+    fn to_tree(value: &Uuid, alloc: Global) -> Result<Value, AllocError> {
+        let mut buffer = [0; 32];
+        Value::try_from_str(alloc, value.simple().encode_lower(&mut buffer))
+    }
+
+    #[tactic(auto, using(crate::proofs::UuidsWritten::simple_wrote))]
+    fn write(value: &Uuid, out: &mut Writer) -> Result<(), AllocError> {
+        let mut buffer = [0; 32];
+        out.string(value.simple().encode_lower(&mut buffer))
+    }
+
+    fn copy(value: &Uuid) -> Result<Uuid, AllocError> {
+        Ok(*value)
+    }
+
+    fn is_plain(value: &Uuid) -> bool {
+        are_bytes(value.as_bytes());
+        true
+    }
+}
+
+/// The UUID of a tree that is a text in one of the four forms.
+fn read_uuid(tree: &Value) -> Result<Uuid, TreeError>
+    ensures { (to_text : Cell → List ℕ) → Reads (uuid_kind to_text) octets (view tree.now) result }
+{
+    match tree.as_str() {
+        Some(text) => match Uuid::parse_str(text) {
+            Ok(id) => Ok(id),
+            Err(_) => Err(TreeError::Misfit),
+        },
+        None => Err(TreeError::Misfit),
+    }
+}
+
+impl ReadCodec<Uuid> for Hyphenated {
+    fn from_tree(_alloc: Global, tree: &Value) -> Result<Uuid, TreeError> {
+        read_uuid(tree)
+    }
+}
+
+impl ReadCodec<Uuid> for Simple {
+    fn from_tree(_alloc: Global, tree: &Value) -> Result<Uuid, TreeError> {
+        read_uuid(tree)
+    }
+}
+
+impl Drawn<Uuid> for Hyphenated {
+    ghost IsDrawn = { IsRandomUuid };
+
+    fn random<R: Rng>(ids: &mut R) -> Uuid
+        ensures any { IsRandomUuid (octets result) }
+        ensures next { (result, R.stream ids.new) ≡ v4_of_fill (fill_bytes 16 (R.stream ids.old)) }
+    {
+        random_uuid(ids)
+    }
+}
+
+impl Drawn<Uuid> for Simple {
+    ghost IsDrawn = { IsRandomUuid };
+
+    fn random<R: Rng>(ids: &mut R) -> Uuid
+        ensures any { IsRandomUuid (octets result) }
+        ensures next { (result, R.stream ids.new) ≡ v4_of_fill (fill_bytes 16 (R.stream ids.old)) }
+    {
+        <Hyphenated as Drawn<Uuid>>::random(ids)
+    }
+}
+
+/// A random UUID: version 4 of the generator's next sixteen bytes.
+pub fn random_uuid<R: Rng>(ids: &mut R) -> Uuid
+    ensures drawn { (result, R.stream ids.new) ≡ v4_of_fill (fill_bytes 16 (R.stream ids.old)) }
+    ensures random { IsRandomUuid (octets result) }
+{
+    let id = Uuid::new_v4(ids);
+    are_bytes(id.as_bytes());
+    id
+}

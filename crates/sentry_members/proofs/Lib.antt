@@ -1,0 +1,11 @@
+pub mod Collections
+pub mod Equal
+pub mod ListsShown
+pub mod ScalarsShown
+pub mod Single
+pub mod SoundTrees
+pub mod Soundness
+pub mod Spellings
+pub mod Texts
+pub mod Tokens
+pub mod ValuesShown

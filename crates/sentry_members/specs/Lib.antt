@@ -1,0 +1,6 @@
+pub mod Cells
+pub mod Continued
+pub mod Kinds
+pub mod Reading
+pub mod Spelling
+pub mod Written

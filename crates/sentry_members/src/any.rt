@@ -1,0 +1,98 @@
+//! Trees of JSON as members.
+
+ghost use Rattle.std.specs.Prelude.{◌≡◌, ◌↔◌, IfOk, IsTrue, OnOk};
+ghost use Rattle.serde_json.specs.Data.{number as number_data};
+ghost use Rattle.serde_json.specs.View.{view, items_view, members_view, number_view};
+ghost use Rattle.sentry_members.specs.Cells.{tree_cell};
+ghost use Rattle.sentry_members.specs.Kinds.{any_kind};
+ghost use Rattle.sentry_members.specs.Written.{WritesTree, WritesItems, WritesMembers};
+
+use crate::member::Member;
+use crate::tree::has_float;
+use json::Writer;
+use serde_json::{Map, Number, Value};
+use std::alloc::{AllocError, Global};
+
+impl Member for Value {
+    ghost kind = { any_kind };
+
+    ghost cell_of = { tree_cell };
+
+    #[tactic(auto, unfolding(crate::specs::Written::written))]
+    fn to_tree(&self, _alloc: Global) -> Result<Value, AllocError> {
+        self.clone()
+    }
+
+    #[tactic(auto, unfolding(crate::specs::Written::written))]
+    fn write(&self, out: &mut Writer) -> Result<(), AllocError> {
+        write_value(self, out)
+    }
+
+    fn copy(&self) -> Result<Value, AllocError> {
+        self.clone()
+    }
+
+    #[tactic(auto, using(crate::proofs::SoundTrees::sound_is_stored))]
+    fn is_plain(&self) -> bool {
+        !has_float(self)
+    }
+}
+
+/// Writes the text of a tree. It fails where memory runs out, with a part of the text written.
+#[cycle(write_value)]
+pub fn write_value(value: &Value, out: &mut Writer) -> Result<(), AllocError>
+    ensures { OnOk result (WritesTree (view value.now) out.old out.new) }
+{
+    match value {
+        Value::Null => out.null(),
+        Value::Bool(truth) => out.boolean(*truth),
+        Value::Number(number) => write_number(number, out),
+        Value::String(text) => out.string(text.as_str()),
+        Value::Array(items) => {
+            out.begin_array()?;
+            write_items(items, out)?;
+            out.end_array()
+        }
+        Value::Object(members) => {
+            out.begin_object()?;
+            write_members(members, out)?;
+            out.end_object()
+        }
+    }
+}
+
+#[cycle(write_value)]
+fn write_items(items: &Vec<Value>, out: &mut Writer) -> Result<(), AllocError>
+    ensures { OnOk result (WritesItems (items_view items.now.items) out.old out.new) }
+{
+    for item in items {
+        write_value(item, out)?;
+    }
+    Ok(())
+}
+
+#[cycle(write_value)]
+fn write_members(members: &Map<String, Value>, out: &mut Writer) -> Result<(), AllocError>
+    ensures { OnOk result (WritesMembers (members_view members.now.entries) out.old out.new) }
+{
+    for (key, member) in members.iter() {
+        out.key(key.as_str())?;
+        write_value(member, out)?;
+    }
+    Ok(())
+}
+
+fn write_number(number: &Number, out: &mut Writer) -> Result<(), AllocError>
+    ensures { OnOk result (WritesTree (number_data (number_view number.now)) out.old out.new) }
+{
+    if let Some(natural) = number.as_u64() {
+        return out.u64(natural);
+    }
+    if let Some(whole) = number.as_i64() {
+        return out.i64(whole);
+    }
+    match number.as_f64() {
+        Some(float) if float.is_finite() => out.float_with_plus(float),
+        _ => out.null(),
+    }
+}

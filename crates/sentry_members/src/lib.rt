@@ -1,0 +1,31 @@
+//! What rows of tables hold, read and written.
+//!
+//! A type with a form as a tree is a [`Member`]; [`codec`] names the forms of values whose Rust type
+//! does not fix one, and [`spelled`] is of values that stand in a tree as texts. [`read`] says which
+//! types are read from trees. [`line`] reads a value from a line of text, and [`text`] writes one.
+#![tactic(auto)]
+
+pub mod any;
+pub mod codec;
+pub mod error;
+pub mod leaves;
+pub mod line;
+pub mod lists;
+pub mod member;
+pub mod read;
+pub mod spelled;
+pub mod text;
+pub mod tree;
+
+pub use codec::{Codec, Own};
+pub use error::TreeError;
+pub use line::{read_line, read_tree, whole};
+pub use member::Member;
+pub use read::{FromTree, ReadCodec};
+pub use spelled::{Room, Spelled};
+pub use text::{text_of, write_text};
+
+#[cfg(test)]
+mod read_tests;
+#[cfg(test)]
+mod write_tests;

@@ -1,0 +1,225 @@
+//! Reading what a row of a table holds.
+
+ghost use Rattle.std.specs.Prelude.{◌≡◌, ◌^◌, option_map, option_and_then};
+ghost use Rattle.serde_json.specs.Find.{as_number};
+ghost use Rattle.serde_json.specs.View.{view, items_view};
+ghost use Rattle.sentry_tables.specs.Basic.{signed_at, pair_of};
+ghost use Rattle.sentry_tables.specs.Cell.{whole};
+ghost use Rattle.sentry_tables.specs.Kind.{values as values_kind};
+ghost use Rattle.sentry_members.specs.Cells.{pair_cell, list_cell};
+ghost use Rattle.sentry_members.specs.Reading.{Reads};
+
+use crate::codec::{Codec, Own};
+use crate::error::TreeError;
+use crate::member::Member;
+use serde_json::{Map, Value};
+use std::alloc::Global;
+use std::borrow::CowStr;
+
+/// A type whose values are shown by a tree alone.
+pub trait FromTree: Member {
+    /// The value that a tree shows.
+    ///
+    /// Fails with `Misfit` where the tree shows none, and with `Memory` where memory is refused.
+    fn from_tree(alloc: Global, tree: &Value) -> Result<Self, TreeError>
+        ensures { Reads Self.kind Self.cell_of (view tree.now) result };
+}
+
+/// A form whose values are shown by a tree alone.
+pub trait ReadCodec<T>: Codec<T> {
+    /// The value that a tree shows.
+    ///
+    /// Fails with `Misfit` where the tree shows none, and with `Memory` where memory is refused.
+    fn from_tree(alloc: Global, tree: &Value) -> Result<T, TreeError>
+        ensures { Reads Self.kind Self.cell_of (view tree.now) result };
+}
+
+impl<T: FromTree> ReadCodec<T> for Own {
+    fn from_tree(alloc: Global, tree: &Value) -> Result<T, TreeError> {
+        T::from_tree(alloc, tree)
+    }
+}
+
+impl FromTree for String {
+    #[tactic(auto, using(crate::proofs::ScalarsShown::text_refused, crate::proofs::ScalarsShown::text_shown))]
+    fn from_tree(alloc: Global, tree: &Value) -> Result<String, TreeError> {
+        match tree.as_str() {
+            Some(text) => Ok(String::from_str(alloc, text)?),
+            None => Err(TreeError::Misfit),
+        }
+    }
+}
+
+impl<'a> FromTree for CowStr<'a> {
+    #[tactic(auto, using(crate::proofs::ScalarsShown::text_refused, crate::proofs::ScalarsShown::text_shown))]
+    fn from_tree(alloc: Global, tree: &Value) -> Result<CowStr<'a>, TreeError> {
+        match tree.as_str() {
+            Some(text) => Ok(CowStr::Owned(String::from_str(alloc, text)?)),
+            None => Err(TreeError::Misfit),
+        }
+    }
+}
+
+impl FromTree for bool {
+    #[tactic(auto, using(crate::proofs::ScalarsShown::truth_refused, crate::proofs::ScalarsShown::truth_shown))]
+    fn from_tree(_alloc: Global, tree: &Value) -> Result<bool, TreeError> {
+        match tree.as_bool() {
+            Some(truth) => Ok(truth),
+            None => Err(TreeError::Misfit),
+        }
+    }
+}
+
+impl FromTree for u8 {
+    fn from_tree(_alloc: Global, tree: &Value) -> Result<u8, TreeError> {
+        match tree.as_u64() {
+            Some(number) => match u8::try_from(number) {
+                Ok(number) => Ok(number),
+                Err(_) => Err(TreeError::Misfit),
+            },
+            None => Err(TreeError::Misfit),
+        }
+    }
+}
+
+impl FromTree for u16 {
+    fn from_tree(_alloc: Global, tree: &Value) -> Result<u16, TreeError> {
+        match tree.as_u64() {
+            Some(number) => match u16::try_from(number) {
+                Ok(number) => Ok(number),
+                Err(_) => Err(TreeError::Misfit),
+            },
+            None => Err(TreeError::Misfit),
+        }
+    }
+}
+
+impl FromTree for u32 {
+    fn from_tree(_alloc: Global, tree: &Value) -> Result<u32, TreeError> {
+        match tree.as_u64() {
+            Some(number) => match u32::try_from(number) {
+                Ok(number) => Ok(number),
+                Err(_) => Err(TreeError::Misfit),
+            },
+            None => Err(TreeError::Misfit),
+        }
+    }
+}
+
+impl FromTree for u64 {
+    fn from_tree(_alloc: Global, tree: &Value) -> Result<u64, TreeError> {
+        match tree.as_u64() {
+            Some(natural) => Ok(natural),
+            None => Err(TreeError::Misfit),
+        }
+    }
+}
+
+/// The whole number of a tree, if it is one that 64 bits hold with its sign.
+fn signed(tree: &Value) -> Option<i64>
+    ensures { option_map whole result
+        ≡ option_and_then (signed_at (2 ^ 63)) (as_number (view tree.now)) }
+{
+    match tree.as_number() {
+        Some(number) => number.as_i64(),
+        None => None,
+    }
+}
+
+impl FromTree for i32 {
+    fn from_tree(_alloc: Global, tree: &Value) -> Result<i32, TreeError> {
+        match signed(tree) {
+            Some(number) => match i32::try_from(number) {
+                Ok(number) => Ok(number),
+                Err(_) => Err(TreeError::Misfit),
+            },
+            None => Err(TreeError::Misfit),
+        }
+    }
+}
+
+impl FromTree for i64 {
+    fn from_tree(_alloc: Global, tree: &Value) -> Result<i64, TreeError> {
+        match signed(tree) {
+            Some(number) => Ok(number),
+            None => Err(TreeError::Misfit),
+        }
+    }
+}
+
+impl FromTree for Value {
+    #[tactic(auto, using(crate::proofs::ScalarsShown::any_shown))]
+    fn from_tree(_alloc: Global, tree: &Value) -> Result<Value, TreeError> {
+        Ok(tree.clone()?)
+    }
+}
+
+/// The whole numbers of a list of exactly two.
+fn two_numbers(items: &[Value]) -> Option<(u64, u64)>
+    ensures { option_map pair_cell result ≡ pair_of (items_view items.now) }
+{
+    let (first, after) = items.split_first()?;
+    let (second, more) = after.split_first()?;
+    match more.split_first() {
+        None => Some((first.as_u64()?, second.as_u64()?)),
+        Some(_) => None,
+    }
+}
+
+impl FromTree for (u64, u64) {
+    #[tactic(auto, using(crate::proofs::ScalarsShown::no_pair, crate::proofs::ScalarsShown::pair_refused, crate::proofs::ScalarsShown::pair_shown))]
+    fn from_tree(_alloc: Global, tree: &Value) -> Result<(u64, u64), TreeError> {
+        match tree.as_array() {
+            Some(items) => match two_numbers(items) {
+                Some(pair) => Ok(pair),
+                None => Err(TreeError::Misfit),
+            },
+            None => Err(TreeError::Misfit),
+        }
+    }
+}
+
+impl<T: FromTree> FromTree for Vec<T> {
+    fn from_tree(alloc: Global, tree: &Value) -> Result<Vec<T>, TreeError> {
+        let items = match tree.as_array() {
+            Some(items) => items,
+            None => return Err(TreeError::Misfit),
+        };
+        let mut list = Vec::with_capacity(alloc, items.len())?;
+        for item in items {
+            list.push(T::from_tree(alloc, item)?)?;
+        }
+        Ok(list)
+    }
+}
+
+impl<T: FromTree> FromTree for Map<String, T> {
+    fn from_tree(alloc: Global, tree: &Value) -> Result<Map<String, T>, TreeError> {
+        let members = match tree.as_object() {
+            Some(members) => members,
+            None => return Err(TreeError::Misfit),
+        };
+        let mut map = Map::new(alloc);
+        for (key, member) in members.iter() {
+            let name = key.clone()?;
+            drop(map.insert(name, T::from_tree(alloc, member)?)?);
+        }
+        Ok(map)
+    }
+}
+
+/// The list that a tree shows as a bare array, or as an object's array at the key `values`.
+///
+/// Fails with `Misfit` where the tree shows none, and with `Memory` where memory is refused.
+#[tactic(auto, using(crate::proofs::ValuesShown::bare_read, crate::proofs::ValuesShown::no_values))]
+pub fn read_values<T: FromTree>(alloc: Global, tree: &Value) -> Result<Vec<T>, TreeError>
+    ensures { Reads (values_kind T.kind) (λ v. list_cell T.cell_of v.items) (view tree.now) result }
+{
+    if tree.is_array() {
+        return FromTree::from_tree(alloc, tree);
+    }
+    match tree.get("values") {
+        Some(list) => FromTree::from_tree(alloc, list),
+        None => Err(TreeError::Misfit),
+    }
+}

@@ -1,0 +1,5 @@
+pub mod Bounds
+pub mod NumberTexts
+pub mod ProjectTrees
+pub mod SeverityLaws
+pub mod ValueTexts

@@ -1,0 +1,4 @@
+pub mod Number
+pub mod ProjectId
+pub mod ProjectTree
+pub mod Severity

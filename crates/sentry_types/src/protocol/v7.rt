@@ -1,0 +1,55 @@
+//! Version 7 of the Sentry protocol: envelopes and their items, and the small texts in them.
+
+// Envelopes: their header, items and filters.
+pub use sentry_envelope::{
+    AddRefused, CountedReader, CountedWriter, Envelope, EnvelopeError, EnvelopeFilter,
+    EnvelopeFilterCallbacks, EnvelopeHeaders, EnvelopeItemIter, EnvelopeWriteError, Frames,
+    IntoItems, ItemFrame,
+};
+pub use sentry_framing::{ItemHeader, ItemKind, read_item_header};
+pub use sentry_items::{
+    Attachment, AttachmentType, AttachmentWriteError, EnvelopeItem, ReplayRecording,
+};
+pub use sentry_parts::{ClientSdkInfo, ClientSdkPackage};
+pub use sentry_rows::Values;
+
+// Small texts.
+pub use sentry_text::{
+    Addr, CrontabParseError, Decimal, DecimalError, InvalidSampleRandError, IpAddress, Level,
+    LogLevel, LogSeverityNumber, MetricType, Moment, MonitorCheckInStatus, MonitorIntervalUnit,
+    OrganizationId, Orientation, ParseIpError, ParseLevelError, ParseSessionStatusError,
+    ParseStatusError, RegVal, SampleRand, SampleRate, SessionStatus, SeverityOutOfRange, SpanId,
+    SpanStatus, TraceId, Unit, validate,
+};
+pub use url::Url;
+pub use uuid::Uuid;
+
+// Types as trees of JSON: the traits of their calls, and the forms of those that have several.
+pub use sentry_text::{
+    Codec, Drawn, FromTree, FromTreeAt, Hyphenated, IpText, Member, OrganizationText, Own,
+    ReadCodec, Rfc3339, Sampled, Seconds, Simple, TreeError, whole,
+};
+
+// Trees of JSON, and maps.
+pub use self::map::Map;
+pub use self::value::Value;
+
+/// What is lost with items that are taken out.
+pub mod client_report {
+    pub use sentry_items::{Category, ItemLoss, ItemLossIter, LossSlice, LossSource, Reason};
+}
+
+/// Trees of JSON.
+pub mod value {
+    pub use serde_json::{Map, Number, Value};
+}
+
+/// Maps from names.
+pub mod map {
+    pub use std::collections::BTreeMap as Map;
+}
+
+/// Ids of debug files and of code.
+pub mod debugid {
+    pub use sentry_text::{CodeId, DebugId, ParseDebugIdError};
+}

@@ -1,0 +1,7 @@
+//! Units of metrics: their names, and the texts that spell them.
+#![tactic(auto)]
+
+pub mod laws;
+mod unit;
+
+pub use unit::Unit;

@@ -1,0 +1,459 @@
+//! Units of metrics.
+
+ghost use Rattle.std.specs.Prelude.{◌≡◌, IfOk, option_map, string_bytes};
+ghost use Rattle.std.specs.Cow.{cow_str_bytes};
+ghost use Rattle.sentry_units.specs.Units.{times, sizes, binary_sizes, shares, units, found, unit_cell, unit_of, unit_text, unit_spelling};
+
+use sentry_members::{Room, Spelled, TreeError};
+use std::alloc::{AllocError, Global};
+use std::borrow::CowStr;
+
+/// A unit of a metric.
+///
+/// These are the units that Sentry knows:
+/// <https://develop.sentry.dev/sdk/foundations/state-management/scopes/attributes/#units>. Any other
+/// text is a unit too. A known unit is read from its name in lower case, also with a capital and,
+/// but for the shares, with an `s`, and from its symbol. Two units are equal where they are the same
+/// variant with the same text, so that `Other` of `ms` isn't `Millisecond`, though it is read back as that.
+#[derive(Debug, Drop, PartialEq)]
+pub enum Unit {
+    Nanosecond,
+    Microsecond,
+    Millisecond,
+    Second,
+    Minute,
+    Hour,
+    Day,
+    Week,
+    Bit,
+    Byte,
+    Kilobyte,
+    Kibibyte,
+    Megabyte,
+    Mebibyte,
+    Gigabyte,
+    Gibibyte,
+    Terabyte,
+    Tebibyte,
+    Petabyte,
+    Pebibyte,
+    Exabyte,
+    Exbibyte,
+    Ratio,
+    Percent,
+    /// Any other unit, by its text.
+    Other(CowStr<'static>),
+}
+
+impl Unit {
+    // The unit of time that a text spells.
+    #[tactic(auto, unfolding(crate::specs::Units::times))]
+    fn time(text: &str) -> Option<Unit>
+        ensures { option_map unit_cell result ≡ found times text.now }
+    {
+        match text {
+            "nanosecond" | "Nanosecond" | "nanoseconds" | "Nanoseconds" | "ns" => Some(
+                Unit::Nanosecond,
+            ),
+            "microsecond" | "Microsecond" | "microseconds" | "Microseconds" | "μs" | "µs" => Some(
+                Unit::Microsecond,
+            ),
+            "millisecond" | "Millisecond" | "milliseconds" | "Milliseconds" | "ms" => Some(
+                Unit::Millisecond,
+            ),
+            "second" | "Second" | "seconds" | "Seconds" | "s" => Some(Unit::Second),
+            "minute" | "Minute" | "minutes" | "Minutes" | "min" => Some(Unit::Minute),
+            "hour" | "Hour" | "hours" | "Hours" | "h" => Some(Unit::Hour),
+            "day" | "Day" | "days" | "Days" | "d" => Some(Unit::Day),
+            "week" | "Week" | "weeks" | "Weeks" => Some(Unit::Week),
+            _ => None,
+        }
+    }
+
+    // The bit, the byte, or the size by powers of 1000 that a text spells.
+    #[tactic(auto, unfolding(crate::specs::Units::sizes))]
+    fn size(text: &str) -> Option<Unit>
+        ensures { option_map unit_cell result ≡ found sizes text.now }
+    {
+        match text {
+            "bit" | "Bit" | "bits" | "Bits" | "b" => Some(Unit::Bit),
+            "byte" | "Byte" | "bytes" | "Bytes" | "B" => Some(Unit::Byte),
+            "kilobyte" | "Kilobyte" | "kilobytes" | "Kilobytes" | "kB" => Some(Unit::Kilobyte),
+            "megabyte" | "Megabyte" | "megabytes" | "Megabytes" | "MB" => Some(Unit::Megabyte),
+            "gigabyte" | "Gigabyte" | "gigabytes" | "Gigabytes" | "GB" => Some(Unit::Gigabyte),
+            "terabyte" | "Terabyte" | "terabytes" | "Terabytes" | "TB" => Some(Unit::Terabyte),
+            "petabyte" | "Petabyte" | "petabytes" | "Petabytes" | "PB" => Some(Unit::Petabyte),
+            "exabyte" | "Exabyte" | "exabytes" | "Exabytes" | "EB" => Some(Unit::Exabyte),
+            _ => None,
+        }
+    }
+
+    // The size by powers of 1024 that a text spells.
+    #[tactic(auto, unfolding(crate::specs::Units::binary_sizes))]
+    fn binary_size(text: &str) -> Option<Unit>
+        ensures { option_map unit_cell result ≡ found binary_sizes text.now }
+    {
+        match text {
+            "kibibyte" | "Kibibyte" | "kibibytes" | "Kibibytes" | "KiB" => Some(Unit::Kibibyte),
+            "mebibyte" | "Mebibyte" | "mebibytes" | "Mebibytes" | "MiB" => Some(Unit::Mebibyte),
+            "gibibyte" | "Gibibyte" | "gibibytes" | "Gibibytes" | "GiB" => Some(Unit::Gibibyte),
+            "tebibyte" | "Tebibyte" | "tebibytes" | "Tebibytes" | "TiB" => Some(Unit::Tebibyte),
+            "pebibyte" | "Pebibyte" | "pebibytes" | "Pebibytes" | "PiB" => Some(Unit::Pebibyte),
+            "exbibyte" | "Exbibyte" | "exbibytes" | "Exbibytes" | "EiB" => Some(Unit::Exbibyte),
+            _ => None,
+        }
+    }
+
+    // The share that a text spells.
+    #[tactic(auto, unfolding(crate::specs::Units::shares))]
+    fn share(text: &str) -> Option<Unit>
+        ensures { option_map unit_cell result ≡ found shares text.now }
+    {
+        match text {
+            "ratio" | "Ratio" => Some(Unit::Ratio),
+            "percent" | "Percent" | "%" => Some(Unit::Percent),
+            _ => None,
+        }
+    }
+
+    // The unit of the table that a text spells.
+    fn known(text: &str) -> Option<Unit>
+        ensures { option_map unit_cell result ≡ found units text.now }
+    {
+        if let Some(unit) = Unit::time(text) {
+            return Some(unit);
+        }
+        if let Some(unit) = Unit::size(text) {
+            return Some(unit);
+        }
+        if let Some(unit) = Unit::binary_size(text) {
+            return Some(unit);
+        }
+        Unit::share(text)
+    }
+
+    /// The text that is written: a known unit's name in lower case, or the text of `Other`.
+    pub fn as_str(&self) -> &str
+        ensures { result.now ≡ unit_text (unit_cell self.now) }
+    {
+        match self {
+            Unit::Nanosecond => "nanosecond",
+            Unit::Microsecond => "microsecond",
+            Unit::Millisecond => "millisecond",
+            Unit::Second => "second",
+            Unit::Minute => "minute",
+            Unit::Hour => "hour",
+            Unit::Day => "day",
+            Unit::Week => "week",
+            Unit::Bit => "bit",
+            Unit::Byte => "byte",
+            Unit::Kilobyte => "kilobyte",
+            Unit::Kibibyte => "kibibyte",
+            Unit::Megabyte => "megabyte",
+            Unit::Mebibyte => "mebibyte",
+            Unit::Gigabyte => "gigabyte",
+            Unit::Gibibyte => "gibibyte",
+            Unit::Terabyte => "terabyte",
+            Unit::Tebibyte => "tebibyte",
+            Unit::Petabyte => "petabyte",
+            Unit::Pebibyte => "pebibyte",
+            Unit::Exabyte => "exabyte",
+            Unit::Exbibyte => "exbibyte",
+            Unit::Ratio => "ratio",
+            Unit::Percent => "percent",
+            Unit::Other(text) => text.as_str(),
+        }
+    }
+
+    /// A copy of the unit.
+    ///
+    /// # Errors
+    ///
+    /// `AllocError` where there is no memory for the text of `Other`.
+    pub fn clone(&self) -> Result<Unit, AllocError>
+        ensures { IfOk result (λ unit. unit_cell unit ≡ unit_cell self.now) }
+    {
+        Ok(match self {
+            Unit::Nanosecond => Unit::Nanosecond,
+            Unit::Microsecond => Unit::Microsecond,
+            Unit::Millisecond => Unit::Millisecond,
+            Unit::Second => Unit::Second,
+            Unit::Minute => Unit::Minute,
+            Unit::Hour => Unit::Hour,
+            Unit::Day => Unit::Day,
+            Unit::Week => Unit::Week,
+            Unit::Bit => Unit::Bit,
+            Unit::Byte => Unit::Byte,
+            Unit::Kilobyte => Unit::Kilobyte,
+            Unit::Kibibyte => Unit::Kibibyte,
+            Unit::Megabyte => Unit::Megabyte,
+            Unit::Mebibyte => Unit::Mebibyte,
+            Unit::Gigabyte => Unit::Gigabyte,
+            Unit::Gibibyte => Unit::Gibibyte,
+            Unit::Terabyte => Unit::Terabyte,
+            Unit::Tebibyte => Unit::Tebibyte,
+            Unit::Petabyte => Unit::Petabyte,
+            Unit::Pebibyte => Unit::Pebibyte,
+            Unit::Exabyte => Unit::Exabyte,
+            Unit::Exbibyte => Unit::Exbibyte,
+            Unit::Ratio => Unit::Ratio,
+            Unit::Percent => Unit::Percent,
+            Unit::Other(text) => Unit::Other(text.clone()?),
+        })
+    }
+}
+
+/// The unit that the text spells, or `Other` of the text.
+impl From<CowStr<'static>> for Unit {
+    // the unit that the text spells, or `Other` of the text
+    ghost from_gives = { λ text unit. unit_cell unit ≡ unit_of (cow_str_bytes text) };
+
+    fn from(text: CowStr<'static>) -> Unit {
+        match Unit::known(text.as_str()) {
+            Some(unit) => unit,
+            None => Unit::Other(text),
+        }
+    }
+}
+
+impl From<&'static str> for Unit {
+    ghost from_gives = { λ text unit. unit_cell unit ≡ unit_of text.now };
+
+    fn from(text: &'static str) -> Unit {
+        Unit::from(CowStr::Borrowed(text))
+    }
+}
+
+impl From<String> for Unit {
+    ghost from_gives = { λ text unit. unit_cell unit ≡ unit_of (string_bytes text) };
+
+    fn from(text: String) -> Unit {
+        Unit::from(CowStr::Owned(text))
+    }
+}
+
+impl Spelled for Unit {
+    ghost spelling = { unit_spelling };
+
+    ghost cell_of = { unit_cell };
+
+    fn of_text(alloc: Global, text: &str) -> Result<Unit, TreeError> {
+        match Unit::known(text) {
+            Some(unit) => Ok(unit),
+            None => Ok(Unit::Other(CowStr::Owned(String::from_str(alloc, text)?))),
+        }
+    }
+
+    fn text<'a>(&'a self, _room: &'a mut Room) -> Result<&'a str, AllocError> {
+        Ok(self.as_str())
+    }
+
+    fn copied(&self) -> Result<Unit, AllocError> {
+        self.clone()
+    }
+
+    #[tactic(auto, using(crate::proofs::UnitLaws::unit_stored))]
+    fn hold(&self) {
+        let _text = self.as_str();
+    }
+}
+
+#[cfg(test)]
+mod tests {
+    use super::*;
+    use sentry_members::{read_line, text_of};
+    use std::test::Fail;
+
+    // Whether the unit is written as this name, and each of the spellings, with spaces between, is read as the unit.
+    fn is_spelled(unit: &Unit, name: &str, spellings: &'static str) -> bool {
+        for text in spellings.split(' ') {
+            if Unit::from(text) != *unit {
+                return false;
+            }
+        }
+        unit.as_str() == name
+    }
+
+    #[test]
+    fn times_spelled(rt: HostRuntime) {
+        assert!(rt;
+            is_spelled(
+                &Unit::Nanosecond,
+                "nanosecond",
+                "nanosecond Nanosecond nanoseconds Nanoseconds ns"
+            )
+        );
+        assert!(rt;
+            is_spelled(
+                &Unit::Microsecond,
+                "microsecond",
+                "microsecond Microsecond microseconds Microseconds μs µs"
+            )
+        );
+        assert!(rt;
+            is_spelled(
+                &Unit::Millisecond,
+                "millisecond",
+                "millisecond Millisecond milliseconds Milliseconds ms"
+            )
+        );
+        assert!(rt; is_spelled(&Unit::Second, "second", "second Second seconds Seconds s"));
+        assert!(rt; is_spelled(&Unit::Minute, "minute", "minute Minute minutes Minutes min"));
+        assert!(rt; is_spelled(&Unit::Hour, "hour", "hour Hour hours Hours h"));
+        assert!(rt; is_spelled(&Unit::Day, "day", "day Day days Days d"));
+        assert!(rt; is_spelled(&Unit::Week, "week", "week Week weeks Weeks"));
+    }
+
+    #[test]
+    fn sizes_spelled(rt: HostRuntime) {
+        assert!(rt; is_spelled(&Unit::Bit, "bit", "bit Bit bits Bits b"));
+        assert!(rt; is_spelled(&Unit::Byte, "byte", "byte Byte bytes Bytes B"));
+        assert!(rt;
+            is_spelled(
+                &Unit::Kilobyte,
+                "kilobyte",
+                "kilobyte Kilobyte kilobytes Kilobytes kB"
+            )
+        );
+        assert!(rt;
+            is_spelled(
+                &Unit::Megabyte,
+                "megabyte",
+                "megabyte Megabyte megabytes Megabytes MB"
+            )
+        );
+        assert!(rt;
+            is_spelled(
+                &Unit::Gigabyte,
+                "gigabyte",
+                "gigabyte Gigabyte gigabytes Gigabytes GB"
+            )
+        );
+        assert!(rt;
+            is_spelled(
+                &Unit::Terabyte,
+                "terabyte",
+                "terabyte Terabyte terabytes Terabytes TB"
+            )
+        );
+        assert!(rt;
+            is_spelled(
+                &Unit::Petabyte,
+                "petabyte",
+                "petabyte Petabyte petabytes Petabytes PB"
+            )
+        );
+        assert!(rt;
+            is_spelled(
+                &Unit::Exabyte,
+                "exabyte",
+                "exabyte Exabyte exabytes Exabytes EB"
+            )
+        );
+    }
+
+    #[test]
+    fn binary_sizes_spelled(rt: HostRuntime) {
+        assert!(rt;
+            is_spelled(
+                &Unit::Kibibyte,
+                "kibibyte",
+                "kibibyte Kibibyte kibibytes Kibibytes KiB"
+            )
+        );
+        assert!(rt;
+            is_spelled(
+                &Unit::Mebibyte,
+                "mebibyte",
+                "mebibyte Mebibyte mebibytes Mebibytes MiB"
+            )
+        );
+        assert!(rt;
+            is_spelled(
+                &Unit::Gibibyte,
+                "gibibyte",
+                "gibibyte Gibibyte gibibytes Gibibytes GiB"
+            )
+        );
+        assert!(rt;
+            is_spelled(
+                &Unit::Tebibyte,
+                "tebibyte",
+                "tebibyte Tebibyte tebibytes Tebibytes TiB"
+            )
+        );
+        assert!(rt;
+            is_spelled(
+                &Unit::Pebibyte,
+                "pebibyte",
+                "pebibyte Pebibyte pebibytes Pebibytes PiB"
+            )
+        );
+        assert!(rt;
+            is_spelled(
+                &Unit::Exbibyte,
+                "exbibyte",
+                "exbibyte Exbibyte exbibytes Exbibytes EiB"
+            )
+        );
+    }
+
+    #[test]
+    fn shares_spelled(rt: HostRuntime) {
+        assert!(rt; is_spelled(&Unit::Ratio, "ratio", "ratio Ratio"));
+        assert!(rt; is_spelled(&Unit::Percent, "percent", "percent Percent %"));
+    }
+
+    // Whether the text is kept as it is.
+    fn is_kept(text: &'static str) -> bool {
+        let unit = Unit::from(text);
+        unit == Unit::Other(CowStr::Borrowed(text)) && unit.as_str() == text
+    }
+
+    #[test]
+    fn other_texts(rt: HostRuntime) {
+        for text in [
+            "", " ms", "MS", "kb", "KB", "Kib", "ratios", "weekss", "Min", "HOUR", "banana",
+        ] {
+            assert!(rt; is_kept(text), "{text}");
+        }
+        assert!(rt; is_kept("μ"));
+    }
+
+    #[test]
+    fn owned_texts(rt: HostRuntime) -> Result<(), Fail> {
+        let alloc = rt.alloc();
+        assert_eq!(rt; Unit::from(String::from_str(alloc, "weeks")?), Unit::Week);
+        assert_eq!(rt;
+            Unit::from(String::from_str(alloc, "fortnights")?).as_str(),
+            "fortnights"
+        );
+        Ok(())
+    }
+
+    #[test]
+    fn other_of_a_known_text(rt: HostRuntime) -> Result<(), Fail> {
+        let alloc = rt.alloc();
+        let unit = Unit::Other(CowStr::Borrowed("ms"));
+        assert!(rt; unit != Unit::Millisecond);
+        assert!(rt; unit.clone()? == unit);
+        let line = String::from_utf8(text_of(alloc, &unit)?)?;
+        assert_eq!(rt; line.as_str(), "\"ms\"");
+        let read = read_line::<Unit>(alloc, line.as_bytes())?;
+        assert!(rt; read == Unit::Millisecond);
+        let line = String::from_utf8(text_of(alloc, &read)?)?;
+        assert_eq!(rt; line.as_str(), "\"millisecond\"");
+        Ok(())
+    }
+
+    #[test]
+    fn trees(rt: HostRuntime) -> Result<(), Fail> {
+        let alloc = rt.alloc();
+        assert!(rt; read_line::<Unit>(alloc, b"\"\\u00b5s\"")? == Unit::Microsecond);
+        assert!(rt; read_line::<Unit>(alloc, b"\"B\"")? == Unit::Byte);
+        assert!(rt; read_line::<Unit>(alloc, b"\"banana\"")? == Unit::from("banana"));
+        assert!(rt; read_line::<Unit>(alloc, b"null").is_err());
+        assert!(rt; read_line::<Unit>(alloc, b"1").is_err());
+        Ok(())
+    }
+}

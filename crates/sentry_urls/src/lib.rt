@@ -1,0 +1,10 @@
+//! URLs in trees of JSON.
+#![tactic(auto)]
+
+pub mod laws;
+mod url_text;
+
+pub use url_text::UrlText;
+
+#[cfg(test)]
+mod tests;
