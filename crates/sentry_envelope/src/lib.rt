@@ -23,8 +23,3 @@ pub use items::{EnvelopeItemIter, IntoItems};
 pub use sentry_framing::{EnvelopeError, Frames, ItemFrame};
 pub use sentry_items::counted::{CountedReader, CountedWriter};
 pub use sentry_text::Moment;
-
-#[cfg(test)]
-mod filter_tests;
-#[cfg(test)]
-mod tests;

@@ -1,13 +1,14 @@
 // Bytes that spell envelopes, and bytes that don't.
 use super::{HELLO, ID_LINE, has_attachments, is_rewritten, is_written, read};
-use crate::EnvelopeError::{InvalidHeader, InvalidItemHeader, MissingNewline, UnexpectedEof};
-use crate::{Envelope, EnvelopeError, Moment};
 use rand_pcg::Pcg32;
-use sentry_items::EnvelopeItem;
+use sentry_types::Uuid;
+use sentry_types::protocol::v7::EnvelopeError::{
+    InvalidHeader, InvalidItemHeader, MissingNewline, UnexpectedEof,
+};
+use sentry_types::protocol::v7::{Envelope, EnvelopeError, EnvelopeItem, Moment};
 use std::alloc::Global;
 use std::fs;
 use std::test::Fail;
-use uuid::Uuid;
 
 /// The id in the header, where bytes spell an envelope without items.
 fn id_alone(alloc: Global, bytes: &str) -> Result<Option<Uuid>, Fail> {
@@ -55,6 +56,10 @@ fn payloads(rt: HostRuntime) {
         (
             "{}\n{\"type\":\"attachment\",\"length\":11}\nhelloworld\n",
             "helloworld\n",
+        ),
+        (
+            "{}\n{\"type\":\"attachment\",\"length\":null,\"filename\":null,\"content_type\":null}\na",
+            "a",
         ),
     ] {
         assert!(rt; has_attachments(rt.alloc(), bytes.as_bytes(), &[payload]));
@@ -121,11 +126,18 @@ fn is_refused(alloc: Global, bytes: &str, error: EnvelopeError) -> bool {
 }
 
 #[test]
+fn not_utf8(rt: HostRuntime) {
+    let (alloc, line) = (rt.alloc(), b"{\"x\":\"\xff\"}\n");
+    assert!(rt; matches!(read(alloc, line), Err(InvalidHeader)));
+}
+
+#[test]
 fn refusals(rt: HostRuntime) -> Result<(), Fail> {
     let alloc = rt.alloc();
     for (bytes, error) in [
         ("", InvalidHeader),
         ("{\"x\":1.5}", InvalidHeader),
+        ("{\"zzz\":[{\"a\":1e0}]}", InvalidHeader),
         ("{\"event_id\":\"9ec79c33\"}\n", InvalidHeader),
         ("{}\n\n", UnexpectedEof),
         ("{}\n{\"type\":\"attachment\"}\na\n\n", UnexpectedEof),
@@ -139,11 +151,23 @@ fn refusals(rt: HostRuntime) -> Result<(), Fail> {
         ),
         ("{}\n{\"type\":\"attachment\"}\r\n", MissingNewline),
         (
+            "{}\n{\"type\":\"attachment\",\"length\":1}\nxy",
+            MissingNewline,
+        ),
+        (
             "{}\n{\"type\":\"attachment\",\"length\":9}\nhelloworld",
             MissingNewline,
         ),
         ("{}\n{\"type\":\"att", InvalidItemHeader),
         ("{}\n{\"type\":\"profile\"}", InvalidItemHeader),
+        (
+            "{}\n{\"type\":\"replay_recording\",\"filename\":1}\na",
+            InvalidItemHeader,
+        ),
+        (
+            "{}\n{\"type\":\"attachment\",\"x\":-0}\na",
+            InvalidItemHeader,
+        ),
         (
             "{}\n{\"type\":\"attachment\",\"length\":-1}\nhelloworld",
             InvalidItemHeader,
@@ -162,9 +186,10 @@ fn refusals(rt: HostRuntime) -> Result<(), Fail> {
     Ok(())
 }
 
-/// A header line with an ignored key whose value is so many arrays in one another.
-fn nested(alloc: Global, arrays: u8) -> Result<Vec<u8>, Fail> {
-    let mut bytes = b"{\"x\":".to_vec(alloc)?;
+/// Bytes that end with an ignored key whose value is so many arrays in one another.
+fn nested(alloc: Global, front: &[u8], arrays: u8) -> Result<Vec<u8>, Fail> {
+    let mut bytes = front.to_vec(alloc)?;
+    bytes.extend_from_slice(b"\"x\":")?;
     for _ in 0..arrays {
         bytes.push(b'[')?;
     }
@@ -178,8 +203,16 @@ fn nested(alloc: Global, arrays: u8) -> Result<Vec<u8>, Fail> {
 #[test]
 fn nesting(rt: HostRuntime) -> Result<(), Fail> {
     let alloc = rt.alloc();
-    assert!(rt; read(alloc, &nested(alloc, 126)?).is_ok());
-    assert!(rt; matches!(read(alloc, &nested(alloc, 127)?), Err(InvalidHeader)));
+    let item = b"{}\n{\"type\":\"attachment\",";
+    assert!(rt; read(alloc, &nested(alloc, b"{", 126)?).is_ok());
+    assert!(rt; matches!(read(alloc, &nested(alloc, b"{", 127)?), Err(InvalidHeader)));
+    assert!(rt; read(alloc, &nested(alloc, item, 126)?).is_ok());
+    assert!(rt;
+        matches!(
+            read(alloc, &nested(alloc, item, 127)?),
+            Err(InvalidItemHeader)
+        )
+    );
     Ok(())
 }
 

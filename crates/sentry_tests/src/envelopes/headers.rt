@@ -1,8 +1,7 @@
 // Header lines, and what they are written as.
 use super::{is_rewritten, is_written, read};
-use crate::{Envelope, EnvelopeError, EnvelopeHeaders, Moment};
-use sentry_keys::Dsn;
-use sentry_parts::ClientSdkInfo;
+use sentry_types::Dsn;
+use sentry_types::protocol::v7::{ClientSdkInfo, Envelope, EnvelopeError, EnvelopeHeaders, Moment};
 use std::alloc::{AllocError, Global};
 use std::test::Fail;
 
@@ -40,6 +39,8 @@ fn refused(rt: HostRuntime) {
         "{\"dsn\":1}",
         "{\"sdk\":{\"name\":\"a\"}}",
         "{\"sdk\":[]}",
+        "{\"sdk\":{\"integrations\":null,\"name\":\"a\",\"version\":\"1\"}}",
+        "{\"sdk\":{\"name\":\"a\",\"packages\":null,\"version\":\"1\"}}",
     ] {
         let answer = read(rt.alloc(), line.as_bytes());
         assert!(rt;

@@ -4,7 +4,7 @@ use Rattle.sentry_items.specs.declared.item.EnvelopeItem.{EnvelopeItem}
 use Rattle.sentry_envelope.specs.EnvelopeView.{no_fields}
 use Rattle.sentry_envelope.specs.Filter.{Call, Ask, Hand, item_of_hand, calls, asked_items, Leaves}
 use Rattle.sentry_envelope.proofs.FilterLemmas.{Run-follows}
-use Rattle.sentry_envelope.proofs.filter_tests.count_dropped.Goals as goal
+use Rattle.sentry_tests.proofs.filters.count_dropped.Goals as goal
 
 -- one more at a hand, as far as 64 bits go
 abbrev counted : ℕ × ℕ → Call → ℕ × ℕ

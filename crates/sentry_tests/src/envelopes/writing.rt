@@ -1,6 +1,6 @@
 // Writers that fail.
 use super::{HELLO, ID_LINE, is_written, read};
-use crate::{CountedWriter, Envelope, EnvelopeWriteError};
+use sentry_types::protocol::v7::{CountedWriter, Envelope, EnvelopeWriteError};
 use std::alloc::Global;
 use std::io;
 use std::io::{ErrorKind, Write};

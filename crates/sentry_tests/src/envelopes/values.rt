@@ -1,10 +1,10 @@
 // Envelopes that are put together.
 use super::{HELLO, ID_LINE, hello, is_written, read, recording};
-use crate::{AddRefused, Envelope, EnvelopeHeaders};
-use sentry_items::{EnvelopeItem, ItemLoss, LossSource};
+use sentry_types::Uuid;
+use sentry_types::protocol::v7::client_report::{ItemLoss, LossSource};
+use sentry_types::protocol::v7::{AddRefused, Envelope, EnvelopeHeaders, EnvelopeItem};
 use std::alloc::Global;
 use std::test::Fail;
-use uuid::Uuid;
 
 #[test]
 fn empty(rt: HostRuntime) {

@@ -1,6 +1,6 @@
 // Each beginning of an envelope's bytes.
 use super::{BYTES, has_attachments, read};
-use crate::EnvelopeError;
+use sentry_types::protocol::v7::EnvelopeError;
 use std::test::Fail;
 
 #[test]

@@ -2,7 +2,7 @@ use Rattle.std.proofs.Common.{rules, arith, ◌≡◌, ◌^◌, ◌-◌, ◌≤�
 use Rattle.sentry_items.specs.declared.item.EnvelopeItem.{EnvelopeItem}
 use Rattle.sentry_envelope.specs.Filter.{Call, Ask, Hand, asks, calls}
 use Rattle.sentry_envelope.proofs.FilterLemmas.{Run-follows}
-use Rattle.sentry_envelope.proofs.filter_tests.without_attachments.Goals as goal
+use Rattle.sentry_tests.proofs.filters.without_attachments.Goals as goal
 
 -- one more at an ask, as far as 64 bits go
 abbrev counted : ℕ × ℕ → Call → ℕ × ℕ

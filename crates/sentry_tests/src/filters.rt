@@ -2,14 +2,14 @@ ghost use Rattle.std.specs.Prelude.{◌≡◌, ◌^◌, ◌-◌, List, Bool, min
 ghost use Rattle.sentry_envelope.specs.EnvelopeView.{no_fields};
 ghost use Rattle.sentry_envelope.specs.Filter.{asked_items, chosen, kept, handed, Leaves};
 
-use crate::envelope::{AddRefused, Envelope};
-use crate::filter::{EnvelopeFilter, EnvelopeFilterCallbacks};
-use crate::headers::EnvelopeHeaders;
-use crate::tests::{filtered, recording};
-use sentry_items::{Attachment, EnvelopeItem};
+use crate::envelopes::{filtered, recording};
+use sentry_types::Uuid;
+use sentry_types::protocol::v7::{
+    AddRefused, Attachment, Envelope, EnvelopeFilter, EnvelopeFilterCallbacks, EnvelopeHeaders,
+    EnvelopeItem,
+};
 use std::alloc::{AllocError, Global};
 use std::test::Fail;
-use uuid::Uuid;
 
 /// Answers by a list, and writes down each call.
 #[derive(Drop)]

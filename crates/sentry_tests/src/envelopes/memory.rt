@@ -4,8 +4,9 @@
 // is (`rt try --test --fail-alloc N`), they pass too: the answer is then want of memory, nothing was done, and
 // the next call is answered.
 use super::{BYTES, HELLO, ID_LINE, filtered, read, recording};
-use crate::{CountedWriter, Envelope, EnvelopeError, EnvelopeFilter, EnvelopeWriteError};
-use sentry_items::EnvelopeItem;
+use sentry_types::protocol::v7::{
+    CountedWriter, Envelope, EnvelopeError, EnvelopeFilter, EnvelopeItem, EnvelopeWriteError,
+};
 use std::alloc::Global;
 use std::io;
 use std::io::Write;

@@ -6,9 +6,10 @@ mod reading;
 mod values;
 mod writing;
 
-use crate::{Envelope, EnvelopeError, EnvelopeFilter, Moment};
 use rand_pcg::Pcg32;
-use sentry_items::{Attachment, EnvelopeItem, ReplayRecording};
+use sentry_types::protocol::v7::{
+    Attachment, Envelope, EnvelopeError, EnvelopeFilter, EnvelopeItem, Moment, ReplayRecording,
+};
 use std::alloc::{AllocError, Global};
 
 /// An envelope of 80 bytes: a header line of 47, an item's header of 21, each with a newline after it, and `helloworld`.
