@@ -1,4 +1,4 @@
-ghost use Rattle.std.specs.Prelude.{◌≡◌, ◌++◌, ◌↔◌, ℕ, Bool, false, List, Option, Some, None, IfOk, IfSome, IfNone, MatchOption, option_map, map, string_bytes};
+ghost use Rattle.std.specs.Prelude.{◌≡◌, ◌↔◌, ℕ, Bool, false, List, Option, Some, None, IfOk, IfSome, IfNone, MatchOption, option_map, map, string_bytes};
 ghost use Rattle.sentry_env.specs.declared.kind.Kind.{Kind};
 ghost use Rattle.sentry_env.specs.Args.{IsCall, NameKinds};
 

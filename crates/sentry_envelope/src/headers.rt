@@ -1,6 +1,6 @@
 //! The header of an envelope.
 
-ghost use Rattle.std.specs.Prelude.{◌≡◌, ◌≢◌, ◌⊎◌, ◌↔◌, IfOk, IfErr, IsTrue, OnOk};
+ghost use Rattle.std.specs.Prelude.{◌≡◌, ◌⊎◌, IfOk, IfErr};
 ghost use Rattle.sentry_members.specs.Reading.{TextShown, TextRefused};
 ghost use Rattle.sentry_envelope.specs.HeaderFields.{header_kind, headers_cell};
 

@@ -1,6 +1,6 @@
 //! Whether items are plain: no tree in them holds a float, and no key kept beside rows is a row's.
 
-ghost use Rattle.std.specs.Prelude.{◌≡◌, ◌∷◌, [], ◌↔◌, IsTrue, map};
+ghost use Rattle.std.specs.Prelude.{◌∷◌, [], ◌↔◌, IsTrue, map};
 ghost use Rattle.sentry_envelope.specs.Envelope.{plain_content, stored_content, ItemsMeet};
 ghost use Rattle.sentry_envelope.specs.EnvelopeView.{item_view};
 ghost use Rattle.sentry_envelope.specs.SentryProfile.{item_types};

@@ -1,5 +1,5 @@
 // The frames of an envelope, borrowed from its bytes.
-ghost use Rattle.std.specs.Prelude.{◌≡◌, ◌≢◌, ◌↔◌, ◌<◌, [], List, ℕ, IfOk, IfErr, IfSome, IsNone, Some, length};
+ghost use Rattle.std.specs.Prelude.{◌≡◌, ◌≢◌, ◌↔◌, ◌<◌, [], ℕ, IfOk, IfErr, IfSome, IsNone, Some, length};
 ghost use Rattle.sentry_framing.specs.Framing.{CutsPayload, IsFault, IsFirstFrame, IsLineAndBody, Opens, Reading};
 ghost use Rattle.sentry_framing.specs.ItemHeader.{read_header, stated_length};
 ghost use Rattle.sentry_framing.specs.ItemWords.{item_words};

@@ -1,5 +1,5 @@
 // Lines and white space.
-ghost use Rattle.std.specs.Prelude.{◌≡◌, ◌≢◌, ◌⊎◌, ◌++◌, ◌∷◌, [], List, ℕ, IfOk, IfErr, IsTrue, false};
+ghost use Rattle.std.specs.Prelude.{◌≡◌, ◌++◌, ◌∷◌, [], List, ℕ, IfOk, IfErr, false};
 ghost use Rattle.sentry_json.specs.Line.{HasNoNewline};
 ghost use Rattle.sentry_framing.specs.Framing.{IsBlank, EndsLine, GoesOn, is_space};
 

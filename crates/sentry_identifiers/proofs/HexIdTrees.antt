@@ -1,5 +1,6 @@
 -- Ids of spans and traces as texts of trees are lawful.
-use Rattle.std.proofs.Common.{◌≡◌, ◌/◌, ◌%◌, ◌<◌, ℕ, zero, suc, List, [], ◌∷◌, length, slice_index, replicate, Option, Some, None, option_map, Result, Ok, Err, refl, sym, ap, ◌∙◌, arith}
+use Rattle.std.proofs.Common.{◌≡◌, ◌/◌, ◌%◌, ◌<◌, ℕ, zero, suc, List, [], ◌∷◌, length, slice_index, replicate, Some, option_map, Result, Ok, Err, refl, sym, ap, ◌∙◌, arith}
+use Rattle.std.proofs.lemmas.Option.{none-some}
 use Rattle.std.specs.Result.{result_ok}
 use Rattle.std.specs.Str.{IsAscii}
 use Rattle.std.proofs.lemmas.Str.{IsUtf8-from_ascii}
@@ -34,12 +35,9 @@ pub id_spelled : (n : ℕ) (text bytes : List ℕ) → Ok bytes ≡ decode_sized
 unfolding hex_id_of
 id_spelled n text bytes e = sym (ap (λ (r : Result (List ℕ) FromHexError). option_map octets (result_ok r)) e)
 
-nothing : (o : Option Cell) (c : Cell) → None ≡ o → o ≡ Some c → ⊥
-nothing o c e f = cc
-
 pub none_spelled : (n : ℕ) (text : List ℕ) (error : FromHexError) → Err error ≡ decode_sized text n → (c : Cell) → option_map octets (hex_id_of n text) ≡ Some c → ⊥
 unfolding hex_id_of
-none_spelled n text error e c = nothing _ c (ap (λ (r : Result (List ℕ) FromHexError). option_map octets (result_ok r)) e)
+none_spelled n text error e c h = none-some c (ap (λ (r : Result (List ℕ) FromHexError). option_map octets (result_ok r)) e ∙ h)
 
 -- ---- the laws
 

@@ -12,11 +12,11 @@ use Rattle.uuid.specs.Text.{lower, by_index, is_hex_digit, value_of, byte_of_dig
 use Rattle.uuid.proofs.TextLemmas.{by_index_length, by_index_at, simple_ascii, hyphenated_ascii}
 use Rattle.uuid.proofs.RoundTrips.{parses_simple, parses_hyphenated}
 use Rattle.sentry_tables.specs.Cell.{Cell, octets}
-use Rattle.sentry_tables.specs.Basic.{word_scalar}
 use Rattle.sentry_tables.specs.Kind.{draw}
 use Rattle.sentry_tables.specs.Lawful.{ScalarLaws, RefusesNull, IsNormal, RuleLaws}
-use Rattle.sentry_tables.proofs.Basic.{WordLaws, word_laws, word_refuses_null}
-use Rattle.sentry_identifiers.specs.Uuids.{IsUuid, IsRandomUuid, uuid_of, uuid_kind, hyphenated, simple}
+use Rattle.sentry_members.specs.Spelling.{spelled}
+use Rattle.sentry_members.proofs.Spellings.{WordLaws, read_as_laws, spelled_laws, spelled_refuses_null}
+use Rattle.sentry_identifiers.specs.Uuids.{IsUuid, IsRandomUuid, uuid_of, uuid_spelling, uuid_kind, hyphenated, simple}
 
 -- ---- what a text is read as has sixteen bytes
 
@@ -82,9 +82,9 @@ of_bytes P f (octets b) h = f b h
 of_bytes P f _ h = absurd h
 
 -- and so is what is read
-read_as : (P : Cell → Type 0) → (o : Option (List ℕ)) (c : Cell) → ((b : List ℕ) → o ≡ Some b → P (octets b)) → option_map octets o ≡ Some c → P c
-read_as P None c f e = absurd (cc)
-read_as P (Some b) c f e = subst P (same_Some (octets b) c e) (f b refl)
+parsed_as : (P : Cell → Type 0) → (o : Option (List ℕ)) (c : Cell) → ((b : List ℕ) → o ≡ Some b → P (octets b)) → option_map octets o ≡ Some c → P c
+parsed_as P None c f e = absurd (cc)
+parsed_as P (Some b) c f e = subst P (same_Some (octets b) c e) (f b refl)
 
 -- A form whose texts parse to their bytes, and are ASCII.
 pub record IsForm (to_text : Cell → List ℕ) : Type 0 where
@@ -101,12 +101,12 @@ module _ (to_text : Cell → List ℕ) (form : IsForm to_text) where
   id_laws : WordLaws uuid_of to_text IsUuid
   id_laws = record {
     reads = uuid_back;
-    stored = λ s c utf8 e. read_as IsUuid (parsed s) c (gives_bytes s) e;
+    stored = λ s c utf8 e. parsed_as IsUuid (parsed s) c (gives_bytes s) e;
     utf8 = of_bytes (λ c. IsUtf8 (to_text c)) (λ b h. IsUtf8-from_ascii (to_text (octets b)) (form.ascii b));
   }
 
-  form_laws : ScalarLaws (word_scalar uuid_of to_text IsUuid)
-  form_laws = word_laws uuid_of to_text IsUuid id_laws
+  form_laws : ScalarLaws (spelled (uuid_spelling to_text))
+  form_laws = spelled_laws (uuid_spelling to_text) (read_as_laws uuid_of to_text IsUuid id_laws)
 
 -- ---- with hyphens, and without
 
@@ -116,14 +116,14 @@ hyphenated_form = record { parses = λ b h. parses_hyphenated lower b (inl refl)
 simple_form : IsForm simple
 simple_form = record { parses = λ b h. parses_simple lower b (inl refl) h.0 h.1; ascii = λ b. simple_ascii lower b (inl refl) }
 
-pub hyphenated_laws : ScalarLaws (word_scalar uuid_of hyphenated IsUuid)
+pub hyphenated_laws : ScalarLaws (spelled (uuid_spelling hyphenated))
 hyphenated_laws = form_laws hyphenated hyphenated_form
 
-pub simple_laws : ScalarLaws (word_scalar uuid_of simple IsUuid)
+pub simple_laws : ScalarLaws (spelled (uuid_spelling simple))
 simple_laws = form_laws simple simple_form
 
 pub uuid_refuses_null : (to_text : Cell → List ℕ) → RefusesNull (uuid_kind to_text)
-uuid_refuses_null to_text = word_refuses_null uuid_of to_text IsUuid
+uuid_refuses_null to_text = spelled_refuses_null (uuid_spelling to_text)
 
 pub hyphenated_back : (id : Cell) → IsUuid id → uuid_of (hyphenated id) ≡ Some id
 hyphenated_back = uuid_back hyphenated hyphenated_form

@@ -5,8 +5,8 @@ use Rattle.uuid.specs.Uuid.{version_num}
 use Rattle.uuid.specs.Parts.{variant_of}
 use Rattle.uuid.specs.declared.Variant.TheVariants.{RFC4122}
 use Rattle.sentry_tables.specs.Cell.{Cell, octets}
-use Rattle.sentry_tables.specs.Kind.{Kind, scalar}
-use Rattle.sentry_tables.specs.Basic.{word_scalar}
+use Rattle.sentry_tables.specs.Kind.{Kind}
+use Rattle.sentry_members.specs.Spelling.{Spelling, read_as, spelled_kind}
 
 -- sixteen bytes
 abbrev pub IsUuid : Cell → Type 0
@@ -28,8 +28,11 @@ simple (octets b) = simple_text lower b
 simple _ = []
 
 -- UUIDs that are written so
+abbrev pub uuid_spelling : (Cell → List ℕ) → Spelling
+uuid_spelling to_text = read_as uuid_of to_text IsUuid
+
 abbrev pub uuid_kind : (Cell → List ℕ) → Kind
-uuid_kind to_text = scalar (word_scalar uuid_of to_text IsUuid)
+uuid_kind to_text = spelled_kind (uuid_spelling to_text)
 
 abbrev pub hyphenated_kind : Kind
 hyphenated_kind = uuid_kind hyphenated

@@ -1,6 +1,6 @@
 -- What a line is read as, and that a written line is read.
 use Rattle.std.proofs.Common.{◌≡◌, ◌≤◌, ◌↔◌, ℕ, List, Bool, true, false, cond, Option, Some, None, option_and_then, IsUtf8, refl, subst}
-use Rattle.std.proofs.lemmas.Option.{none-some}
+use Rattle.std.proofs.lemmas.Option.{none-some, same_Some}
 use Rattle.std.proofs.lemmas.Str.{IsUtf8-from_is_utf8, is_utf8-from_IsUtf8}
 use Rattle.std.specs.Str.{is_utf8}
 use Rattle.serde_json.specs.Data.{Data, depth}
@@ -19,12 +19,9 @@ use Rattle.sentry_json.proofs.Texts.{read_texts}
 abbrev ReadsAs : List ℕ → Data → Type 0
 ReadsAs line d = IsUtf8 line × (read line ≡ Some d) × (has_float d ≡ false)
 
-inside : (a b : Data) → Some a ≡ Some b → a ≡ b
-inside a b e = cc
-
 without_float : (f : Bool) (a d : Data) → has_float a ≡ f → cond f None (Some a) ≡ Some d → (Some a ≡ Some d) × (has_float d ≡ false)
 without_float true a d is e = absurd (none-some d e)
-without_float false a d is e = (e, subst (λ t. has_float t ≡ false) (inside a d e) is)
+without_float false a d is e = (e, subst (λ t. has_float t ≡ false) (same_Some a d e) is)
 
 read_without_float : (o : Option Data) (d : Data) → option_and_then unless_float o ≡ Some d → (o ≡ Some d) × (has_float d ≡ false)
 read_without_float None d e = absurd (none-some d e)

@@ -4,7 +4,6 @@ use Rattle.std.specs.Prelude.{codes, decimal, IfSome, unwrap_or, option_map, Str
 use Rattle.std.proofs.lemmas.Fmt.{IsAscii-decimal}
 use Rattle.std.proofs.lemmas.Str.{IsUtf8-append, IsUtf8-nil, IsUtf8-from_ascii, IsUtf8-string_bytes}
 use Rattle.serde_json.specs.Data.{Data, string}
-use Rattle.serde_json.specs.Find.{as_str}
 use Rattle.sentry_json.specs.Sound.{IsSound}
 use Rattle.serde_json.specs.View.{view}
 use Rattle.serde_json.specs.declared.value.Value.{Value}
@@ -17,8 +16,8 @@ use Rattle.sentry_tables.specs.Shows.{Shows}
 use Rattle.sentry_tables.proofs.Laws.{has_laws}
 use Rattle.sentry_tables.proofs.Sound.{ascii_text}
 use Rattle.sentry_members.specs.Cells.{natural_cell, option_cell}
-use Rattle.sentry_members.specs.Spelling.{Texted, SpellingLaws, spelled, ReadsSpelling}
-use Rattle.sentry_members.proofs.Spellings.{spelled_laws, spelled_refuses_null, text_tree}
+use Rattle.sentry_members.specs.Spelling.{SpellingLaws, spelled, ReadsSpelling}
+use Rattle.sentry_members.proofs.Spellings.{spelled_laws, shown_readable, spelled_refuses_null, text_tree}
 use Rattle.sentry_keys.specs.declared.scheme.Scheme.{Scheme}
 use Rattle.sentry_keys.specs.declared.scheme.Scheme.TheVariants.{Http, Https}
 use Rattle.sentry_keys.specs.declared.dsn.Dsn.{Dsn}
@@ -72,16 +71,8 @@ dsn_laws = record {
 }
 
 -- what a tree shows is readable
-shown_readable : (o : Option (List ℕ)) (c : Cell) → IfSome o IsUtf8 → Texted dsn_spelling.spells o c → dsn_spelling.readable c
-shown_readable None c utf8 h = absurd h
-shown_readable (Some s) c utf8 h = (h.0, h.1, named_reads_back s h.0 utf8 h.2)
-
-text_utf8 : (d : Data) → IsSound d → IfSome (as_str d) IsUtf8
-text_utf8 (string s) sound = sound
-text_utf8 _ sound = tt
-
 pub dsn_shown_readable : (now : Cell) (d : Data) (c : Cell) → IsSound d → Shows dsn_kind now d c → IsReadable dsn_kind c
-dsn_shown_readable now d c sound h = shown_readable (as_str d) c (text_utf8 d sound) h
+dsn_shown_readable now d c sound h = shown_readable dsn_spelling (λ s c utf8 e. (e.0, e.1, named_reads_back s e.0 utf8 e.2)) d c sound h
 
 pub dsn_scalar_laws : ScalarLaws (spelled dsn_spelling)
 dsn_scalar_laws = spelled_laws dsn_spelling dsn_laws

@@ -4,7 +4,6 @@
 
 ghost use Rattle.std.specs.Prelude.{◌≡◌, ◌⊎◌, ◌==◌, ◌<◌, ◌++◌, ◌∷◌, [], ℕ, List, Some, map, option_map, is_some, not, IfOk, IfErr, IfSome, OnOk};
 ghost use Rattle.std.specs.List.{before_first};
-ghost use Rattle.std.specs.String.{string_bytes};
 ghost use Rattle.form_urlencoded.specs.Form.{pair_text};
 ghost use Rattle.sentry_keys.specs.Auth.{Pair, parts_of, time_of, IsVersion, IsUnreadable, Tell, ReadsPairs, version_key};
 ghost use Rattle.sentry_keys.specs.AuthText.{item_pair, list_pairs, query_pairs, ReadsHeader, part_text, auth_text, time_text};

@@ -1,7 +1,7 @@
 //! The text that names where events are sent, and with which key.
 
 ghost use Rattle.std.specs.Prelude.{◌≡◌, [], MatchOption, MatchResult, IfOk, ℕ, Some, None, option_map, option_copied, unwrap_or, string_bytes};
-ghost use Rattle.url.specs.Parts.{Parts, IsValid};
+ghost use Rattle.url.specs.Parts.{IsValid};
 ghost use Rattle.sentry_numbers.specs.ProjectId.{project_text, organization_value};
 ghost use Rattle.sentry_keys.specs.Dsn as spec;
 ghost use Rattle.sentry_keys.specs.DsnOrganization.{NamesOrganization};

@@ -1,13 +1,11 @@
 -- Lists of members, and maps of them.
-use Rattle.std.proofs.Common.{◌≡◌, ℕ, ◌+◌, ◌<◌, List, [], ◌∷◌, ◌++◌, length, get_or, take, String, Global, string_bytes, string_cmp, nat_cmp, Ordering, Less, Greater, refl, ap, ◌∙◌, Result, Ok, OnOk}
+use Rattle.std.proofs.Common.{◌≡◌, ℕ, ◌+◌, ◌<◌, List, [], ◌∷◌, ◌++◌, length, get_or, take, String, Global, string_bytes, string_cmp, nat_cmp, Less, Greater, refl, ap, ◌∙◌, Result, Ok, OnOk}
 use Rattle.std.specs.Prelude.{IsUtf8, ⊤}
-use Rattle.std.proofs.lemmas.Cmp.{nat_list_cmp_total}
 use Rattle.std.proofs.lemmas.List.{take_more}
 use Rattle.std.specs.Cmp.Lexicographic.{slice_cmp}
 use Rattle.std.specs.List.{AllByRecursion}
 use Rattle.std.specs.List.Sorted.{IsStrictlySortedBy}
 use Rattle.std.specs.Map.{keys_of}
-use Rattle.std.specs.Ordering.{match_ordering, ordering_reverse}
 use Rattle.std.specs.BTreeMap.{insert_entry}
 use Rattle.json.specs.Token.{Token}
 use Rattle.json.specs.Written.{Written, Writes}
@@ -15,29 +13,16 @@ use Rattle.serde_json.specs.Data.{Data, array, object, no_items, item, Members, 
 use Rattle.serde_json.specs.View.{view, items_view, members_view}
 use Rattle.serde_json.specs.declared.value.Value.{Value}
 use Rattle.serde_json.proofs.Views.{Entry}
-use Rattle.sentry_tables.specs.Cell.{Cell, no_cells, cell, entry}
+use Rattle.sentry_tables.specs.Cell.{Cell, no_cells, cell}
 use Rattle.sentry_tables.specs.Kind.{Kind, list, map}
 use Rattle.sentry_tables.specs.Written.{items_tree, members_tree}
 use Rattle.sentry_tables.specs.Meets.{AllLater, AreOrderedTexts, entry_keys}
+use Rattle.sentry_members.proofs.Sorted.{MapEntry, put_at, above_first}
 use Rattle.sentry_members.specs.Cells.{cells, entries, list_cell, map_cell, tree_cell}
 use Rattle.sentry_members.specs.Written.{written, WritesTree, WritesItems, WritesMembers}
 use Rattle.sentry_members.proofs.Tokens.{array_wrote, object_wrote}
 
 -- ---- keys in order
-
-abbrev pub MapEntry : Type 0 → Type 0
-MapEntry A = String Global × A
-
-below : {A : Type 0} (first : MapEntry A) (es : List (MapEntry A)) (e : MapEntry A) (more : List (MapEntry A)) → AllByRecursion (λ y. string_cmp first.0 y ≡ Less) (keys_of (es ++ e ∷ more)) → string_cmp first.0 e.0 ≡ Less
-below first [] e more h = h.0
-below first (x ∷ es) e more h = below first es e more h.1
-
-put_at : {A : Type 0} (f : A → Cell) (first : MapEntry A) (es inserted : List (MapEntry A)) (name : String Global) (x : A) (o : Ordering) → string_cmp name first.0 ≡ o → o ≡ Greater
-    → entries f (match_ordering o ((name, x) ∷ first ∷ es) ((first.0, x) ∷ es) (first ∷ inserted)) ≡ entry (string_bytes first.0) (f first.1) (entries f inserted)
-put_at f first es inserted name x o is e = rw e refl
-
-above_first : {A : Type 0} (first : MapEntry A) (es : List (MapEntry A)) (e : MapEntry A) (more : List (MapEntry A)) → AllByRecursion (λ y. string_cmp first.0 y ≡ Less) (keys_of (es ++ e ∷ more)) → slice_cmp nat_cmp (string_bytes e.0) (string_bytes first.0) ≡ Greater
-above_first first es e more h = nat_list_cmp_total.antisymm (string_bytes e.0) (string_bytes first.0) ∙ ap ordering_reverse (below first es e more h)
 
 -- ---- trees
 

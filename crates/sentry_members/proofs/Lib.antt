@@ -3,6 +3,7 @@ pub mod Equal
 pub mod ListsShown
 pub mod ScalarsShown
 pub mod Single
+pub mod Sorted
 pub mod SoundTrees
 pub mod Soundness
 pub mod Spellings

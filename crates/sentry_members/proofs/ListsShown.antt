@@ -1,12 +1,9 @@
 -- What trees show as lists and maps.
-use Rattle.std.proofs.Common.{◌≡◌, ℕ, zero, suc, ◌+◌, ◌<◌, List, [], ◌∷◌, ◌++◌, length, get_or, take, Some, None, String, Global, string_bytes, string_cmp, nat_cmp, Ordering, Less, Greater, refl, sym, ap, ◌∙◌, arith}
-use Rattle.std.proofs.lemmas.Cmp.{nat_list_cmp_total}
+use Rattle.std.proofs.Common.{◌≡◌, ℕ, zero, suc, ◌+◌, ◌<◌, List, [], ◌∷◌, ◌++◌, length, get_or, take, Some, None, String, Global, string_bytes, string_cmp, nat_cmp, Greater, refl, sym, ap, ◌∙◌, arith}
 use Rattle.std.proofs.lemmas.List.{take_more}
 use Rattle.std.specs.Cmp.Lexicographic.{slice_cmp}
-use Rattle.std.specs.List.{AllByRecursion}
 use Rattle.std.specs.List.Sorted.{IsStrictlySortedBy}
 use Rattle.std.specs.Map.{keys_of}
-use Rattle.std.specs.Ordering.{match_ordering, ordering_reverse}
 use Rattle.std.specs.BTreeMap.{insert_entry}
 use Rattle.serde_json.specs.Data.{Data}
 use Rattle.serde_json.specs.Find.{as_array, as_object}
@@ -16,6 +13,7 @@ use Rattle.serde_json.proofs.Views.{Entry}
 use Rattle.sentry_tables.specs.Cell.{Cell, sequence, mapping, Cells, no_cells, cell, Entries, no_entries, entry}
 use Rattle.sentry_tables.specs.Kind.{Kind, list, map}
 use Rattle.sentry_tables.specs.Shows.{Shows, ItemsShow, MembersShow, IsSequence, IsMapping}
+use Rattle.sentry_members.proofs.Sorted.{MapEntry, put_at, above_first}
 use Rattle.sentry_members.specs.Cells.{cells, entries, list_cell, map_cell}
 use Rattle.sentry_members.specs.Reading.{Shown, Refused, ShownAt, RefusedAt, Only}
 use Rattle.sentry_members.specs.declared.error.TreeError.{TreeError}
@@ -49,20 +47,6 @@ mapping_refused Q (mapping es) f h = f es h
 mapping_refused Q _ f h = h
 
 -- ---- maps
-
-abbrev pub MapEntry : Type 0 → Type 0
-MapEntry A = String Global × A
-
-below : {A : Type 0} (first : MapEntry A) (es : List (MapEntry A)) (e : MapEntry A) (more : List (MapEntry A)) → AllByRecursion (λ y. string_cmp first.0 y ≡ Less) (keys_of (es ++ e ∷ more)) → string_cmp first.0 e.0 ≡ Less
-below first [] e more h = h.0
-below first (x ∷ es) e more h = below first es e more h.1
-
-put_at : {A : Type 0} (f : A → Cell) (first : MapEntry A) (es inserted : List (MapEntry A)) (name : String Global) (x : A) (o : Ordering) → string_cmp name first.0 ≡ o → o ≡ Greater
-    → entries f (match_ordering o ((name, x) ∷ first ∷ es) ((first.0, x) ∷ es) (first ∷ inserted)) ≡ entry (string_bytes first.0) (f first.1) (entries f inserted)
-put_at f first es inserted name x o is e = rw e refl
-
-above_first : {A : Type 0} (first : MapEntry A) (es : List (MapEntry A)) (e : MapEntry A) (more : List (MapEntry A)) → AllByRecursion (λ y. string_cmp first.0 y ≡ Less) (keys_of (es ++ e ∷ more)) → slice_cmp nat_cmp (string_bytes e.0) (string_bytes first.0) ≡ Greater
-above_first first es e more h = nat_list_cmp_total.antisymm (string_bytes e.0) (string_bytes first.0) ∙ ap ordering_reverse (below first es e more h)
 
 pub map_more : {A : Type 0} (P : Data → Cell → Type 0) (f : A → Cell) (done : List Entry) (e : Entry) (more : List Entry) (name : String Global) (es : List (MapEntry A)) (x : A) → IsStrictlySortedBy string_cmp (keys_of (done ++ e ∷ more)) → string_bytes name ≡ string_bytes e.0
     → MembersShow (λ k. P) (members_view done) (entries f es) → P (view e.1) (f x) → MembersShow (λ k. P) (members_view (done ++ e ∷ [])) (entries f (insert_entry string_cmp es name x))

@@ -1,5 +1,6 @@
 -- What trees show as Rust's own types.
 use Rattle.std.proofs.Common.{◌≡◌, ◌^◌, ◌<◌, ℕ, List, Option, Some, None, option_map, option_and_then, refl, sym, ap, subst, ◌∙◌, Bool, true, false, lt-ltb, cond, le-ltb, ltb-false, arith, ◌≤◌, SFits, w32}
+use Rattle.std.proofs.lemmas.Option.{none-some, same_Some}
 use Rattle.serde_json.specs.Data.{Num, unsigned, negative, float, Data, Items}
 use Rattle.serde_json.specs.Find.{as_array, as_str, as_bool, as_number, as_u64}
 use Rattle.sentry_tables.specs.Cell.{Cell, text, truth, whole, any}
@@ -9,12 +10,9 @@ use Rattle.sentry_members.specs.Cells.{pair_cell}
 use Rattle.sentry_members.specs.Kinds.{text_kind, truth_kind, unsigned_kind, signed_kind, pair_kind, any_kind}
 use Rattle.sentry_members.specs.Reading.{Shown, Refused}
 
-nothing : (o : Option Cell) (c : Cell) → o ≡ None → o ≡ Some c → ⊥
-nothing o c e f = cc
-
 pub text_refused : (d : Data) → as_str d ≡ None → Refused text_kind d
 unfolding Refused
-text_refused d e now c h = nothing _ c (ap (option_map text) e) h
+text_refused d e now c h = none-some c (sym (ap (option_map text) e) ∙ h)
 
 pub text_shown : (s : List ℕ) (d : Data) → as_str d ≡ Some s → Shown text_kind d (text s)
 unfolding Shown
@@ -22,7 +20,7 @@ text_shown s d e now = ap (option_map text) e
 
 pub truth_refused : (d : Data) → as_bool d ≡ None → Refused truth_kind d
 unfolding Refused
-truth_refused d e now c h = nothing _ c (ap (option_map truth) e) h
+truth_refused d e now c h = none-some c (sym (ap (option_map truth) e) ∙ h)
 
 pub truth_shown : (b : Bool) (d : Data) → as_bool d ≡ Some b → Shown truth_kind d (truth b)
 unfolding Shown
@@ -30,7 +28,7 @@ truth_shown b d e now = ap (option_map truth) e
 
 pub whole_refused : (bound : ℕ) (d : Data) → option_and_then as_u64 (as_number d) ≡ None → Refused (unsigned_kind bound) d
 unfolding Refused
-whole_refused bound d e now c h = nothing _ c (ap (option_and_then (whole_below bound)) e) h
+whole_refused bound d e now c h = none-some c (sym (ap (option_and_then (whole_below bound)) e) ∙ h)
 
 pub whole_shown : (bound n : ℕ) (d : Data) → option_and_then as_u64 (as_number d) ≡ Some n → n < bound → Shown (unsigned_kind bound) d (whole (pos n))
 unfolding Shown
@@ -42,23 +40,20 @@ any_shown d e same now = ap any (sym same)
 
 pub whole_too_large : (bound n : ℕ) (d : Data) → option_and_then as_u64 (as_number d) ≡ Some n → (n < bound → ⊥) → Refused (unsigned_kind bound) d
 unfolding Refused
-whole_too_large bound n d e large now c h = nothing _ c (ap (option_and_then (whole_below bound)) e ∙ ap (λ b. cond b (Some (whole (pos n))) None) (le-ltb n bound (omega arith))) h
+whole_too_large bound n d e large now c h = none-some c (sym (ap (option_and_then (whole_below bound)) e ∙ ap (λ b. cond b (Some (whole (pos n))) None) (le-ltb n bound (omega arith))) ∙ h)
 
 -- ---- whole numbers with a sign
 
 pub signed_refused : (bound : ℕ) (d : Data) → option_and_then (signed_at bound) (as_number d) ≡ None → Refused (signed_kind bound) d
 unfolding Refused
-signed_refused bound d e now c h = nothing _ c e h
+signed_refused bound d e now c h = none-some c (sym e ∙ h)
 
 pub signed_shown : (bound : ℕ) (z : ℤ) (d : Data) → option_and_then (signed_at bound) (as_number d) ≡ Some (whole z) → Shown (signed_kind bound) d (whole z)
 unfolding Shown
 signed_shown bound z d e now = e
 
-inside : (a b : Cell) → Some a ≡ Some b → a ≡ b
-inside a b e = cc
-
 chosen : (t : Bool) (c x : Cell) → cond t (Some c) None ≡ Some x → c ≡ x
-chosen true c x e = inside c x e
+chosen true c x e = same_Some c x e
 chosen false c x e = absurd cc
 
 left_out : (t : Bool) (c : Cell) → cond t (Some c) None ≡ None → t ≡ false
@@ -128,11 +123,11 @@ i32_refused d e = signed_refused (2 ^ 31) d (no_option (2 ^ 31) (omega arith) (a
 
 pub no_pair : (d : Data) → as_array d ≡ None → Refused pair_kind d
 unfolding Refused
-no_pair d is now c h = nothing _ c (ap (option_and_then pair_of) is) h
+no_pair d is now c h = none-some c (sym (ap (option_and_then pair_of) is) ∙ h)
 
 pub pair_refused : (d : Data) (ds : Items) (o : Option (ℕ × ℕ)) → as_array d ≡ Some ds → option_map pair_cell o ≡ pair_of ds → o ≡ None → Refused pair_kind d
 unfolding Refused
-pair_refused d ds o is e none now c h = nothing _ c (ap (option_and_then pair_of) is ∙ sym e ∙ ap (option_map pair_cell) none) h
+pair_refused d ds o is e none now c h = none-some c (sym (ap (option_and_then pair_of) is ∙ sym e ∙ ap (option_map pair_cell) none) ∙ h)
 
 pub pair_shown : (d : Data) (ds : Items) (o : Option (ℕ × ℕ)) (p : ℕ × ℕ) → as_array d ≡ Some ds → option_map pair_cell o ≡ pair_of ds → o ≡ Some p → Shown pair_kind d (pair_cell p)
 unfolding Shown

@@ -1,5 +1,6 @@
 -- Spellings are lawful, and what their readers and writers answer.
-use Rattle.std.proofs.Common.{◌≡◌, ◌⊎◌, ℕ, List, Option, Some, None, option_map, Result, Ok, Err, OnOk, inl, inr, refl, sym, ap, ◌∙◌, subst, arith, IsUtf8}
+use Rattle.std.proofs.Common.{◌≡◌, ◌⊎◌, ℕ, List, Option, Some, None, option_map, Result, Ok, Err, OnOk, inr, refl, sym, ap, ◌∙◌, subst, arith, IsUtf8}
+use Rattle.std.proofs.lemmas.Option.{same_Some}
 use Rattle.std.proofs.lemmas.Bool.{false≢true}
 use Rattle.json.specs.Token.{Token}
 use Rattle.json.specs.Written.{Written, Writes}
@@ -8,7 +9,7 @@ use Rattle.serde_json.specs.Find.{as_str}
 use Rattle.sentry_json.specs.Sound.{IsSound}
 use Rattle.sentry_tables.specs.Cell.{Cell}
 use Rattle.sentry_tables.specs.Lawful.{ScalarLaws, RefusesNull}
-use Rattle.sentry_tables.proofs.Basic.{WordLaws}
+use Rattle.sentry_tables.proofs.Basic.{told}
 use Rattle.sentry_members.specs.Reading.{Shown, Refused, Reads}
 use Rattle.sentry_members.specs.Spelling.{Spelling, Texted, spelled, spelled_kind, SpellingLaws, read_to, read_as, word_cell, word_of, IsWord, enumeration, ReadsSpelling}
 use Rattle.sentry_members.specs.Written.{written, WritesTree}
@@ -44,6 +45,10 @@ module _ (S : Spelling) where
     shown_tree = λ d c sound h. from_text (λ x. string (S.written x) ≡ string (S.written (S.norm x))) d c (λ s is e. ap string (own.spelled_written s c (subst IsSound is sound) e)) h;
     decide = λ d. decided own (as_str d);
   }
+
+  -- what a tree shows is readable, where what a text spells is
+  pub shown_readable : ((s : List ℕ) (c : Cell) → IsUtf8 s → S.spells s c → S.readable c) → (d : Data) (c : Cell) → IsSound d → Texted S.spells (as_str d) c → S.readable c
+  shown_readable f d c sound h = from_text S.readable d c (λ s is e. f s c (subst IsSound is sound) e) h
 
   pub spelled_refuses_null : RefusesNull (spelled_kind S)
   spelled_refuses_null now c h = h
@@ -89,13 +94,6 @@ module _ (S : Spelling) where
 
 -- ---- spellings that are read by a function
 
-inside : (a b : Cell) → Some a ≡ Some b → a ≡ b
-inside a b e = cc
-
-told : (o : Option Cell) → ((c : Cell) × (o ≡ Some c)) ⊎ ((c : Cell) → o ≡ Some c → ⊥)
-told None = inr (λ c e. cc)
-told (Some c) = inl (c, refl)
-
 -- what a function owes that reads texts, and a normal form
 pub record ReadLaws (of_text : List ℕ → Option Cell) (to_text : Cell → List ℕ) (norm : Cell → Cell) (Stored : Cell → Type 0) : Type 0 where
   -- the normal form of a stored value is read from its written text
@@ -109,7 +107,7 @@ pub read_to_laws : (of_text : List ℕ → Option Cell) (to_text : Cell → List
     → ReadLaws of_text to_text norm Stored → SpellingLaws (read_to of_text to_text norm Stored)
 read_to_laws of_text to_text norm Stored own = record {
   back = λ c p q. own.reads c p;
-  only = λ c x p q h. inside x (norm c) (sym h ∙ own.reads c p);
+  only = λ c x p q h. same_Some x (norm c) (sym h ∙ own.reads c p);
   again = λ c p. own.normal (to_text c) (norm c) (own.reads c p);
   stored_norm = λ c p. own.stored (to_text c) (norm c) (own.utf8 c p) (own.reads c p);
   readable_norm = λ c p q. tt;
@@ -118,6 +116,14 @@ read_to_laws of_text to_text norm Stored own = record {
   spelled_written = λ s c utf8 h. ap to_text (sym (own.normal s c h));
   decide = λ s. told (of_text s);
 }
+
+-- what it owes where each value is its own normal form
+pub record WordLaws (of_text : List ℕ → Option Cell) (to_text : Cell → List ℕ) (Stored : Cell → Type 0) : Type 0 where
+  -- a stored value is read from its written text
+  pub reads : (c : Cell) → Stored c → of_text (to_text c) ≡ Some c
+  -- what is read is stored
+  pub stored : (s : List ℕ) (c : Cell) → IsUtf8 s → of_text s ≡ Some c → Stored c
+  pub utf8 : (c : Cell) → Stored c → IsUtf8 (to_text c)
 
 pub read_as_laws : (of_text : List ℕ → Option Cell) (to_text : Cell → List ℕ) (Stored : Cell → Type 0) → WordLaws of_text to_text Stored → SpellingLaws (read_as of_text to_text Stored)
 read_as_laws of_text to_text Stored own =
@@ -131,7 +137,7 @@ module _ {V : Type 0} (lookup : List ℕ → Option V) (word : V → List ℕ) w
 
   variant : (P : Cell → Type 0) → (o : Option V) (c : Cell) → ((v : V) → P (word_cell word v)) → option_map (word_cell word) o ≡ Some c → P c
   variant P None c f e = absurd (cc)
-  variant P (Some v) c f e = subst P (inside (word_cell word v) c e) (f v)
+  variant P (Some v) c f e = subst P (same_Some (word_cell word v) c e) (f v)
 
   pub enumeration_laws : ((v : V) → lookup (word v) ≡ Some v) → ((v : V) → IsUtf8 (word v)) → SpellingLaws (enumeration lookup word)
   enumeration_laws back utf8 =

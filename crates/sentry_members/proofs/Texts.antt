@@ -1,5 +1,6 @@
 -- Lines, by what the reader of JSON and the reader of trees answer.
-use Rattle.std.proofs.Common.{◌≡◌, ℕ, List, true, false, Option, Some, None, Result, Ok, Err, sym, ◌∙◌, inl, inr}
+use Rattle.std.proofs.Common.{◌≡◌, ℕ, List, true, false, Some, None, Result, Ok, Err, sym, ◌∙◌, inl, inr}
+use Rattle.std.proofs.lemmas.Option.{none-some, same_Some}
 use Rattle.std.specs.Str.{IsUtf8, is_utf8}
 use Rattle.std.proofs.lemmas.Bool.{cases_Bool}
 use Rattle.std.proofs.lemmas.Str.{IsUtf8-from_is_utf8, is_utf8-from_IsUtf8}
@@ -33,30 +34,24 @@ module _ (line : List ℕ) where
 
 -- ---- what a line shows
 
-inside : {A : Type 0} (a b : A) → Some a ≡ Some b → a ≡ b
-inside a b e = cc
-
-nothing : {A : Type 0} (o : Option A) (a : A) → o ≡ None → o ≡ Some a → ⊥
-nothing o a e f = cc
-
 pub no_text : (K : Kind) (line : List ℕ) (e : TreeError) → Only e (tree_of line ≡ None) → Only e (TextRefused K line)
 unfolding TextRefused
-no_text K line Misfit none = λ now c h. nothing _ h.0 none h.1
+no_text K line Misfit none = λ now c h. none-some h.0 (sym none ∙ h.1)
 no_text K line Memory none = tt
 
 pub text_read : {A : Type 0} (K : Kind) (f : A → Cell) (line : List ℕ) (d : Data) (r : Result A TreeError) → tree_of line ≡ Some d → Reads K f d r → ReadsText K f line r
 unfolding TextShown TextRefused Shown Refused
 text_read K f line d (Ok v) is h = λ now. (d, is, h now)
-text_read K f line d (Err Misfit) is h = λ now c s. h now c (rw (inside d s.0 (sym is ∙ s.1)) s.2)
+text_read K f line d (Err Misfit) is h = λ now c s. h now c (rw (same_Some d s.0 (sym is ∙ s.1)) s.2)
 text_read K f line d (Err Memory) is h = tt
 
 pub no_text_at : (now : Cell) (K : Kind) (line : List ℕ) (e : TreeError) → Only e (tree_of line ≡ None) → Only e (TextRefusedAt now K line)
 unfolding TextRefusedAt
-no_text_at now K line Misfit none = λ c h. nothing _ h.0 none h.1
+no_text_at now K line Misfit none = λ c h. none-some h.0 (sym none ∙ h.1)
 no_text_at now K line Memory none = tt
 
 pub text_read_at : {A : Type 0} (now : Cell) (K : Kind) (f : A → Cell) (line : List ℕ) (d : Data) (r : Result A TreeError) → tree_of line ≡ Some d → ReadsAt now K f d r → ReadsTextAt now K f line r
 unfolding TextShownAt TextRefusedAt ShownAt RefusedAt
 text_read_at now K f line d (Ok v) is h = (d, is, h)
-text_read_at now K f line d (Err Misfit) is h = λ c s. h c (rw (inside d s.0 (sym is ∙ s.1)) s.2)
+text_read_at now K f line d (Err Misfit) is h = λ c s. h c (rw (same_Some d s.0 (sym is ∙ s.1)) s.2)
 text_read_at now K f line d (Err Memory) is h = tt

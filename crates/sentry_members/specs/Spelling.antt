@@ -1,5 +1,5 @@
 -- Values that stand in a tree as texts.
-use Rattle.std.specs.Prelude.{◌≡◌, ◌⊎◌, ℕ, List, false, Option, Some, None, option_map, [], Result, Ok, Err, unwrap_or, IsUtf8, ⊤}
+use Rattle.std.specs.Prelude.{◌≡◌, ◌⊎◌, ℕ, List, false, Option, Some, None, option_map, [], Result, Ok, Err, IsUtf8, ⊤}
 use Rattle.serde_json.specs.Data.{string}
 use Rattle.serde_json.specs.Find.{as_str}
 use Rattle.sentry_tables.specs.Cell.{Cell, text}

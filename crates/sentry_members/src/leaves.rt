@@ -1,6 +1,6 @@
 //! Texts, truth values and numbers.
 
-ghost use Rattle.std.specs.Prelude.{◌≡◌, ◌^◌, ◌↔◌, IfOk, IsTrue, OnOk};
+ghost use Rattle.std.specs.Prelude.{◌^◌};
 ghost use Rattle.sentry_tables.specs.Cell.{truth, whole};
 ghost use Rattle.sentry_members.specs.Cells.{text_cell, cow_cell, natural_cell, pair_cell};
 ghost use Rattle.sentry_members.specs.Kinds.{text_kind, truth_kind, unsigned_kind, signed_kind, pair_kind};

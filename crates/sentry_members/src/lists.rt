@@ -1,6 +1,5 @@
 //! Lists and maps of members.
 
-ghost use Rattle.std.specs.Prelude.{◌≡◌, ◌↔◌, IfOk, IsTrue, OnOk};
 ghost use Rattle.sentry_tables.specs.Kind.{list as list_kind, map as map_kind};
 ghost use Rattle.sentry_members.specs.Cells.{list_cell, map_cell};
 

@@ -1,6 +1,6 @@
 //! Values that stand in a tree as texts.
 
-ghost use Rattle.std.specs.Prelude.{◌≡◌, IfOk, IfSome, OnOk};
+ghost use Rattle.std.specs.Prelude.{◌≡◌, IfOk, IfSome};
 ghost use Rattle.sentry_tables.specs.Cell.{Cell};
 ghost use Rattle.sentry_members.specs.Spelling.{Spelling, spelled_kind, ReadsSpelling};
 

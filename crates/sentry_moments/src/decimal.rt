@@ -1,9 +1,9 @@
 //! Decimal texts: an optional sign, digits with an optional point, and an optional exponent of up to
 //! three digits. They are read exactly, in billionths that are cut off below.
 
-ghost use Rattle.std.specs.Prelude.{ℕ, ◌≡◌, ◌+◌, ◌*◌, ◌^◌, ◌<◌, ◌≤◌, ◌++◌, ◌&&◌, nat_lt, min, length, IfSome, Some};
+ghost use Rattle.std.specs.Prelude.{◌≡◌, ◌+◌, ◌*◌, ◌^◌, ◌<◌, ◌≤◌, ◌++◌, ◌&&◌, nat_lt, min, length, IfSome, Some};
 ghost use Rattle.std.specs.Str.Parse.{AllDigits, digits_value};
-ghost use Rattle.sentry_moments.specs.Decimal.{IsDecimal, IsNoDecimal, IsOutside, ReadsDecimal, billionths as billionths_of, decimal_text};
+ghost use Rattle.sentry_moments.specs.Decimal.{ReadsDecimal, billionths as billionths_of, decimal_text};
 ghost use Rattle.sentry_moments.specs.DecimalScan as spec;
 ghost use Rattle.sentry_moments.specs.Digits.{front_digits, after_digits};
 

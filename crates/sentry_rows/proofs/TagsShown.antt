@@ -1,5 +1,6 @@
 -- Values by the word at the key `type`.
 use Rattle.std.proofs.Common.{◌≡◌, ℕ, zero, suc, List, Some, None, refl, sym, ap, ◌∙◌, Bool, true, false, true≢false, not, cond, bytes_eq}
+use Rattle.std.proofs.lemmas.Option.{same_Some}
 use Rattle.std.proofs.lemmas.Bool.{or_parts}
 use Rattle.std.proofs.lemmas.Slice.Eq.{bytes_eq-Decides}
 use Rattle.serde_json.specs.Data.{Data}
@@ -60,9 +61,6 @@ same_case m n rows more o p e = (ap number_of e, ap (rows_of rows) e, ap (other_
 no_such : (n : ℕ) (rows : Rows) (o : Other) → no_case ≡ at_case n rows o → ⊥
 no_such n rows o e = cc
 
-inside : (a b : List ℕ) → Some a ≡ Some b → a ≡ b
-inside a b e = cc
-
 module _ (now : Cell) (word : List ℕ) (d : Data) where
   case_shown_at : (b : Bool) (w : List ℕ) (rows : Rows) (o : Other) (cases : Cases) (n : ℕ) (more : Rows) (p : Other) (c : Cell) → bytes_eq word w ≡ b → cond b (at_case zero rows o) (later_case (case_at word cases)) ≡ at_case n more p
       → ((m : ℕ) → case_at word cases ≡ at_case m more p → CaseShows cases now (Some word) d m c) → ShowsFields now more p d c → CaseShows (case w rows o cases) now (Some word) d n c
@@ -82,7 +80,7 @@ module _ (now : Cell) (word : List ℕ) (d : Data) where
   case_shows (case w these q cases) n rows o c at h = case_shown_at _ w these q cases n rows o c refl at (λ m later. case_shows cases m rows o c later h) h
 
   equal_words : (w : List ℕ) → Some word ≡ Some w → bytes_eq word w ≡ true
-  equal_words w e = (bytes_eq-Decides word w).1 (inside word w e)
+  equal_words w e = (bytes_eq-Decides word w).1 (same_Some word w e)
 
   other_words : (cases : Cases) (m : ℕ) (c : Cell) → has_key word (words cases) ≡ false → CaseShows cases now (Some word) d m c → ⊥
   other_words no_cases m c none s = s

@@ -1,4 +1,4 @@
-ghost use Rattle.std.specs.Prelude.{◌≡◌, [], ◌∷◌, codes, refl};
+ghost use Rattle.std.specs.Prelude.{[], ◌∷◌, codes, refl};
 ghost use Rattle.sentry_tables.specs.Fields.{field};
 ghost use Rattle.sentry_tables.specs.Kind.{may};
 ghost use Rattle.sentry_members.specs.Cells.{text_cell, option_cell};

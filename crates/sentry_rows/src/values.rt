@@ -1,6 +1,5 @@
 //! Lists that stand under the key `values`.
 
-ghost use Rattle.std.specs.Prelude.{◌≡◌, ◌↔◌, IfOk, IsTrue, OnOk};
 ghost use Rattle.sentry_tables.specs.Kind.{values as values_kind};
 ghost use Rattle.sentry_members.specs.Cells.{list_cell};
 

@@ -1,5 +1,6 @@
 -- The basic scalars are lawful.
-use Rattle.std.proofs.Common.{◌≡◌, ◌⊎◌, ◌≤◌, ◌<◌, ◌^◌, ℕ, pos, negsuc, List, Bool, true, false, cond, nat_lt, Option, Some, None, option_map, option_and_then, unwrap_or, inl, inr, refl, sym, ap, ◌∙◌, subst, arith, lt-ltb, IsUtf8}
+use Rattle.std.proofs.Common.{◌≡◌, ◌⊎◌, ◌≤◌, ◌<◌, ◌^◌, ℕ, pos, negsuc, Bool, true, false, cond, nat_lt, Option, Some, None, option_map, option_and_then, inl, inr, refl, sym, ap, ◌∙◌, subst, arith, lt-ltb}
+use Rattle.std.proofs.lemmas.Option.{same_Some}
 use Rattle.std.proofs.lemmas.Bool.{false≢true, ltb-true}
 use Rattle.serde_json.specs.Data.{unsigned, negative, float, Data, null, boolean, number, string, array, Items, no_items, item}
 use Rattle.serde_json.specs.Find.{as_array, as_str, as_bool, as_number, as_u64}
@@ -9,7 +10,7 @@ use Rattle.sentry_tables.specs.Cell.{Cell, text, truth, whole, any, sequence, ce
 use Rattle.sentry_tables.specs.Kind.{scalar}
 use Rattle.sentry_tables.specs.Written.{is_null}
 use Rattle.sentry_tables.specs.Lawful.{ScalarLaws, RefusesNull}
-use Rattle.sentry_tables.specs.Basic.{read_by, IsText, text_tree, text_scalar, IsTruth, truth_tree, truth_scalar, whole_below, IsBelow, IsWithin, whole_tree, unsigned_scalar, signed_at, signed_scalar, u64_of, pair_cell, pair_of, IsPair, pair_tree, pair_scalar, IsTree, IsWholeTree, any_tree, is_null_tree, any_scalar, word_tree, word_scalar}
+use Rattle.sentry_tables.specs.Basic.{read_by, IsText, text_tree, text_scalar, IsTruth, truth_tree, truth_scalar, whole_below, IsBelow, IsWithin, whole_tree, unsigned_scalar, signed_at, signed_scalar, u64_of, pair_cell, pair_of, IsPair, pair_tree, pair_scalar, IsTree, IsWholeTree, any_tree, is_null_tree, any_scalar}
 
 -- what a scalar that is read by a function owes
 pub record ReaderLaws (reads : Data → Option Cell) (writes : Cell → Data) (Stored : Cell → Type 0) : Type 0 where
@@ -18,17 +19,14 @@ pub record ReaderLaws (reads : Data → Option Cell) (writes : Cell → Data) (S
   pub not_null : (c : Cell) → Stored c → is_null (writes c) ≡ false
   pub shown : (d : Data) (c : Cell) → IsSound d → reads d ≡ Some c → Stored c
 
-inside : {A : Type 0} (a b : A) → Some a ≡ Some b → a ≡ b
-inside a b e = cc
-
-told : (o : Option Cell) → ((c : Cell) × (o ≡ Some c)) ⊎ ((c : Cell) → o ≡ Some c → ⊥)
+pub told : (o : Option Cell) → ((c : Cell) × (o ≡ Some c)) ⊎ ((c : Cell) → o ≡ Some c → ⊥)
 told None = inr (λ c e. cc)
 told (Some c) = inl (c, refl)
 
 pub lawful_reader : (reads : Data → Option Cell) (writes : Cell → Data) (Stored : Cell → Type 0) → ReaderLaws reads writes Stored → ScalarLaws (read_by reads writes Stored)
 lawful_reader reads writes Stored own = record {
   back = λ c p q. own.back c p.0;
-  only = λ c x p q h. inside x c (sym h ∙ own.back c p.0);
+  only = λ c x p q h. same_Some x c (sym h ∙ own.back c p.0);
   again = λ c p. refl;
   stored_norm = λ c p. p.0;
   plain_norm = λ c p. tt;
@@ -51,7 +49,7 @@ reader_refuses_null reads writes Stored e now c h = cc
 -- ---- texts
 
 text_shown : (d : Data) (c : Cell) → IsSound d → option_map text (as_str d) ≡ Some c → IsText c
-text_shown (string s) c h e = subst IsText (inside (text s) c e) h
+text_shown (string s) c h e = subst IsText (same_Some (text s) c e) h
 text_shown _ c h e = absurd (cc)
 
 text_back : (c : Cell) → IsText c → option_map text (as_str (text_tree c)) ≡ Some c
@@ -75,7 +73,7 @@ text_refuses_null = reader_refuses_null (λ d. option_map text (as_str d)) text_
 -- ---- truth values
 
 truth_shown : (d : Data) (c : Cell) → IsSound d → option_map truth (as_bool d) ≡ Some c → IsTruth c
-truth_shown (boolean b) c h e = subst IsTruth (inside (truth b) c e) tt
+truth_shown (boolean b) c h e = subst IsTruth (same_Some (truth b) c e) tt
 truth_shown _ c h e = absurd (cc)
 
 truth_back : (c : Cell) → IsTruth c → option_map truth (as_bool (truth_tree c)) ≡ Some c
@@ -100,15 +98,15 @@ truth_refuses_null = reader_refuses_null (λ d. option_map truth (as_bool d)) tr
 
 -- what is read as a whole number is in range
 below : (b : Bool) (bound n : ℕ) (c : Cell) → nat_lt n bound ≡ b → cond b (Some (whole (pos n))) None ≡ Some c → IsBelow bound c
-below true bound n c e f = subst (IsBelow bound) (inside (whole (pos n)) c f) (ltb-true n bound e)
+below true bound n c e f = subst (IsBelow bound) (same_Some (whole (pos n)) c f) (ltb-true n bound e)
 below false bound n c e f = absurd (cc)
 
 within : (b : Bool) (bound n : ℕ) (c : Cell) → nat_lt n bound ≡ b → cond b (Some (whole (pos n))) None ≡ Some c → IsWithin bound c
-within true bound n c e f = subst (IsWithin bound) (inside (whole (pos n)) c f) (ltb-true n bound e)
+within true bound n c e f = subst (IsWithin bound) (same_Some (whole (pos n)) c f) (ltb-true n bound e)
 within false bound n c e f = absurd (cc)
 
 within_negative : (b : Bool) (bound n : ℕ) (c : Cell) → nat_lt n bound ≡ b → cond b (Some (whole (negsuc n))) None ≡ Some c → IsWithin bound c
-within_negative true bound n c e f = subst (IsWithin bound) (inside (whole (negsuc n)) c f) (ltb-true n bound e)
+within_negative true bound n c e f = subst (IsWithin bound) (same_Some (whole (negsuc n)) c f) (ltb-true n bound e)
 within_negative false bound n c e f = absurd (cc)
 
 module _ (bound : ℕ) where
@@ -180,7 +178,7 @@ reads_pair d = option_and_then pair_of (as_array d)
 
 -- a whole number of a sound tree is below 2^64
 u64_below : (d : Data) (n : ℕ) → IsSound d → u64_of d ≡ Some n → n < 2 ^ 64
-u64_below (number (unsigned m)) n h e = subst (λ k. k < 2 ^ 64) (inside m n e) h
+u64_below (number (unsigned m)) n h e = subst (λ k. k < 2 ^ 64) (same_Some m n e) h
 u64_below (number (negative z)) n h e = absurd (cc)
 u64_below (number (float x)) n h e = absurd (cc)
 u64_below _ n h e = absurd (cc)
@@ -188,7 +186,7 @@ u64_below _ n h e = absurd (cc)
 pair_from : (a b : Option ℕ) (c : Cell) → ((m : ℕ) → a ≡ Some m → m < 2 ^ 64) → ((n : ℕ) → b ≡ Some n → n < 2 ^ 64) → option_and_then (λ m. option_map (pair_cell m) b) a ≡ Some c → IsPair c
 pair_from None b c p q e = absurd (cc)
 pair_from (Some m) None c p q e = absurd (cc)
-pair_from (Some m) (Some n) c p q e = subst IsPair (inside (pair_cell m n) c e) (p m refl, q n refl)
+pair_from (Some m) (Some n) c p q e = subst IsPair (same_Some (pair_cell m n) c e) (p m refl, q n refl)
 
 pair_items : (ds : Items) (c : Cell) → AreSound ds → pair_of ds ≡ Some c → IsPair c
 pair_items no_items c h e = absurd (cc)
@@ -246,41 +244,3 @@ any_laws = record {
   shown_tree = λ d c s h. refl;
   decide = λ d. inl (any d, refl);
 }
-
--- ---- words
-
--- what a table of words owes
-pub record WordLaws (of_text : List ℕ → Option Cell) (to_text : Cell → List ℕ) (Stored : Cell → Type 0) : Type 0 where
-  -- a stored value is read from its written text
-  pub reads : (c : Cell) → Stored c → of_text (to_text c) ≡ Some c
-  -- what is read is stored
-  pub stored : (s : List ℕ) (c : Cell) → IsUtf8 s → of_text s ≡ Some c → Stored c
-  pub utf8 : (c : Cell) → Stored c → IsUtf8 (to_text c)
-
-module _ (of_text : List ℕ → Option Cell) (to_text : Cell → List ℕ) (Stored : Cell → Type 0) (own : WordLaws of_text to_text Stored) where
-  -- what is shown is what some text is read as
-  spelled : (P : Cell → Type 0) → (d : Data) (c : Cell) → ((s : List ℕ) → d ≡ string s → of_text s ≡ Some c → P c) → option_and_then of_text (as_str d) ≡ Some c → P c
-  spelled P (string s) c f e = f s refl e
-  spelled P _ c f e = absurd (cc)
-
-  pub word_laws : ScalarLaws (word_scalar of_text to_text Stored)
-  word_laws = record {
-    back = λ c p q. own.reads c p.0;
-    only = λ c x p q h. inside x c (sym h ∙ own.reads c p.0);
-    again = λ c p. refl;
-    stored_norm = λ c p. p.0;
-    plain_norm = λ c p. tt;
-    readable_norm = λ c p q. tt;
-    depth_norm = λ c p. omega arith;
-    null_tree = λ c p. refl;
-    null_norm = λ c p. refl;
-    sound = λ c p. own.utf8 c p.0;
-    shown_stored = λ d c sound h. spelled Stored d c (λ s is e. own.stored s c (subst IsSound is sound) e) h;
-    shown_plain = λ d c sound h. tt;
-    shown_null = λ d c h e. absurd (false≢true e);
-    shown_tree = λ d c sound h. refl;
-    decide = λ d. told (option_and_then of_text (as_str d));
-  }
-
-pub word_refuses_null : (of_text : List ℕ → Option Cell) (to_text : Cell → List ℕ) (Stored : Cell → Type 0) → RefusesNull (scalar (word_scalar of_text to_text Stored))
-word_refuses_null of_text to_text Stored now c h = cc

@@ -1,6 +1,6 @@
 -- Each law holds of each lawful kind.
 use Rattle.std.proofs.Common.{◌≡◌, ◌⊎◌, ℕ, List, Option, Some, None, inl, inr, refl, sym, ap, ◌∙◌, subst}
-use Rattle.std.proofs.lemmas.Option.{none-some}
+use Rattle.std.proofs.lemmas.Option.{none-some, same_Some}
 use Rattle.serde_json.specs.Data.{Data}
 use Rattle.serde_json.specs.Written.{compact_text}
 use Rattle.sentry_json.specs.Line.{tree_of}
@@ -63,15 +63,12 @@ is_written K laws c s p = sound_tree K laws c (proper K c s p)
 
 -- ---- of lines of text
 
-inside : (a b : Data) → Some a ≡ Some b → a ≡ b
-inside a b e = cc
-
 pub reads_back_text : (K : Kind) → IsLawful K → ReadsBackText K
 reads_back_text K laws c now s p r shallow =
     let d = tree K c in
     let read = tree_of_written d (is_written K laws c s p) shallow in
     let shown = reads_back K laws c now s p r in
-    ((d, read, shown.0), λ x h. shown.1 x (subst (λ e. Shows K now e x) (inside h.0 d (sym h.1 ∙ read)) h.2))
+    ((d, read, shown.0), λ x h. shown.1 x (subst (λ e. Shows K now e x) (same_Some h.0 d (sym h.1 ∙ read)) h.2))
 
 pub has_one_text : (K : Kind) → IsLawful K → HasOneText K
 has_one_text K laws a b sa pa ra sb pb rb =
@@ -91,7 +88,7 @@ found_or_none K now line (Some d) is each = go (each d)
   where
     go : ((c : Cell) × Shows K now d c) ⊎ ((c : Cell) → Shows K now d c → ⊥) → ((c : Cell) × TextShows K now line c) ⊎ ((c : Cell) → TextShows K now line c → ⊥)
     go (inl one) = inl (one.0, (d, is, one.1))
-    go (inr none) = inr (λ c h. none c (subst (λ e. Shows K now e c) (inside h.0 d (sym h.1 ∙ is)) h.2))
+    go (inr none) = inr (λ c h. none c (subst (λ e. Shows K now e c) (same_Some h.0 d (sym h.1 ∙ is)) h.2))
 
 pub is_decided_text : (K : Kind) → IsLawful K → IsDecidedText K
 is_decided_text K laws line now = found_or_none K now line (tree_of line) refl (λ d. is_decided K laws d now)

@@ -1,26 +1,24 @@
 -- A sample of every rule and kind: the premises of the laws can be met.
 use Rattle.std.proofs.Common.{◌≡◌, ◌<◌, ◌≤◌, ◌^◌, ◌&&◌, ℕ, pos, negsuc, List, [], ◌∷◌, Bool, true, false, cond, nat_lt, codes, bytes_eq, Option, Some, None, option_and_then, refl, sym, subst, arith, lt-ltb, IsUtf8}
+use Rattle.std.proofs.lemmas.Option.{same_Some}
 use Rattle.std.proofs.lemmas.Bool.{and_parts, ltb-true}
-use Rattle.serde_json.specs.Data.{unsigned, Data, null, number, array, Items, no_items, item, no_members, member, depth}
-use Rattle.serde_json.specs.Find.{as_array}
+use Rattle.serde_json.specs.Data.{unsigned, Data, null, number, string, array, Items, no_items, item, no_members, member, depth}
+use Rattle.serde_json.specs.Find.{as_array, as_str}
 use Rattle.serde_json.specs.Written.{compact_text}
 use Rattle.sentry_json.specs.Sound.{IsSound}
 use Rattle.sentry_tables.specs.Cell.{Cell, absent, present, text, truth, whole, any, moment, sequence, mapping, fields, choice, no_cells, cell, no_entries, entry}
 use Rattle.sentry_tables.specs.Kind.{Scalar, must, may, may_null, may_strict, default, always, draw, at_once, ignored, kept, Kind, scalar, list, map, values, table, tagged, tagged_map, Rows, no_rows, row, Cases, no_cases, case, keys}
-use Rattle.sentry_tables.specs.Basic.{read_by, text_scalar, truth_scalar, unsigned_scalar, signed_scalar, u64_of, IsTruth, pair_scalar, any_scalar, word_scalar}
+use Rattle.sentry_tables.specs.Basic.{read_by, text_scalar, truth_scalar, unsigned_scalar, signed_scalar, u64_of, IsTruth, pair_scalar, any_scalar}
 use Rattle.sentry_tables.specs.Fields.{Field, field, rows_of, table_of, fields_by}
 use Rattle.sentry_tables.specs.Norm.{norm}
 use Rattle.sentry_tables.specs.Written.{is_null, tree, in_order}
 use Rattle.sentry_tables.specs.Meets.{IsPlain, IsReadable, IsStored}
 use Rattle.sentry_tables.specs.Lawful.{is_ascii, ScalarLaws, RefusesNull, IsNormal, IsMoment, IsLawful, CasesLawful}
 use Rattle.sentry_tables.specs.Laws.{TextShows, HasLaws}
-use Rattle.sentry_tables.proofs.Basic.{lawful_reader, reader_refuses_null, text_laws, truth_laws, truth_refuses_null, unsigned_laws, signed_laws, signed_refuses_null, pair_laws, any_laws, word_laws, word_refuses_null}
+use Rattle.sentry_tables.proofs.Basic.{lawful_reader, reader_refuses_null, text_laws, truth_laws, truth_refuses_null, unsigned_laws, signed_laws, signed_refuses_null, pair_laws, any_laws}
 use Rattle.sentry_tables.proofs.Nulls.{list_refuses_null}
 use Rattle.sentry_tables.proofs.Sound.{ascii_text}
 use Rattle.sentry_tables.proofs.Laws.{has_laws}
-
-inside : {A : Type 0} (a b : A) → Some a ≡ Some b → a ≡ b
-inside a b e = cc
 
 -- ---- a moment: an array of its seconds and nanoseconds
 
@@ -51,7 +49,7 @@ moment_back : (secs nanos : ℕ) → secs < 253402300800 → nanos < 10 ^ 9 → 
 moment_back secs nanos p q = rw (lt-ltb secs 253402300800 p, lt-ltb nanos (10 ^ 9) q) refl
 
 moment_from : (b : Bool) (secs nanos : ℕ) (c : Cell) → (nat_lt secs 253402300800 && nat_lt nanos (10 ^ 9)) ≡ b → cond b (Some (moment secs nanos)) None ≡ Some c → IsMoment c
-moment_from true secs nanos c is e = let p = and_parts _ _ is in subst IsMoment (inside (moment secs nanos) c e) (ltb-true secs _ p.0, ltb-true nanos _ p.1)
+moment_from true secs nanos c is e = let p = and_parts _ _ is in subst IsMoment (same_Some (moment secs nanos) c e) (ltb-true secs _ p.0, ltb-true nanos _ p.1)
 moment_from false secs nanos c is e = absurd (cc)
 
 moment_parts : (a b : Option ℕ) (c : Cell) → option_and_then (λ secs. option_and_then (moment_at secs) b) a ≡ Some c → IsMoment c
@@ -91,19 +89,26 @@ switch_text (truth true) = codes "on"
 switch_text (truth false) = codes "off"
 switch_text _ = []
 
+abbrev switch_in : Data → Option Cell
+switch_in d = option_and_then switch_of (as_str d)
+
+abbrev switch_tree : Cell → Data
+switch_tree c = string (switch_text c)
+
 abbrev switch_scalar : Scalar
-switch_scalar = word_scalar switch_of switch_text IsTruth
+switch_scalar = read_by switch_in switch_tree IsTruth
 
 picked : (a b c : Bool) (x : Cell) → cond a (Some (truth true)) (cond b (Some (truth true)) (cond c (Some (truth false)) None)) ≡ Some x → IsTruth x
-picked true b c x e = subst IsTruth (inside (truth true) x e) tt
-picked false true c x e = subst IsTruth (inside (truth true) x e) tt
-picked false false true x e = subst IsTruth (inside (truth false) x e) tt
+picked true b c x e = subst IsTruth (same_Some (truth true) x e) tt
+picked false true c x e = subst IsTruth (same_Some (truth true) x e) tt
+picked false false true x e = subst IsTruth (same_Some (truth false) x e) tt
 picked false false false x e = absurd (cc)
 
-switch_stored : (s : List ℕ) (c : Cell) → switch_of s ≡ Some c → IsTruth c
-switch_stored s c e = picked (bytes_eq s (codes "on")) (bytes_eq s (codes "yes")) (bytes_eq s (codes "off")) c e
+switch_shown : (d : Data) (c : Cell) → switch_in d ≡ Some c → IsTruth c
+switch_shown (string s) c e = picked (bytes_eq s (codes "on")) (bytes_eq s (codes "yes")) (bytes_eq s (codes "off")) c e
+switch_shown _ c e = absurd (cc)
 
-switch_reads : (c : Cell) → IsTruth c → switch_of (switch_text c) ≡ Some c
+switch_reads : (c : Cell) → IsTruth c → switch_in (switch_tree c) ≡ Some c
 switch_reads (truth true) h = refl
 switch_reads (truth false) h = refl
 switch_reads _ h = absurd h
@@ -115,10 +120,11 @@ switch_utf8 _ h = absurd h
 
 switch_laws : ScalarLaws switch_scalar
 switch_laws =
-    word_laws switch_of switch_text IsTruth (record {
-      reads = switch_reads;
-      stored = λ s c u e. switch_stored s c e;
-      utf8 = switch_utf8;
+    lawful_reader switch_in switch_tree IsTruth (record {
+      back = switch_reads;
+      sound = switch_utf8;
+      not_null = λ c p. refl;
+      shown = λ d c s e. switch_shown d c e;
     })
 
 -- ---- a table from its lines
@@ -203,7 +209,7 @@ sample_lawful = (
         any_laws,
         (
           refl,
-          (word_refuses_null switch_of switch_text IsTruth, (tt, tt, tt, refl)),
+          (reader_refuses_null switch_in switch_tree IsTruth refl, (tt, tt, tt, refl)),
           switch_laws,
           (
             refl,

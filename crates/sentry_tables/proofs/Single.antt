@@ -1,10 +1,10 @@
 -- At each moment a tree shows at most one value of a kind that draws nothing.
-use Rattle.std.proofs.Common.{◌≡◌, ℕ, zero, suc, List, ◌∷◌, true, Option, Some, None, option_and_then, refl, sym, ap, ap₂, ◌∙◌, subst}
+use Rattle.std.proofs.Common.{◌≡◌, ℕ, zero, suc, List, ◌∷◌, true, Option, Some, None, refl, sym, ap, ap₂, ◌∙◌, subst}
 use Rattle.std.proofs.lemmas.Bool.{false≢true}
 use Rattle.serde_json.specs.Data.{Data, Items, no_items, item, Members, no_members, member}
-use Rattle.serde_json.specs.Find.{get, as_array, as_object, as_str}
+use Rattle.serde_json.specs.Find.{get, as_array, as_object}
 use Rattle.sentry_json.specs.Line.{tree_of}
-use Rattle.sentry_tables.specs.Basic.{read_by, word_scalar}
+use Rattle.sentry_tables.specs.Basic.{read_by}
 use Rattle.sentry_tables.specs.Cell.{Cell, present, sequence, mapping, fields, choice, Cells, no_cells, cell, Entries, no_entries, entry}
 use Rattle.sentry_tables.specs.Kind.{Rule, must, may, may_null, may_strict, default, always, draw, at_once, Kind, scalar, list, map, values, table, tagged, tagged_map, Rows, no_rows, row, Cases, no_cases, case, keys, words, has_key, others}
 use Rattle.sentry_tables.specs.Shows.{is_object, members_in, ObjectShows, IsPresent, IsSequence, IsMapping, AreFields, IsChoice, ItemsShow, MembersShow, ArrayShows, values_in, unless_null, ShowsOption, RowShows, OrElse, word_at, word_of, Shows, RowsShow, CaseShows}
@@ -18,9 +18,6 @@ same_cell o c x h k = cc
 
 pub read_functional : (reads : Data → Option Cell) (writes : Cell → Data) (Stored : Cell → Type 0) → IsFunctional (read_by reads writes Stored)
 read_functional reads writes Stored d c x h k = same_cell (reads d) c x h k
-
-pub words_functional : (of_text : List ℕ → Option Cell) (to_text : Cell → List ℕ) (Stored : Cell → Type 0) → IsFunctional (word_scalar of_text to_text Stored)
-words_functional of_text to_text Stored d c x h k = same_cell (option_and_then of_text (as_str d)) c x h k
 
 -- ---- one level
 

@@ -1,5 +1,5 @@
 -- Scalars that are texts, truth values, whole numbers, trees, pairs and words.
-use Rattle.std.specs.Prelude.{◌≡◌, ℕ, ◌<◌, ◌^◌, pos, negsuc, List, Bool, false, Option, Some, None, option_map, option_and_then, unwrap_or, cond, nat_lt, IsUtf8, ⊤}
+use Rattle.std.specs.Prelude.{◌≡◌, ℕ, ◌<◌, ◌^◌, pos, negsuc, Bool, false, Option, Some, None, option_map, option_and_then, cond, nat_lt, IsUtf8, ⊤}
 use Rattle.serde_json.specs.Data.{Num, unsigned, negative, float, Data, null, boolean, number, string, array, Items, no_items, item}
 use Rattle.serde_json.specs.Find.{as_array, as_str, as_bool, as_number, as_u64}
 use Rattle.serde_json.specs.Written.{has_float}
@@ -123,20 +123,3 @@ is_null_tree _ = false
 abbrev pub any_scalar : Scalar
 any_scalar =
     record { shows = λ d c. any d ≡ c; tree = any_tree; norm = λ c. c; is_null = is_null_tree; stored = IsTree; plain = IsWholeTree; readable = λ c. ⊤ }
-
--- ---- words: values that are read from texts, some of several texts, and written as one
-
-abbrev pub word_tree : (Cell → List ℕ) → Cell → Data
-word_tree to_text c = string (to_text c)
-
--- Each value is its own normal form.
-abbrev pub word_scalar : (List ℕ → Option Cell) → (Cell → List ℕ) → (Cell → Type 0) → Scalar
-word_scalar of_text to_text Stored = record {
-  shows = λ d c. option_and_then of_text (as_str d) ≡ Some c;
-  tree = word_tree to_text;
-  norm = λ c. c;
-  is_null = λ c. false;
-  stored = Stored;
-  plain = λ c. ⊤;
-  readable = λ c. ⊤;
-}

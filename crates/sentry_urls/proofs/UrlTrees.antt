@@ -1,12 +1,11 @@
 -- The spelling of URLs is lawful.
 use Rattle.std.proofs.Common.{◌≡◌, ◌⊎◌, ℕ, List, [], ◌∷◌, Option, Some, None, Ok, Err, inl, inr, refl, sym, ap, subst, ◌∙◌, IsUtf8}
-use Rattle.std.specs.Prelude.{◌↔◌, true, bytes_eq, IfSome, Result, IfOk, OnOk}
+use Rattle.std.specs.Prelude.{◌↔◌, true, bytes_eq, Result, IfOk, OnOk}
 use Rattle.std.proofs.lemmas.Slice.Eq.{bytes_eq-Decides}
 use Rattle.std.proofs.lemmas.Str.{IsUtf8-from_ascii}
 use Rattle.json.specs.Token.{Token}
 use Rattle.json.specs.Written.{Written, Writes}
 use Rattle.serde_json.specs.Data.{Data, string}
-use Rattle.serde_json.specs.Find.{as_str}
 use Rattle.serde_json.specs.View.{view}
 use Rattle.serde_json.specs.declared.value.Value.{Value}
 use Rattle.url.specs.declared.host.Host.{Host}
@@ -25,10 +24,10 @@ use Rattle.sentry_tables.specs.Shows.{Shows}
 use Rattle.sentry_tables.specs.Single.{IsSingle}
 use Rattle.sentry_tables.proofs.Laws.{has_laws}
 use Rattle.sentry_members.specs.Cells.{natural_cell, option_cell, cells}
-use Rattle.sentry_members.specs.Spelling.{Texted, SpellingLaws}
+use Rattle.sentry_members.specs.Spelling.{SpellingLaws}
 use Rattle.sentry_members.specs.Written.{written, WritesTree}
 use Rattle.sentry_members.proofs.Single.{spelled_functional}
-use Rattle.sentry_members.proofs.Spellings.{spelled_laws, spelled_refuses_null, text_tree, spelling_wrote}
+use Rattle.sentry_members.proofs.Spellings.{spelled_laws, shown_readable, spelled_refuses_null, text_tree, spelling_wrote}
 use Rattle.sentry_urls.specs.UrlTree.{host_cell, url_cell, text_of, natural_of, naturals_of, host_of, option_of, url_of, UrlReadsBack, url_spelling, url_kind}
 use Rattle.sentry_urls.proofs.ParsedUrls.{parsed_valid}
 use Rattle.sentry_urls.proofs.Utf8Bytes.{utf8_bytes}
@@ -131,17 +130,9 @@ urls_decide a b own other =
     let decides = bytes_eq-Decides (serialize a) (serialize b) in
     (λ equal. one_text a b own other (decides.0 equal), λ same. decides.1 (ap serialize same))
 
-shown_readable : (o : Option (List ℕ)) (c : Cell) → IfSome o IsUtf8 → Texted url_spelling.spells o c → url_spelling.readable c
-shown_readable None c utf8 h = absurd h
-shown_readable (Some s) c utf8 h = (h.0, h.1, named_reads_back s h.0 utf8 h.2)
-
-text_utf8 : (d : Data) → IsSound d → IfSome (as_str d) IsUtf8
-text_utf8 (string s) sound = sound
-text_utf8 _ sound = tt
-
 -- what a tree shows is readable
 pub url_shown_readable : (now : Cell) (d : Data) (c : Cell) → IsSound d → Shows url_kind now d c → IsReadable url_kind c
-url_shown_readable now d c sound h = shown_readable (as_str d) c (text_utf8 d sound) h
+url_shown_readable now d c sound h = shown_readable url_spelling (λ s c utf8 e. (e.0, e.1, named_reads_back s e.0 utf8 e.2)) d c sound h
 
 -- ---- what is written
 

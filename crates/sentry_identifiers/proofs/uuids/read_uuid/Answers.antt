@@ -1,6 +1,8 @@
 use Rattle.std.proofs.Common.{rules, sym}
 use Rattle.std.proofs.lemmas.Bool.{false≢true}
-use Rattle.sentry_identifiers.proofs.UuidTexts.{uuid_shown, not_uuid, not_text}
+use Rattle.sentry_members.proofs.Spellings.{not_text}
+use Rattle.sentry_identifiers.specs.Uuids.{uuid_spelling}
+use Rattle.sentry_identifiers.proofs.UuidTexts.{uuid_shown, not_uuid}
 use Rattle.sentry_identifiers.proofs.uuids.read_uuid.Goals as goal
 
 pub returns-in-Ok : goal.returns-in-Ok
@@ -10,4 +12,4 @@ pub returns-in-Err : goal.returns-in-Err
 returns-in-Err c = λ to_text. not_uuid to_text c.in-Some.text.now _ (search rules) (λ b e. false≢true (c.in-Err.ensures.ok.1 (b, e)))
 
 pub returns-in-None : goal.returns-in-None
-returns-in-None c = λ to_text. not_text to_text _ (search rules)
+returns-in-None c = λ to_text. not_text (uuid_spelling to_text) _ (search rules)
