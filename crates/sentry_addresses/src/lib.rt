@@ -9,6 +9,3 @@ pub mod laws;
 pub use addr::{Addr, RegVal};
 pub use ip::{IpAddress, ParseIpError};
 pub use ip_text::IpText;
-
-#[cfg(test)]
-mod tree_tests;

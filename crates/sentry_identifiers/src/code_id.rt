@@ -91,17 +91,3 @@ impl Spelled for CodeId {
 
     fn hold(&self) {}
 }
-
-#[cfg(test)]
-mod tests {
-    use super::*;
-    use std::test::Fail;
-
-    #[test]
-    fn digits(rt: HostRuntime) -> Result<(), Fail> {
-        let id = CodeId::new(rt.alloc(), "AB-cd!g1")?;
-        assert_eq!(rt; id.as_str(), "abcd1");
-        assert!(rt; id.clone()? == id);
-        Ok(())
-    }
-}

@@ -16,8 +16,3 @@ pub use hex::FromHexError;
 pub use span_id::SpanId;
 pub use trace_id::TraceId;
 pub use uuids::{Hyphenated, Simple, random_uuid};
-
-#[cfg(test)]
-mod id_tests;
-#[cfg(test)]
-mod uuid_tests;

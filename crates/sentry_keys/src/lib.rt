@@ -18,8 +18,3 @@ pub use auth::{Auth, LATEST, ParseAuthError};
 pub use dsn::Dsn;
 pub use dsn_error::ParseDsnError;
 pub use scheme::Scheme;
-
-#[cfg(test)]
-mod auth_tests;
-#[cfg(test)]
-mod dsn_tests;

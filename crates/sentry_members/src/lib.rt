@@ -24,8 +24,3 @@ pub use member::Member;
 pub use read::{FromTree, ReadCodec};
 pub use spelled::{Room, Spelled};
 pub use text::{text_of, write_text};
-
-#[cfg(test)]
-mod read_tests;
-#[cfg(test)]
-mod write_tests;

@@ -215,37 +215,3 @@ impl fmt::Display for Decimal {
         write!(f, "{whole}{fraction}")
     }
 }
-
-#[cfg(test)]
-mod tests {
-    use super::*;
-    use std::test::Fail;
-
-    #[test]
-    fn decimals_are_printed(rt: HostRuntime) -> Result<(), Fail> {
-        let printed = [
-            (0, 0, "0"),
-            (1, 500_000_000, "1.5"),
-            (0, 210, "0.00000021"),
-            (10, 10, "10.00000001"),
-            (u64::MAX, 999_999_999, "18446744073709551615.999999999"),
-        ];
-        for (whole, billionths, text) in printed {
-            let number = Decimal { whole, billionths };
-            assert_eq!(rt; format!(in rt.alloc(); "{number}")?.as_str(), text);
-        }
-        Ok(())
-    }
-
-    #[test]
-    fn errors_are_printed(rt: HostRuntime) -> Result<(), Fail> {
-        let invalid = DecimalError::InvalidText;
-        assert_eq!(rt;
-            format!(in rt.alloc(); "{invalid}")?.as_str(),
-            "InvalidText"
-        );
-        let outside = DecimalError::OutOfRange;
-        assert_eq!(rt; format!(in rt.alloc(); "{outside}")?.as_str(), "OutOfRange");
-        Ok(())
-    }
-}

@@ -16,6 +16,3 @@ pub use forms::{Rfc3339, Seconds};
 pub use moment::Moment;
 pub use sample_rand::{InvalidSampleRandError, SampleRand};
 pub use sample_rate::SampleRate;
-
-#[cfg(test)]
-mod form_tests;

@@ -9,6 +9,3 @@ mod project_id;
 pub use log_severity_number::{LogSeverityNumber, SeverityOutOfRange};
 pub use number::{ParseNumberError, parse_number};
 pub use project_id::{OrganizationId, OrganizationText, ParseProjectIdError, ProjectId};
-
-#[cfg(test)]
-mod number_tests;

@@ -7,6 +7,3 @@ pub mod laws;
 
 pub use client_sdk_info::ClientSdkInfo;
 pub use client_sdk_package::ClientSdkPackage;
-
-#[cfg(test)]
-mod tests;

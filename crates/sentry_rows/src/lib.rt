@@ -18,8 +18,3 @@ pub use draw::Drawn;
 pub use sink::Sink;
 pub use table::Table;
 pub use values::Values;
-
-#[cfg(test)]
-mod read_tests;
-#[cfg(test)]
-mod tests;

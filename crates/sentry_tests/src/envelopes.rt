@@ -76,12 +76,12 @@ fn hello(alloc: Global) -> Result<EnvelopeItem, AllocError> {
 }
 
 /// A recording without bytes.
-pub fn recording(alloc: Global) -> EnvelopeItem {
+pub(crate) fn recording(alloc: Global) -> EnvelopeItem {
     EnvelopeItem::ReplayRecording(ReplayRecording::default_in(alloc))
 }
 
 /// Filters, and keeps the other fields of the header or drops them.
-pub fn filtered<F: EnvelopeFilter>(
+pub(crate) fn filtered<F: EnvelopeFilter>(
     alloc: Global,
     envelope: Envelope,
     filter: &mut F,

@@ -28,6 +28,3 @@ pub use sentry_words::{
     Sampled, SessionStatus, SpanStatus,
 };
 pub use timed::FromTreeAt;
-
-#[cfg(test)]
-mod timed_tests;

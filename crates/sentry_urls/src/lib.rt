@@ -5,6 +5,3 @@ pub mod laws;
 mod url_text;
 
 pub use url_text::UrlText;
-
-#[cfg(test)]
-mod tests;

@@ -25,6 +25,3 @@ pub use parse_word_error::ParseWordError;
 pub use sampled::Sampled;
 pub use session_status::{ParseSessionStatusError, SessionStatus};
 pub use span_status::{ParseStatusError, SpanStatus};
-
-#[cfg(test)]
-mod word_tests;

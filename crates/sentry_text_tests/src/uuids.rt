@@ -1,9 +1,7 @@
-use crate::uuids::{Hyphenated, Simple, random_uuid};
+// UUIDs as texts of JSON.
 use rand_core::Rng;
-use sentry_members::Codec;
-use sentry_members::line::read_tree;
-use sentry_rows::draw::or_drawn_as;
-use sentry_rows::rows::required_as;
+use sentry_text::rows::required_as;
+use sentry_text::{Codec, Hyphenated, Simple, or_drawn_as, random_uuid, read_tree};
 use std::test::Fail;
 use uuid::Uuid;
 

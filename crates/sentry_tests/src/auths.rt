@@ -1,19 +1,48 @@
-use crate::auth::{Auth, LATEST, ParseAuthError};
-use sentry_members::{FromTree, Member, TreeError};
-use sentry_moments::Moment;
+// What headers, pairs, queries and trees tell of an authentication, and what is written of it.
+use sentry_text::{FromTree, Member, TreeError};
+use sentry_types::protocol::LATEST;
+use sentry_types::protocol::v7::Moment;
+use sentry_types::{Auth, ParseAuthError};
 use serde_json::Value;
 use std::alloc::Global;
 use std::test::Fail;
 
-fn moment(secs: u64, nanos: u32) -> Result<Option<Moment>, Fail> {
-    Ok(Some(Moment::new(secs, nanos).ok_or("moment")?))
+/// The parts of an authentication.
+#[derive(Drop)]
+struct Parts {
+    timestamp: Option<Moment>,
+    client: Option<&'static str>,
+    version: u16,
+    key: &'static str,
+    secret: Option<&'static str>,
+}
+
+/// A key at the latest version, and nothing else.
+fn key_alone(key: &'static str) -> Parts {
+    Parts {
+        timestamp: None,
+        client: None,
+        version: LATEST,
+        key,
+        secret: None,
+    }
+}
+
+/// Whether an authentication has these parts and no other.
+fn has_parts(auth: &Auth, parts: &Parts) -> bool {
+    auth.timestamp() == parts.timestamp
+        && auth.client_agent() == parts.client
+        && auth.version() == parts.version
+        && auth.public_key() == parts.key
+        && auth.secret_key() == parts.secret
+        && auth.is_public() == parts.secret.is_none()
 }
 
 fn printed(alloc: Global, header: &str) -> Result<String, Fail> {
     Ok(Auth::from_str(alloc, header)?.to_string(alloc)?)
 }
 
-fn error(answer: Result<Auth, ParseAuthError>) -> Option<ParseAuthError> {
+fn refusal(answer: Result<Auth, ParseAuthError>) -> Option<ParseAuthError> {
     match answer {
         Ok(_) => None,
         Err(error) => Some(error),
@@ -26,12 +55,14 @@ fn a_header_is_read(rt: HostRuntime) -> Result<(), Fail> {
         rt.alloc(),
         "Sentry sentry_timestamp=1328055286.5, sentry_client=raven-python/42, sentry_version=6, sentry_key=public, sentry_secret=secret",
     )?;
-    assert_eq!(rt; auth.timestamp(), moment(1_328_055_286, 500_000_000)?);
-    assert_eq!(rt; auth.client_agent(), Some("raven-python/42"));
-    assert_eq!(rt; auth.version(), 6);
-    assert_eq!(rt; auth.public_key(), "public");
-    assert_eq!(rt; auth.secret_key(), Some("secret"));
-    assert!(rt; !auth.is_public());
+    let parts = Parts {
+        timestamp: Moment::new(1_328_055_286, 500_000_000),
+        client: Some("raven-python/42"),
+        version: 6,
+        key: "public",
+        secret: Some("secret"),
+    };
+    assert!(rt; has_parts(&auth, &parts));
     assert_eq!(rt;
         auth.clone()?.to_string(rt.alloc())?.as_str(),
         "Sentry sentry_key=public, sentry_version=6, sentry_timestamp=1328055286.5, sentry_client=raven-python/42, sentry_secret=secret"
@@ -64,55 +95,63 @@ fn headers_are_printed(rt: HostRuntime) -> Result<(), Fail> {
     Ok(())
 }
 
-// As clients of several languages write them.
+/// As clients of several languages write them.
 #[test]
 fn headers_of_clients(rt: HostRuntime) -> Result<(), Fail> {
-    let key = "b70a31b3510c4cf793964a185cfe1fd0";
-    for (header, client, secret) in [
+    for (header, timestamp, client, secret) in [
         (
             "Sentry sentry_key=b70a31b3510c4cf793964a185cfe1fd0, sentry_version=7, sentry_client=sentry.python/1.9.10",
+            None,
             "sentry.python/1.9.10",
             None,
         ),
         (
             "Sentry sentry_version=7, sentry_client=sentry.php/4.10.0, sentry_key=b70a31b3510c4cf793964a185cfe1fd0",
+            None,
             "sentry.php/4.10.0",
             None,
         ),
         (
             "Sentry sentry_version=7,sentry_client=sentry.java/7.14.0,sentry_key=b70a31b3510c4cf793964a185cfe1fd0",
+            None,
             "sentry.java/7.14.0",
             None,
         ),
         (
             "Sentry sentry_version=7, sentry_client=sentry-ruby/5.22.1, sentry_key=b70a31b3510c4cf793964a185cfe1fd0, sentry_timestamp=1732199682",
+            Moment::new(1_732_199_682, 0),
             "sentry-ruby/5.22.1",
             None,
         ),
         (
             "Sentry sentry_version=7, sentry_timestamp=1732199682, sentry_client=sentry.go/0.29.1, sentry_key=b70a31b3510c4cf793964a185cfe1fd0",
+            Moment::new(1_732_199_682, 0),
             "sentry.go/0.29.1",
             None,
         ),
         (
             "Sentry sentry_key=b70a31b3510c4cf793964a185cfe1fd0, sentry_version=7, sentry_timestamp=1732199682.731, sentry_client=raven-clj/1.6.0, sentry_secret=1a4c",
+            Moment::new(1_732_199_682, 731_000_000),
             "raven-clj/1.6.0",
             Some("1a4c"),
         ),
     ] {
         let auth = Auth::from_str(rt.alloc(), header)?;
-        assert_eq!(rt; auth.public_key(), key);
-        assert_eq!(rt; auth.version(), LATEST);
-        assert_eq!(rt; auth.client_agent(), Some(client));
-        assert_eq!(rt; auth.secret_key(), secret);
-        assert_eq!(rt; auth.is_public(), secret.is_none());
+        let parts = Parts {
+            timestamp,
+            client: Some(client),
+            version: LATEST,
+            key: "b70a31b3510c4cf793964a185cfe1fd0",
+            secret,
+        };
+        assert!(rt; has_parts(&auth, &parts), "{header}");
     }
     Ok(())
 }
 
 #[test]
-fn headers_are_refused(rt: HostRuntime) -> Result<(), Fail> {
-    for (header, refusal) in [
+fn headers_are_refused(rt: HostRuntime) {
+    for (header, error) in [
         ("", ParseAuthError::NonSentryAuth),
         ("Basic sentry_key=a", ParseAuthError::NonSentryAuth),
         (" Sentry sentry_key=a", ParseAuthError::NonSentryAuth),
@@ -133,9 +172,8 @@ fn headers_are_refused(rt: HostRuntime) -> Result<(), Fail> {
             ParseAuthError::InvalidVersion,
         ),
     ] {
-        assert_eq!(rt; error(Auth::from_str(rt.alloc(), header)), Some(refusal));
+        assert_eq!(rt; refusal(Auth::from_str(rt.alloc(), header)), Some(error));
     }
-    Ok(())
 }
 
 #[test]
@@ -149,11 +187,12 @@ fn the_last_pair_counts(rt: HostRuntime) -> Result<(), Fail> {
             ("sentry_key", "b"),
         ],
     )?;
-    assert_eq!(rt; auth.timestamp(), None);
-    assert_eq!(rt; auth.public_key(), "b");
-    assert_eq!(rt; auth.version(), 7);
-    assert_eq!(rt; auth.client_agent(), None);
-    assert!(rt; auth.is_public());
+    assert!(rt; has_parts(&auth, &key_alone("b")));
+    Ok(())
+}
+
+#[test]
+fn pairs_are_read(rt: HostRuntime) -> Result<(), Fail> {
     let auth = Auth::from_pairs(
         rt.alloc(),
         &[
@@ -162,22 +201,27 @@ fn the_last_pair_counts(rt: HostRuntime) -> Result<(), Fail> {
             ("sentry_key", "4bb5d94de752a36b8b87851a3f82726a"),
         ],
     )?;
-    assert_eq!(rt; auth.client_agent(), Some("raven-js/3.23.3"));
-    assert_eq!(rt; auth.public_key(), "4bb5d94de752a36b8b87851a3f82726a");
-    assert_eq!(rt; auth.secret_key(), None);
+    let mut parts = key_alone("4bb5d94de752a36b8b87851a3f82726a");
+    parts.client = Some("raven-js/3.23.3");
+    assert!(rt; has_parts(&auth, &parts));
     Ok(())
 }
 
 #[test]
-fn pairs_are_refused(rt: HostRuntime) -> Result<(), Fail> {
-    assert_eq!(rt;
-        error(Auth::from_pairs(rt.alloc(), &[("sentry_version", "x")])),
-        Some(ParseAuthError::InvalidVersion)
-    );
-    assert_eq!(rt;
-        error(Auth::from_pairs(rt.alloc(), &[])),
-        Some(ParseAuthError::MissingPublicKey)
-    );
+fn pairs_are_refused(rt: HostRuntime) {
+    for (version, error) in [
+        ("x", ParseAuthError::InvalidVersion),
+        ("7", ParseAuthError::MissingPublicKey),
+    ] {
+        let pairs = Auth::from_pairs(rt.alloc(), &[("sentry_version", version)]);
+        assert_eq!(rt; refusal(pairs), Some(error));
+    }
+    let none = Auth::from_pairs(rt.alloc(), &[]);
+    assert_eq!(rt; refusal(none), Some(ParseAuthError::MissingPublicKey));
+}
+
+#[test]
+fn errors_are_printed(rt: HostRuntime) -> Result<(), Fail> {
     for (error, text) in [
         (ParseAuthError::NonSentryAuth, "non sentry auth"),
         (ParseAuthError::InvalidVersion, "invalid value for version"),
@@ -198,27 +242,19 @@ fn queries_are_read(rt: HostRuntime) -> Result<(), Fail> {
         rt.alloc(),
         b"sentry_version=7&sentry_client=raven%2Djs/3.23.3&&sentry_key=4bb5d94de752a36b8b87851a3f82726a&glitch",
     )?;
-    assert_eq!(rt; auth.timestamp(), None);
-    assert_eq!(rt; auth.client_agent(), Some("raven-js/3.23.3"));
-    assert_eq!(rt; auth.version(), 7);
-    assert_eq!(rt; auth.public_key(), "4bb5d94de752a36b8b87851a3f82726a");
-    assert_eq!(rt; auth.secret_key(), None);
+    let mut parts = key_alone("4bb5d94de752a36b8b87851a3f82726a");
+    parts.client = Some("raven-js/3.23.3");
+    assert!(rt; has_parts(&auth, &parts));
     let day = b"sentry_key=k&sentry_timestamp=2019-12-13 12:02:58.94";
-    assert_eq!(rt; Auth::from_querystring(rt.alloc(), day)?.timestamp(), None);
-    assert_eq!(rt;
-        error(Auth::from_querystring(rt.alloc(), b"sentry_key=")),
-        Some(ParseAuthError::MissingPublicKey)
-    );
+    let auth = Auth::from_querystring(rt.alloc(), day)?;
+    assert!(rt; has_parts(&auth, &key_alone("k")));
+    let empty = Auth::from_querystring(rt.alloc(), b"sentry_key=");
+    assert_eq!(rt; refusal(empty), Some(ParseAuthError::MissingPublicKey));
     Ok(())
 }
 
 fn json(alloc: Global, auth: &Auth) -> Result<String, Fail> {
     Ok(auth.to_tree(alloc)?.to_string(alloc)?)
-}
-
-fn from_json(alloc: Global, text: &str) -> Result<Result<Auth, TreeError>, Fail> {
-    let tree = Value::from_str(alloc, text)?;
-    Ok(Auth::from_tree(alloc, &tree))
 }
 
 #[test]
@@ -235,10 +271,15 @@ fn trees_are_written(rt: HostRuntime) -> Result<(), Fail> {
         "{\"sentry_client\":\"raven-js/3.23.3\",\"sentry_key\":\"k\",\"sentry_secret\":null,\"sentry_version\":7}";
     assert_eq!(rt; json(rt.alloc(), &auth)?.as_str(), text);
     let copy = auth.copy()?;
-    assert_eq!(rt; copy.timestamp(), moment(5, 0)?);
+    assert_eq!(rt; copy.timestamp(), Moment::new(5, 0));
     assert_eq!(rt; json(rt.alloc(), &copy)?.as_str(), text);
     assert!(rt; auth.is_plain());
     Ok(())
+}
+
+fn from_json(alloc: Global, text: &str) -> Result<Result<Auth, TreeError>, Fail> {
+    let tree = Value::from_str(alloc, text)?;
+    Ok(Auth::from_tree(alloc, &tree))
 }
 
 #[test]
@@ -247,11 +288,9 @@ fn trees_are_read(rt: HostRuntime) -> Result<(), Fail> {
         rt.alloc(),
         "{\"sentry_client\":\"raven-js/3.23.3\",\"sentry_version\":7,\"sentry_key\":\"4bb5d94de752a36b8b87851a3f82726a\",\"sentry_timestamp\":5}",
     )??;
-    assert_eq!(rt; auth.timestamp(), None);
-    assert_eq!(rt; auth.client_agent(), Some("raven-js/3.23.3"));
-    assert_eq!(rt; auth.version(), 7);
-    assert_eq!(rt; auth.public_key(), "4bb5d94de752a36b8b87851a3f82726a");
-    assert_eq!(rt; auth.secret_key(), None);
+    let mut parts = key_alone("4bb5d94de752a36b8b87851a3f82726a");
+    parts.client = Some("raven-js/3.23.3");
+    assert!(rt; has_parts(&auth, &parts));
     let empty = from_json(
         rt.alloc(),
         "{\"sentry_key\":\"\",\"sentry_secret\":\"s\",\"sentry_version\":65535}",
@@ -260,6 +299,11 @@ fn trees_are_read(rt: HostRuntime) -> Result<(), Fail> {
         json(rt.alloc(), &empty)?.as_str(),
         "{\"sentry_client\":null,\"sentry_key\":\"\",\"sentry_secret\":\"s\",\"sentry_version\":65535}"
     );
+    Ok(())
+}
+
+#[test]
+fn trees_are_refused(rt: HostRuntime) -> Result<(), Fail> {
     for text in [
         "[]",
         "{\"sentry_key\":\"k\"}",
@@ -269,10 +313,8 @@ fn trees_are_read(rt: HostRuntime) -> Result<(), Fail> {
         "{\"sentry_key\":\"k\",\"sentry_version\":\"7\"}",
         "{\"sentry_client\":1,\"sentry_key\":\"k\",\"sentry_version\":7}",
     ] {
-        assert!(rt;
-            matches!(from_json(rt.alloc(), text)?, Err(TreeError::Misfit)),
-            "{text}"
-        );
+        let misfit = matches!(from_json(rt.alloc(), text)?, Err(TreeError::Misfit));
+        assert!(rt; misfit, "{text}");
     }
     Ok(())
 }

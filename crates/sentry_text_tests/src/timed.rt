@@ -1,6 +1,6 @@
-use crate::timed::now_or_as;
-use sentry_members::{TreeError, read_tree};
-use sentry_moments::{Moment, Rfc3339, Seconds};
+// Rows of moments that may be absent.
+use sentry_text::timed::now_or_as;
+use sentry_text::{Moment, Rfc3339, Seconds, TreeError, read_tree};
 use std::test::Fail;
 
 #[test]

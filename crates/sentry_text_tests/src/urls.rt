@@ -1,26 +1,20 @@
-use crate::UrlText;
-use json::Writer;
-use sentry_members::{Codec, ReadCodec, TreeError, read_tree};
-use sentry_rows::rows::{optional_as, required_as};
+// URLs as texts of JSON.
+use crate::trees::{is_row_misfit, written_as};
+use sentry_text::rows::{optional_as, required_as};
+use sentry_text::{Codec, ReadCodec, TreeError, read_tree};
+use sentry_urls::UrlText;
 use serde_json::Value;
 use std::alloc::Global;
 use std::net::{IpAddr, Ipv4Addr};
 use std::test::Fail;
 use url::{Host, Url};
 
-// What a URL writes, which is the text of its tree and of its copy's.
+// The text that a URL writes.
 fn written(alloc: Global, url: &Url) -> Result<String, Fail> {
-    let tree = UrlText::to_tree(&UrlText::copy(url)?, alloc)?;
-    let mut out = Writer::new(Vec::new(alloc));
-    UrlText::write(url, &mut out)?;
-    let line = String::from_utf8(out.into_inner())?;
-    let shown = tree.to_string(alloc)?;
-    match tree.as_str() {
-        Some(text) if line.as_str() == shown.as_str() && UrlText::is_plain(url) => {
-            Ok(String::from_str(alloc, text)?)
-        }
-        _ => Err("two texts")?,
-    }
+    let line = written_as::<UrlText, Url>(alloc, url)?;
+    let tree = read_tree(alloc, line.as_bytes())?;
+    let text = tree.as_str().ok_or("no text")?;
+    Ok(String::from_str(alloc, text)?)
 }
 
 // The URL of a tree that is this text.
@@ -138,13 +132,7 @@ fn rows(rt: HostRuntime) -> Result<(), Fail> {
     let url = required_as::<UrlText, Url>(alloc, &tree, "a")?;
     assert_eq!(rt; url.as_str(), "http://example.org/");
     for key in ["b", "c", "d", "e", "f", "g"] {
-        assert!(rt;
-            matches!(
-                required_as::<UrlText, Url>(alloc, &tree, key),
-                Err(TreeError::Misfit)
-            ),
-            "{key}"
-        );
+        assert!(rt; is_row_misfit::<UrlText, Url>(alloc, &tree, key), "{key}");
     }
     assert!(rt; optional_as::<UrlText, Url>(alloc, &tree, "c")?.is_none());
     assert!(rt; optional_as::<UrlText, Url>(alloc, &tree, "g")?.is_none());

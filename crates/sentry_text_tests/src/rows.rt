@@ -1,18 +1,26 @@
+// Rows of tables, read and written.
 ghost use Rattle.std.specs.Prelude.{[], ◌∷◌, codes, refl};
 ghost use Rattle.sentry_tables.specs.Fields.{field};
 ghost use Rattle.sentry_tables.specs.Kind.{may};
 ghost use Rattle.sentry_members.specs.Cells.{text_cell, option_cell};
 ghost use Rattle.sentry_members.specs.Kinds.{text_kind};
 
-use crate::kept::others_are_plain;
-use crate::sink::{Sink, TreeRows};
-use crate::table::{
-    Table, case_tree, kept_case_tree, kept_tree, table_tree, write_case, write_kept,
-    write_kept_case, write_table,
-};
-use crate::values::Values;
+use crate::trees::{is_row_misfit, written};
 use json::Writer;
-use sentry_members::{Member, text_of};
+use sentry_rows::kept::others_are_plain;
+use sentry_rows::sink::TreeRows;
+use sentry_rows::table::{
+    case_tree, kept_case_tree, kept_tree, table_tree, write_case, write_kept, write_kept_case,
+    write_table,
+};
+use sentry_rows::tagged::tag;
+use sentry_rows::{Sink, Table, Values};
+use sentry_text::rows::{
+    list, map, object, optional, optional_as, optional_or_null, optional_or_null_as,
+    optional_strict, optional_strict_as, or, or_as, others, required, text_or, written_list,
+    written_or, written_or_as,
+};
+use sentry_text::{Own, TreeError, read_tree};
 use serde_json::{Map, Value};
 use std::alloc::{AllocError, Global};
 use std::borrow::CowStr;
@@ -62,14 +70,11 @@ fn values_are_written_under_their_key(rt: HostRuntime) -> Result<(), Fail> {
         values: Vec::from_array(alloc, [members, Map::new(alloc)])?,
     };
     let wanted = "{\"values\":[{\"a\":[null,true,-1,{}]},{}]}";
-    assert_eq!(rt; String::from_utf8(text_of(alloc, &list)?)?.as_str(), wanted);
-    let tree = list.copy()?.to_tree(alloc)?;
-    assert_eq!(rt; tree.to_string(alloc)?.as_str(), wanted);
-    assert!(rt; list.is_plain());
+    assert_eq!(rt; written(alloc, &list)?.as_str(), wanted);
     Ok(())
 }
 
-// A system's context, and one of no known type: its tag is written, and goes among other members.
+/// A system's context, and one of no known type: its tag is written, and goes among other members.
 #[test]
 fn cases_are_written(rt: HostRuntime) -> Result<(), Fail> {
     let alloc = rt.alloc();
@@ -174,5 +179,43 @@ fn a_clash_goes_to_the_row(rt: HostRuntime) -> Result<(), Fail> {
             .as_str(),
         wanted
     );
+    Ok(())
+}
+
+#[test]
+fn numbers_by_each_rule(rt: HostRuntime) -> Result<(), Fail> {
+    let alloc = rt.alloc();
+    let tree = read_tree(alloc, b"{\"n\":7,\"null\":null}")?;
+    assert!(rt; required::<u64>(alloc, &tree, "n") == Ok(7));
+    assert!(rt; is_row_misfit::<Own, u64>(alloc, &tree, "none"));
+    assert!(rt; optional::<u64>(alloc, &tree, "n") == Ok(Some(7)));
+    assert!(rt; optional_as::<Own, u64>(alloc, &tree, "null") == Ok(None));
+    assert!(rt; optional_or_null::<u64>(alloc, &tree, "null") == Ok(None));
+    assert!(rt; optional_or_null_as::<Own, u64>(alloc, &tree, "n") == Ok(Some(7)));
+    assert!(rt; optional_strict::<u64>(alloc, &tree, "null") == Err(TreeError::Misfit));
+    assert!(rt; optional_strict_as::<Own, u64>(alloc, &tree, "none") == Ok(None));
+    assert!(rt; or::<u64>(alloc, &tree, "n", 1) == Ok(7));
+    assert!(rt; or_as::<Own, u64>(alloc, &tree, "none", 1) == Ok(1));
+    assert!(rt; written_or::<u64>(alloc, &tree, "null", 1) == Err(TreeError::Misfit));
+    assert!(rt; written_or_as::<Own, u64>(alloc, &tree, "n", 1) == Ok(7));
+    Ok(())
+}
+
+#[test]
+fn rows_of_an_object(rt: HostRuntime) -> Result<(), Fail> {
+    let alloc = rt.alloc();
+    let tree = read_tree(
+        alloc,
+        b"{\"n\":7,\"list\":[1],\"map\":{\"k\":2},\"type\":\"t\"}",
+    )?;
+    object(&tree)?;
+    assert!(rt; object(&Value::Null) == Err(TreeError::Misfit));
+    assert!(rt; tag(&tree) == Some("t"));
+    assert!(rt; text_or(alloc, &tree, "none", "usual")?.as_str() == "usual");
+    assert!(rt; list::<u64>(alloc, &tree, "list")?.as_slice() == [1].as_slice());
+    assert!(rt; written_list::<u64>(alloc, &tree, "none")?.is_empty());
+    assert!(rt; map::<u64>(alloc, &tree, "map")?.get("k").copied() == Some(2));
+    let left = others(alloc, &tree, &["type", "n", "list"])?;
+    assert!(rt; left.len() == 1 && left.contains_key("map"));
     Ok(())
 }

@@ -1,18 +1,32 @@
+// Words as texts and as JSON, and what is sampled.
 ghost use Rattle.std.specs.Prelude.{[], ◌∷◌, refl};
 
-use crate::indexed::IndexedEnum;
-use crate::{
-    Level, LogLevel, MetricType, MonitorCheckInStatus, MonitorIntervalUnit, Orientation,
-    ParseLevelError, ParseSessionStatusError, ParseStatusError, ParseWordError, SessionStatus,
-    SpanStatus,
-};
+use crate::trees::{is_row_misfit, written_as};
 use sentry_members::member::Usual;
-use sentry_members::text::text_of;
-use sentry_members::{FromTree, TreeError, read_line};
+use sentry_members::text_of;
+use sentry_text::rows::required_as;
+use sentry_text::{
+    FromTree, IndexedEnum, Level, LogLevel, MetricType, MonitorCheckInStatus, MonitorIntervalUnit,
+    Orientation, ParseLevelError, ParseSessionStatusError, ParseStatusError, ParseWordError,
+    Sampled, SessionStatus, SpanStatus, TreeError, read_line, read_tree,
+};
 use std::alloc::Global;
 use std::fmt::Display;
 use std::str::FromStr;
 use std::test::Fail;
+
+/// Lines that show no value of any of the types, but of the check-in's status.
+const NO_WORDS: &[&str] = &[
+    "\"\"",
+    "\"foo\"",
+    "\"Info\"",
+    "\"Ok\"",
+    "\"info \"",
+    "null",
+    "1",
+    "true",
+    "[\"info\"]",
+];
 
 /// Whether the line is read as the value, and the value is written as the line.
 fn is_line_of<T: FromTree + PartialEq>(alloc: Global, line: &str, value: &T) -> Result<bool, Fail> {
@@ -87,18 +101,23 @@ fn are_refused<T: FromTree>(alloc: Global, lines: &[&str]) -> bool {
     true
 }
 
-// Lines that show no value of any of the types, but of the check-in's status.
-const NO_WORDS: &[&str] = &[
-    "\"\"",
-    "\"foo\"",
-    "\"Info\"",
-    "\"Ok\"",
-    "\"info \"",
-    "null",
-    "1",
-    "true",
-    "[\"info\"]",
-];
+/// Whether these words, and not the others, are read as their values, as texts and as lines of JSON, and are what is
+/// written of them.
+fn are_words<T: FromTree + FromStr + PartialEq + Drop>(
+    alloc: Global,
+    words: &[(&str, T)],
+    others: &[&str],
+) -> Result<bool, Fail>
+where
+    T::Err: Drop,
+{
+    Ok(
+        are_read(words)
+            && are_spellings(alloc, words)?
+            && are_no_words::<T>(others)
+            && are_refused::<T>(alloc, NO_WORDS),
+    )
+}
 
 #[test]
 fn levels(rt: HostRuntime) -> Result<(), Fail> {
@@ -111,11 +130,8 @@ fn levels(rt: HostRuntime) -> Result<(), Fail> {
         ("fatal", Level::Fatal),
     ];
     assert!(rt; levels.iter().all(|(word, value)| value.as_str() == *word));
-    assert!(rt; are_read(&levels));
-    assert!(rt; are_spellings(alloc, &levels)?);
+    assert!(rt; are_words(alloc, &levels, &["", "Info", "Log", "warn", "foo", "info "])?);
     assert!(rt; are_printed(alloc, &levels)?);
-    assert!(rt; are_no_words::<Level>(&["", "Info", "Log", "warn", "foo", "info "]));
-    assert!(rt; are_refused::<Level>(alloc, NO_WORDS));
     Ok(())
 }
 
@@ -142,11 +158,14 @@ fn span_statuses(rt: HostRuntime) -> Result<(), Fail> {
         ("data_loss", SpanStatus::DataLoss),
     ];
     assert!(rt; statuses.iter().all(|(word, value)| value.as_str() == *word));
-    assert!(rt; are_read(&statuses));
-    assert!(rt; are_spellings(alloc, &statuses)?);
+    assert!(rt;
+        are_words(
+            alloc,
+            &statuses,
+            &["", "Ok", "deadlineExceeded", "unknown", "canceled"]
+        )?
+    );
     assert!(rt; are_printed(alloc, &statuses)?);
-    assert!(rt; are_no_words::<SpanStatus>(&["", "Ok", "deadlineExceeded", "unknown", "canceled"]));
-    assert!(rt; are_refused::<SpanStatus>(alloc, NO_WORDS));
     Ok(())
 }
 
@@ -160,11 +179,8 @@ fn session_statuses(rt: HostRuntime) -> Result<(), Fail> {
         ("abnormal", SessionStatus::Abnormal),
     ];
     assert!(rt; statuses.iter().all(|(word, value)| value.as_str() == *word));
-    assert!(rt; are_read(&statuses));
-    assert!(rt; are_spellings(alloc, &statuses)?);
+    assert!(rt; are_words(alloc, &statuses, &["", "Ok", "errored", "init"])?);
     assert!(rt; are_printed(alloc, &statuses)?);
-    assert!(rt; are_no_words::<SessionStatus>(&["", "Ok", "errored", "init"]));
-    assert!(rt; are_refused::<SessionStatus>(alloc, NO_WORDS));
     Ok(())
 }
 
@@ -180,10 +196,7 @@ fn log_levels(rt: HostRuntime) -> Result<(), Fail> {
         ("fatal", LogLevel::Fatal),
     ];
     assert!(rt; levels.iter().all(|(word, value)| value.as_str() == *word));
-    assert!(rt; are_read(&levels));
-    assert!(rt; are_spellings(alloc, &levels)?);
-    assert!(rt; are_no_words::<LogLevel>(&["", "Info", "warning", "log"]));
-    assert!(rt; are_refused::<LogLevel>(alloc, NO_WORDS));
+    assert!(rt; are_words(alloc, &levels, &["", "Info", "warning", "log"])?);
     Ok(())
 }
 
@@ -196,10 +209,7 @@ fn metric_types(rt: HostRuntime) -> Result<(), Fail> {
         ("distribution", MetricType::Distribution),
     ];
     assert!(rt; types.iter().all(|(word, value)| value.as_str() == *word));
-    assert!(rt; are_read(&types));
-    assert!(rt; are_spellings(alloc, &types)?);
-    assert!(rt; are_no_words::<MetricType>(&["", "Counter", "set"]));
-    assert!(rt; are_refused::<MetricType>(alloc, NO_WORDS));
+    assert!(rt; are_words(alloc, &types, &["", "Counter", "set"])?);
     Ok(())
 }
 
@@ -215,10 +225,7 @@ fn orientations(rt: HostRuntime) -> Result<(), Fail> {
             .iter()
             .all(|(word, value)| value.as_str() == *word)
     );
-    assert!(rt; are_read(&orientations));
-    assert!(rt; are_spellings(alloc, &orientations)?);
-    assert!(rt; are_no_words::<Orientation>(&["", "Portrait", "square"]));
-    assert!(rt; are_refused::<Orientation>(alloc, NO_WORDS));
+    assert!(rt; are_words(alloc, &orientations, &["", "Portrait", "square"])?);
     Ok(())
 }
 
@@ -234,10 +241,7 @@ fn interval_units(rt: HostRuntime) -> Result<(), Fail> {
         ("minute", MonitorIntervalUnit::Minute),
     ];
     assert!(rt; units.iter().all(|(word, value)| value.as_str() == *word));
-    assert!(rt; are_read(&units));
-    assert!(rt; are_spellings(alloc, &units)?);
-    assert!(rt; are_no_words::<MonitorIntervalUnit>(&["", "Year", "years", "second"]));
-    assert!(rt; are_refused::<MonitorIntervalUnit>(alloc, NO_WORDS));
+    assert!(rt; are_words(alloc, &units, &["", "Year", "years", "second"])?);
     Ok(())
 }
 
@@ -316,7 +320,7 @@ enum Direction {
 }
 
 impl IndexedEnum for Direction {
-    ghost use Rattle.sentry_words.specs.declared.word_tests.Direction.TheVariants as direction;
+    ghost use Rattle.sentry_text_tests.specs.declared.words.Direction.TheVariants as direction;
 
     ghost variants = { direction.Forth ∷ direction.Back ∷ [] };
 
@@ -344,4 +348,34 @@ fn indexed(rt: HostRuntime) {
     );
     assert_eq!(rt; place_of(&Direction::Forth), 0);
     assert_eq!(rt; place_of(&Direction::Back), 1);
+}
+
+#[test]
+fn sampled(rt: HostRuntime) -> Result<(), Fail> {
+    let alloc = rt.alloc();
+    let tree = read_tree(alloc, b"{\"yes\":\"true\",\"no\":\"false\"}")?;
+    assert!(rt; required_as::<Sampled, bool>(alloc, &tree, "yes")?);
+    assert!(rt; !required_as::<Sampled, bool>(alloc, &tree, "no")?);
+    assert_eq!(rt;
+        written_as::<Sampled, bool>(alloc, &true)?.as_str(),
+        "\"true\""
+    );
+    assert_eq!(rt;
+        written_as::<Sampled, bool>(alloc, &false)?.as_str(),
+        "\"false\""
+    );
+    Ok(())
+}
+
+#[test]
+fn not_sampled(rt: HostRuntime) -> Result<(), Fail> {
+    let alloc = rt.alloc();
+    let tree = read_tree(
+        alloc,
+        b"{\"truth\":true,\"null\":null,\"number\":1,\"large\":\"True\",\"empty\":\"\",\"blank\":\"true \"}",
+    )?;
+    for key in ["truth", "null", "number", "large", "empty", "blank", "none"] {
+        assert!(rt; is_row_misfit::<Sampled, bool>(alloc, &tree, key), "{key}");
+    }
+    Ok(())
 }

@@ -1,5 +1,7 @@
-use crate::{ClientSdkInfo, ClientSdkPackage};
-use sentry_members::{Member, TreeError, read_line, text_of};
+// The software that sends messages.
+use sentry_members::text_of;
+use sentry_text::{Member, TreeError, read_line};
+use sentry_types::protocol::v7::{ClientSdkInfo, ClientSdkPackage};
 use std::alloc::Global;
 use std::test::Fail;
 
@@ -54,11 +56,8 @@ fn software_has_its_fields(rt: HostRuntime) -> Result<(), Fail> {
         version: String::from_str(alloc, "2")?,
     };
     assert!(rt; info.is_plain());
-    assert_eq!(rt; info.name.as_str(), "a");
-    assert_eq!(rt; info.version.as_str(), "1");
-    let Some(first) = info.packages.first() else {
-        return Err("no package")?;
-    };
+    assert!(rt; info.name.as_str() == "a" && info.version.as_str() == "1");
+    let first = info.packages.first().ok_or("no package")?;
     assert!(rt; first.clone()? == package);
     Ok(())
 }
