@@ -135,6 +135,17 @@ fn refusals(rt: HostRuntime) -> Result<(), Fail> {
 }
 
 #[test]
+fn empty_projects(rt: HostRuntime) {
+    for text in ["https://username@domain//", "ftp://:@domain//"] {
+        let is_empty = matches!(
+            refusal(rt.alloc(), text),
+            Some(ParseDsnError::InvalidProjectId(ParseProjectIdError::EmptyValue))
+        );
+        assert!(rt; is_empty, "{text}");
+    }
+}
+
+#[test]
 fn errors_are_printed(rt: HostRuntime) -> Result<(), Fail> {
     for (error, text) in [
         (ParseDsnError::InvalidUrl, "no valid url provided"),

@@ -1,4 +1,4 @@
-//! Tests of envelopes, filters and keys by the names of `sentry_types`. This crate has no code of its own.
+//! Tests of envelopes, filters, keys and software by the names of `sentry_types`. This crate has no code of its own.
 #![tactic(auto)]
 
 #[cfg(test)]

@@ -1,14 +1,13 @@
 // Words as texts and as JSON, and what is sampled.
 ghost use Rattle.std.specs.Prelude.{[], ◌∷◌, refl};
 
-use crate::trees::{is_row_misfit, written_as};
+use crate::trees::{is_misfit, is_row_misfit, written, written_as};
 use sentry_members::member::Usual;
-use sentry_members::text_of;
 use sentry_text::rows::required_as;
 use sentry_text::{
     FromTree, IndexedEnum, Level, LogLevel, MetricType, MonitorCheckInStatus, MonitorIntervalUnit,
     Orientation, ParseLevelError, ParseSessionStatusError, ParseStatusError, ParseWordError,
-    Sampled, SessionStatus, SpanStatus, TreeError, read_line, read_tree,
+    Sampled, SessionStatus, SpanStatus, read_line, read_tree,
 };
 use std::alloc::Global;
 use std::fmt::Display;
@@ -31,9 +30,7 @@ const NO_WORDS: &[&str] = &[
 /// Whether the line is read as the value, and the value is written as the line.
 fn is_line_of<T: FromTree + PartialEq>(alloc: Global, line: &str, value: &T) -> Result<bool, Fail> {
     let read: T = read_line(alloc, line.as_bytes())?;
-    let text = String::from_utf8(text_of(alloc, value)?)?;
-    let tree = value.copy()?.to_tree(alloc)?.to_string(alloc)?;
-    Ok(read == *value && text.as_str() == line && tree.as_str() == line)
+    Ok(read == *value && written(alloc, value)?.as_str() == line)
 }
 
 /// Whether each word, as a line of JSON, is read as its value, and the value is written as that line.
@@ -88,17 +85,7 @@ where
 
 /// Whether each line shows no value.
 fn are_refused<T: FromTree>(alloc: Global, lines: &[&str]) -> bool {
-    for line in lines {
-        match read_line::<T>(alloc, line.as_bytes()) {
-            Ok(_value) => return false,
-            Err(error) => {
-                if error != TreeError::Misfit {
-                    return false;
-                }
-            }
-        }
-    }
-    true
+    lines.iter().all(|line| is_misfit::<T>(alloc, line))
 }
 
 /// Whether these words, and not the others, are read as their values, as texts and as lines of JSON, and are what is
