@@ -29,7 +29,7 @@ bytes_size : (xs : List ℕ) → length (octets_of xs) ≡ 2 * length xs
 bytes_size [] = refl
 bytes_size (s ∷ xs) = let rest = bytes_size xs in omega arith
 
-bytes_small : (xs : List ℕ) → Small (2 ^ 16) xs → Small 256 (octets_of xs)
+pub bytes_small : (xs : List ℕ) → Small (2 ^ 16) xs → Small 256 (octets_of xs)
 bytes_small [] small = small_nil 256 (omega arith)
 bytes_small (s ∷ xs) small =
     let first = small 0 in

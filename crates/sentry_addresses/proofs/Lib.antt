@@ -3,3 +3,4 @@ pub mod Ips
 pub mod AddressTrees
 pub mod IpRanges
 pub mod IpTrees
+pub mod Lengths

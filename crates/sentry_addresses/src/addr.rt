@@ -12,8 +12,9 @@ ghost use Rattle.sentry_addresses.specs.AddressTree.{address_in, address_kind, n
 use json::Writer;
 use sentry_members::member::Usual;
 use sentry_members::spelled::printed;
-use sentry_members::{FromTree, Member, Room, TreeError};
+use sentry_members::{FromTree, Member, Room, TreeError, Way};
 use sentry_numbers::{ParseNumberError, parse_number};
+use sentry_trees::Node;
 use serde_json::{Number, Value};
 use std::alloc::{AllocError, Global};
 use std::fmt;
@@ -213,9 +214,11 @@ fn address_in(tree: &Value) -> Option<u64>
 
 impl Addr {
     // The text of the address, in `room`.
+    #[tactic(auto, using(crate::proofs::Lengths::address_fits))]
     fn text<'a>(&self, room: &'a mut Room) -> Result<&'a str, AllocError>
         ensures { IfOk result (λ s. s.now ≡ address_text self.now.0) }
     {
+        let _number = self.0;
         printed(self, room)
     }
 }
@@ -239,8 +242,13 @@ impl Member for Addr {
         out.string(self.text(&mut room)?)
     }
 
-    fn copy(&self) -> Result<Addr, AllocError> {
+    #[tactic(auto, using(sentry_members::proofs::Ways::unchanged))]
+    fn remade(&self, _way: Way) -> Result<Addr, AllocError> {
         Ok(*self)
+    }
+
+    fn is_null_tree(&self) -> bool {
+        false
     }
 
     fn is_plain(&self) -> bool {
@@ -251,8 +259,9 @@ impl Member for Addr {
 
 impl FromTree for Addr {
     #[tactic(auto, using(crate::proofs::AddressTrees::address_found, crate::proofs::AddressTrees::address_refused))]
-    fn from_tree(_alloc: Global, tree: &Value) -> Result<Addr, TreeError> {
-        match address_in(tree) {
+    fn from_node<N: Node>(alloc: Global, node: &N) -> Result<Addr, TreeError> {
+        let tree = node.to_value(alloc)?;
+        match address_in(&tree) {
             Some(address) => Ok(Addr(address)),
             None => Err(TreeError::Misfit),
         }
@@ -279,8 +288,13 @@ impl Member for RegVal {
         Addr(self.0).write(out)
     }
 
-    fn copy(&self) -> Result<RegVal, AllocError> {
+    #[tactic(auto, using(sentry_members::proofs::Ways::unchanged))]
+    fn remade(&self, _way: Way) -> Result<RegVal, AllocError> {
         Ok(*self)
+    }
+
+    fn is_null_tree(&self) -> bool {
+        false
     }
 
     fn is_plain(&self) -> bool {
@@ -289,7 +303,7 @@ impl Member for RegVal {
 }
 
 impl FromTree for RegVal {
-    fn from_tree(alloc: Global, tree: &Value) -> Result<RegVal, TreeError> {
-        Ok(RegVal(Addr::from_tree(alloc, tree)?.0))
+    fn from_node<N: Node>(alloc: Global, node: &N) -> Result<RegVal, TreeError> {
+        Ok(RegVal(Addr::from_node(alloc, node)?.0))
     }
 }

@@ -7,7 +7,7 @@ ghost use Rattle.sentry_addresses.specs.Ip.{IsStoredIpAddress};
 
 use crate::ip_text::hold_ip;
 use sentry_members::spelled::printed;
-use sentry_members::{Room, Spelled, TreeError};
+use sentry_members::{AsText, Formed, Room, Spelled, TreeError, Way};
 use std::alloc::{AllocError, Global};
 use std::cmp::Ordering;
 use std::fmt;
@@ -103,6 +103,10 @@ impl fmt::Display for IpAddress {
     }
 }
 
+impl Formed for IpAddress {
+    type Form = AsText;
+}
+
 impl Spelled for IpAddress {
     ghost use Rattle.sentry_addresses.specs.IpTree.{ip_address_cell, ip_address_spelling};
 
@@ -122,7 +126,8 @@ impl Spelled for IpAddress {
         printed(self, room)
     }
 
-    fn copied(&self) -> Result<IpAddress, AllocError> {
+    #[tactic(auto, using(sentry_members::proofs::Ways::unchanged))]
+    fn copied(&self, _way: Way) -> Result<IpAddress, AllocError> {
         Ok(*self)
     }
 

@@ -7,7 +7,8 @@ ghost use Rattle.sentry_addresses.specs.IpTree.{ip_cell, ip_cell_text, ip_kind, 
 
 use json::Writer;
 use sentry_members::spelled::printed;
-use sentry_members::{Codec, ReadCodec, Room, TreeError};
+use sentry_members::{Codec, ReadCodec, Room, TreeError, Way};
+use sentry_trees::Node;
 use serde_json::Value;
 use std::alloc::{AllocError, Global};
 use std::net::IpAddr;
@@ -35,8 +36,13 @@ impl Codec<IpAddr> for IpText {
         out.string(written_ip(value, &mut room)?)
     }
 
-    fn copy(value: &IpAddr) -> Result<IpAddr, AllocError> {
+    #[tactic(auto, using(sentry_members::proofs::Ways::unchanged))]
+    fn remade(value: &IpAddr, _way: Way) -> Result<IpAddr, AllocError> {
         Ok(*value)
+    }
+
+    fn is_null_tree(_value: &IpAddr) -> bool {
+        false
     }
 
     fn is_plain(value: &IpAddr) -> bool {
@@ -47,8 +53,8 @@ impl Codec<IpAddr> for IpText {
 
 impl ReadCodec<IpAddr> for IpText {
     #[tactic(auto, using(sentry_members::proofs::Spellings::text_read, sentry_members::proofs::Spellings::not_text))]
-    fn from_tree(_alloc: Global, tree: &Value) -> Result<IpAddr, TreeError> {
-        match tree.as_str() {
+    fn from_node<N: Node>(_alloc: Global, node: &N) -> Result<IpAddr, TreeError> {
+        match node.as_str() {
             Some(text) => read_ip(text),
             None => Err(TreeError::Misfit),
         }

@@ -15,9 +15,10 @@ use Rattle.sentry_envelope.specs.Filter.{Hand, asks, chosen, first_id_of, handed
 use Rattle.sentry_envelope.specs.HeaderFields.{put_id}
 use Rattle.sentry_envelope.specs.SentryProfile.{item_types, profile}
 use Rattle.sentry_envelope.proofs.ConservationLemmas.{handed_of_hands}
-use Rattle.sentry_envelope.proofs.OneEnvelope.{one_envelope, profile_single}
+use Rattle.sentry_envelope.proofs.OneEnvelope.{never_drawn_in, one_envelope, profile_never_draws}
+use Rattle.sentry_envelope.proofs.SentryProfile.{profile_lawful}
 use Rattle.sentry_env.specs.Listed.{AnswersFor, IsOfKinds, kind_of_item}
-use Rattle.sentry_env.specs.Run.{DueIsSettled, IsDue, header_left, kept_text, model, outcome_of}
+use Rattle.sentry_env.specs.Run.{DueIsAlwaysSettled, DueIsSettled, IsDue, IsOneDue, header_left, kept_text, model, outcome_of}
 use Rattle.sentry_env.specs.Table.{table_of}
 use Rattle.sentry_env.specs.declared.ending.Outcome.{Outcome}
 use Rattle.sentry_env.specs.declared.kind.Kind.{Kind}
@@ -204,9 +205,15 @@ due_alike (kind ∷ kinds) keep header items others out out' table table' outcom
       due.outcome_is ∙ rw answers (outcome_alike _ _ left) ∙ sym due'.outcome_is,
     )
 
-pub due_is_settled : DueIsSettled
-due_is_settled bytes now kinds keep header header' items others out out' table table' outcome outcome' spelled spelled' due due' =
-    let same = one_envelope profile profile_single bytes now (model header items) (model header' others) spelled spelled' in
+one_due : (kinds : List Kind) (keep : Bool) (header header' : Cell) (items others : List EnvelopeItem) → model header items ≡ model header' others → IsOneDue kinds keep header header' items others
+one_due kinds keep header header' items others same out out' table table' outcome outcome' due due' =
     let header_is : header ≡ header' = ap (λ (m : Model). m.header) same in
     let items_are : map item_view items ≡ map item_view others = ap (λ (m : Model). m.items) same in
     due_alike kinds keep header items others out out' table table' outcome outcome' items_are due (rw header_is due')
+
+pub due_is_settled : DueIsSettled
+due_is_settled bytes now kinds keep header header' items others drawn spelled spelled' =
+    one_due kinds keep header header' items others (one_envelope profile profile_lawful bytes now (model header items) (model header' others) drawn spelled spelled')
+
+pub due_is_always_settled : DueIsAlwaysSettled
+due_is_always_settled bytes now kinds keep header header' items others = due_is_settled bytes now kinds keep header header' items others (never_drawn_in profile profile_never_draws bytes)

@@ -10,6 +10,7 @@ use Rattle.sentry_envelope.specs.EnvelopeFault.{Fault}
 use Rattle.sentry_envelope.specs.EnvelopeView.{IsUnwritable, item_view, no_fields, text_of}
 use Rattle.sentry_envelope.specs.Filter.{chosen, kept, handed, first_id_of}
 use Rattle.sentry_envelope.specs.HeaderFields.{put_id}
+use Rattle.sentry_envelope.specs.OneEnvelope.{NothingDrawnIn}
 use Rattle.sentry_envelope.specs.SentryProfile.{profile}
 use Rattle.sentry_envelope.specs.declared.envelope.Envelope.{Envelope}
 use Rattle.sentry_framing.specs.declared.error.EnvelopeError.{EnvelopeError}
@@ -128,13 +129,23 @@ reads_failed _ = 0
 
 -- ---- one outcome
 
--- The bytes that were read, the moment, the kinds and whether the header stays settle both texts that are due, and the outcome.
-abbrev pub DueIsSettled : Type 0
-DueIsSettled = (bytes : List ℕ) (now : Cell) (kinds : List Kind) (keep : Bool) (header header' : Cell) (items items' : List EnvelopeItem)
-    (out out' table table' : List ℕ) (outcome outcome' : Outcome)
-    → Spells profile bytes now (model header items) → Spells profile bytes now (model header' items')
+-- What is due for the one envelope is due for the other.
+abbrev pub IsOneDue : List Kind → Bool → Cell → Cell → List EnvelopeItem → List EnvelopeItem → Type 0
+IsOneDue kinds keep header header' items items' = (out out' table table' : List ℕ) (outcome outcome' : Outcome)
     → IsDue kinds keep header items out table outcome → IsDue kinds keep header' items' out' table' outcome'
     → (out ≡ out') × (table ≡ table') × (outcome ≡ outcome')
+
+-- Where nothing is drawn, the bytes that were read, the moment, the kinds and whether the header stays settle both texts that are due, and the outcome.
+abbrev pub DueIsSettled : Type 0
+DueIsSettled = (bytes : List ℕ) (now : Cell) (kinds : List Kind) (keep : Bool) (header header' : Cell) (items items' : List EnvelopeItem)
+    → NothingDrawnIn profile bytes → Spells profile bytes now (model header items) → Spells profile bytes now (model header' items')
+    → IsOneDue kinds keep header header' items items'
+
+-- The same of any bytes.
+abbrev pub DueIsAlwaysSettled : Type 0
+DueIsAlwaysSettled = (bytes : List ℕ) (now : Cell) (kinds : List Kind) (keep : Bool) (header header' : Cell) (items items' : List EnvelopeItem)
+    → Spells profile bytes now (model header items) → Spells profile bytes now (model header' items')
+    → IsOneDue kinds keep header header' items items'
 
 -- ---- parts of a run
 

@@ -1,15 +1,10 @@
 -- The sums that a run keeps: one for each category and reason, or none, in one row.
-use Rattle.std.specs.Prelude.{ℕ, ◌+◌, ◌-◌, ◌*◌, ◌^◌, min, List, replicate, slice_index, slice_set, Option}
-use Rattle.sentry_items.specs.Categories.{category_index}
+use Rattle.std.specs.Prelude.{ℕ, ◌+◌, ◌-◌, ◌^◌, min, List, replicate, slice_index, slice_set, Option}
+use Rattle.sentry_items.specs.Sums.{place}
 use Rattle.sentry_items.specs.declared.category.Category.{Category}
 use Rattle.sentry_items.specs.declared.loss.ItemLoss.{ItemLoss}
 use Rattle.sentry_items.specs.declared.reason.Reason.{Reason}
-use Rattle.sentry_env.specs.Table.{reason_place}
 use Rattle.sentry_env.specs.declared.losses.LossSums.{LossSums}
-
--- where a sum stands in the row
-abbrev pub place : Category → Option Reason → ℕ
-place category reason = 10 * category_index category + reason_place reason
 
 abbrev pub sum_at : LossSums → Category → Option Reason → ℕ
 sum_at sums category reason = slice_index sums.row (place category reason)

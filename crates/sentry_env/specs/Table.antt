@@ -1,27 +1,12 @@
 -- The table of what is lost.
-use Rattle.std.specs.Prelude.{ℕ, ◌+◌, ◌-◌, ◌^◌, min, ◌==◌, ◌&&◌, Bool, List, [], ◌∷◌, ◌++◌, sum_by, codes, if◌then◌else◌, Option, Some, None}
+use Rattle.std.specs.Prelude.{ℕ, ◌==◌, List, [], ◌∷◌, ◌++◌, codes, if◌then◌else◌, Option, Some, None}
 use Rattle.std.specs.List.{flat_map}
 use Rattle.std.specs.Fmt.{decimal}
-use Rattle.sentry_items.specs.Categories.{categories, category_index, category_word, reasons, reason_index, reason_word}
+use Rattle.sentry_items.specs.Categories.{categories, category_word, reasons, reason_word}
+use Rattle.sentry_items.specs.Sums.{shown}
 use Rattle.sentry_items.specs.declared.category.Category.{Category}
 use Rattle.sentry_items.specs.declared.loss.ItemLoss.{ItemLoss}
 use Rattle.sentry_items.specs.declared.reason.Reason.{Reason}
-
--- the places within a category: no reason stands first, and then the reasons in order
-abbrev pub reason_place : Option Reason → ℕ
-reason_place None = 0
-reason_place (Some reason) = reason_index reason + 1
-
-abbrev pub is_loss_of : Category → Option Reason → ItemLoss → Bool
-is_loss_of category reason loss = (category_index loss.category == category_index category) && (reason_place loss.reason == reason_place reason)
-
--- all that is lost of a category for a reason, or for none: the sum, without bound
-abbrev pub lost : Category → Option Reason → List ItemLoss → ℕ
-lost category reason losses = sum_by (λ loss. if is_loss_of category reason loss then loss.quantity else 0) losses
-
--- the sum that is shown: cut once at what 64 bits hold
-abbrev pub shown : Category → Option Reason → List ItemLoss → ℕ
-shown category reason losses = min (lost category reason losses) (2 ^ 64 - 1)
 
 abbrev pub reason_text : Option Reason → List ℕ
 reason_text None = codes "none"

@@ -3,7 +3,7 @@ ghost use Rattle.std.specs.Prelude.{◌≡◌, ℕ, Bool, List, Option, IsTrue};
 ghost use Rattle.sentry_env.specs.declared.kind.Kind.{Kind};
 ghost use Rattle.sentry_env.specs.Kind.{words_stand_once};
 ghost use Rattle.sentry_env.specs.Args.{IsCall};
-ghost use Rattle.sentry_env.specs.Run.{DueIsSettled};
+ghost use Rattle.sentry_env.specs.Run.{DueIsSettled, DueIsAlwaysSettled};
 
 /// In the table of kinds no word stands twice.
 pub fn kind_words_stand_once()
@@ -18,8 +18,10 @@ pub fn calls_have_one_meaning()
         → (keep ≡ keep') × (path ≡ path') × (kinds ≡ kinds') }
 {}
 
-/// A run over bytes has one outcome, and one text for each writer: they follow from the bytes, the
-/// moment, the kinds and whether the header stays.
+/// A run over bytes in which nothing is drawn has one outcome, and one text for each writer: they
+/// follow from the bytes, the moment, the kinds and whether the header stays. Nothing that is carried
+/// now draws an id: so a run over any bytes has.
 pub fn runs_have_one_outcome()
-    ensures { DueIsSettled }
+    ensures undrawn { DueIsSettled }
+    ensures always { DueIsAlwaysSettled }
 {}

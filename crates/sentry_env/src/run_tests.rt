@@ -207,9 +207,11 @@ fn runs_end_as_they_should(rt: HostRuntime) {
         let source = row.input.as_bytes();
         let (out, table) = (Full::endless(alloc), Full::endless(alloc));
         let ran = run_on(alloc, source, row.kinds, row.keep, out, table);
-        assert_eq!(rt; ending(&ran.answer), row.ending);
-        assert!(rt; wrote(&ran, row.out.as_bytes(), row.table.as_bytes()));
-        assert_eq!(rt; ran.failures, (0, 0, 0));
+        let wrote = wrote(&ran, row.out.as_bytes(), row.table.as_bytes());
+        assert_eq!(rt;
+            (ending(&ran.answer), wrote, ran.failures),
+            (row.ending, true, (0, 0, 0))
+        );
     }
 }
 
@@ -226,12 +228,8 @@ fn a_failed_read_ends_a_run(rt: HostRuntime) {
         let (out, table) = (Full::endless(alloc), Full::endless(alloc));
         let kinds = [Kind::Attachment];
         let ran = run_on(alloc, Broken { left, error }, &kinds, false, out, table);
-        assert_eq!(rt;
-            ending(&ran.answer),
-            (2, "sentry_env: unexpected end of file")
-        );
-        assert!(rt; wrote(&ran, b"", b""));
-        assert_eq!(rt; ran.failures, (1, 0, 0));
+        let ended = ending(&ran.answer) == (2, "sentry_env: unexpected end of file");
+        assert!(rt; ended && wrote(&ran, b"", b"") && ran.failures == (1, 0, 0));
     }
 }
 
@@ -258,12 +256,9 @@ const LOSSES: &str = "attachment none 12\n";
 #[test]
 fn a_failed_write_ends_a_run(rt: HostRuntime) {
     for by_error in [false, true] {
-        for room in 0..RECORDING.len() {
-            assert!(rt; breaks(rt.alloc(), by_error, room, usize::MAX), "{room}");
-        }
-        for room in 0..LOSSES.len() {
-            assert!(rt; breaks(rt.alloc(), by_error, usize::MAX, room), "{room}");
-        }
+        let out = (0..RECORDING.len()).all(|room| breaks(rt.alloc(), by_error, room, usize::MAX));
+        let table = (0..LOSSES.len()).all(|room| breaks(rt.alloc(), by_error, usize::MAX, room));
+        assert!(rt; out && table);
     }
 }
 
@@ -280,7 +275,6 @@ fn a_table_of_losses(rt: HostRuntime) -> Result<(), AllocError> {
         (Category::LogByte, u64::MAX, None),
     ];
     let mut sums = LossSums::new();
-    assert_eq!(rt; sums.table(rt.alloc())?.as_str(), "");
     for (category, quantity, reason) in rows {
         sums.add(&ItemLoss {
             category,
@@ -318,18 +312,16 @@ fn moment_shown(time: Option<Duration>) -> Moment {
 
 #[test]
 fn a_clock_out_of_range_is_second_0(rt: HostRuntime) {
-    let last = moment_shown(Some(Duration::new(253_402_300_799, 999_999_999)));
-    assert_eq!(rt; last.secs(), 253_402_300_799);
-    assert_eq!(rt; last.nanos(), 999_999_999);
-    for time in [
-        None,
-        Some(Duration::ZERO),
-        Some(Duration::new(253_402_300_800, 1)),
-        Some(Duration::MAX),
+    let last = Duration::new(253_402_300_799, 999_999_999);
+    for (time, moment) in [
+        (Some(last), (253_402_300_799, 999_999_999)),
+        (None, (0, 0)),
+        (Some(Duration::ZERO), (0, 0)),
+        (Some(Duration::new(253_402_300_800, 1)), (0, 0)),
+        (Some(Duration::MAX), (0, 0)),
     ] {
-        let moment = moment_shown(time);
-        assert_eq!(rt; moment.secs(), 0);
-        assert_eq!(rt; moment.nanos(), 0);
+        let shown = moment_shown(time);
+        assert_eq!(rt; (shown.secs(), shown.nanos()), moment);
     }
     assert_eq!(rt; seed_at(Duration::new(1, 2)), 1_000_000_002);
 }

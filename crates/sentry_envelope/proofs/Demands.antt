@@ -1,15 +1,16 @@
 -- An envelope meets a demand where its header and its items do.
-use Rattle.std.proofs.Common.{◌≡◌, ◌↔◌, Bool, true, false, sym, subst, ◌∙◌, IsTrue}
+use Rattle.std.proofs.Common.{◌≡◌, ◌↔◌, ◌<◌, ◌^◌, ℕ, length, arith, Bool, true, false, sym, subst, ◌∙◌, IsTrue}
 use Rattle.std.proofs.lemmas.Bool.{false≢true}
 use Rattle.std.specs.Prelude.{map, Vec, Option, Some, None, IsSomeAnd, IfSome}
 use Rattle.std.specs.declared.alloc.Global.{Global}
 use Rattle.sentry_tables.specs.Cell.{Cell}
 use Rattle.sentry_tables.specs.Meets.{IsPlain, IsStored}
 use Rattle.sentry_items.specs.declared.item.EnvelopeItem.{EnvelopeItem}
-use Rattle.sentry_envelope.specs.Envelope.{Envelope as Model, plain_content, stored_content, ItemsMeet, IsEnvelopePlain, IsEnvelopeStored}
-use Rattle.sentry_envelope.specs.EnvelopeView.{item_view, header_of, structured, structured_by, held, held_in, Held, items, bytes, ready_by, HasReadyHeader}
+use Rattle.sentry_envelope.specs.Envelope.{Envelope as Model, plain_content, stored_content, ItemsMeet, IsEnvelopePlain, IsEnvelopeSized, IsEnvelopeStored}
+use Rattle.sentry_envelope.specs.EnvelopeView.{item_view, header_of, structured, structured_by, held, held_in, Held, items, bytes, ready_by, HasReadyHeader, text_by, text_of}
 use Rattle.sentry_envelope.specs.HeaderFields.{header_kind}
 use Rattle.sentry_envelope.specs.SentryProfile.{item_types, profile}
+use Rattle.sentry_envelope.proofs.EnvelopeSized.{short}
 use Rattle.sentry_envelope.specs.declared.envelope.Contents.{Contents}
 use Rattle.sentry_envelope.specs.declared.envelope.Contents.TheVariants as variants
 use Rattle.sentry_envelope.specs.declared.envelope.Envelope.{Envelope}
@@ -53,3 +54,13 @@ if_structured (Some m) stored = stored
 
 pub stored_where_structured : (e : Envelope) (r : Bool) → (IsTrue r → IsSomeAnd (structured e) (IsEnvelopeStored profile)) → r ≡ true → IfSome (structured e) (IsEnvelopeStored profile)
 stored_where_structured e r stored is = if_structured (structured e) (stored is)
+
+-- what is written is sized, since its text stood in memory
+sized_held : (h : Cell) (x : Held) → length (text_by h x) < 2 ^ 64 → IfSome (structured_by h x) (IsEnvelopeStored profile) → IfSome (structured_by h x) (IsEnvelopeSized profile)
+sized_held h (items is) in_memory stored = short profile (record { header = h; items = is }) stored in_memory
+sized_held h (bytes b) in_memory stored = tt
+
+pub sized_where_written : (e : Envelope) (text : Vec ℕ Global) → text.items ≡ text_of e → IfSome (structured e) (IsEnvelopeStored profile) → IfSome (structured e) (IsEnvelopeSized profile)
+sized_where_written e text is stored =
+    let in_memory : length text.items < 2 ^ 64 = omega (arith, text.ok.0, text.ok.1, text.small) in
+    sized_held (header_of e) (held e) (subst (λ t. length t < 2 ^ 64) is in_memory) stored

@@ -14,7 +14,7 @@ use Rattle.sentry_framing.specs.Framing.{Frame, HasSize}
 use Rattle.sentry_framing.specs.ItemHeader.{place_of, Header, read_header}
 use Rattle.sentry_envelope.specs.Profile.{Form, attachment_form, opaque_form, json_form, container_form, container_kind, FormIsLawful}
 use Rattle.sentry_items.specs.Attached.{Attached, short_header, attached_norm, IsAttachedStored}
-use Rattle.sentry_envelope.specs.Envelope.{Content, attached, opaque, value, IsValue, attached_by, ContentShows, count, first_cell, item_count, payload_by, container_header, header_by, content_norm, stored_content, plain_content, readable_content, ContentMeets, count_in}
+use Rattle.sentry_envelope.specs.Envelope.{Content, attached, opaque, value, IsValue, attached_by, ContentShows, count, first_cell, item_count, payload_by, container_header, header_by, content_norm, stored_content, plain_content, readable_content, ContentMeets, stated_by}
 use Rattle.sentry_envelope.proofs.EnvelopeShown.{container_lawful}
 use Rattle.sentry_envelope.proofs.EnvelopeAttachments.{type_is_text, content_type_is_text, attached_norm_stored, attached_norm_again, attached_norm_written, attached_by_stored, type_back}
 use Rattle.sentry_envelope.proofs.EnvelopeWrittenHeaders.{header_said, short_read, attachment_read, container_read, AreTexts}
@@ -36,16 +36,16 @@ count_norm K c = count_rows K (cells_of c)
 -- ---- what is written is read back
 
 module _ (words : List (List ℕ)) (word : List ℕ) (n : ℕ) (place : place_of word words ≡ Some n) (utf8 : IsUtf8 word) where
-  pub header_is_read : (f : Form) (c : Content) → FormIsLawful f → ContentMeets stored_content f c → length (payload_by f c) < 2 ^ 64 → count_in c < 2 ^ 64
+  pub header_is_read : (f : Form) (c : Content) → FormIsLawful f → ContentMeets stored_content f c → stated_by f c < 2 ^ 64
       → read_header words (compact_text (object (header_by word f c))) ≡ Some (header_said n f c)
-  header_is_read attachment_form (attached a) laws s sized counted = attachment_read words word n place a utf8 (type_is_text a s) (content_type_is_text a s) s.0 sized
-  header_is_read attachment_form _ laws s sized counted = absurd s
-  header_is_read opaque_form (opaque b) laws s sized counted = short_read words word n place b utf8 sized
-  header_is_read opaque_form _ laws s sized counted = absurd s
-  header_is_read (json_form K) (value c) laws s sized counted = short_read words word n place (compact_text (tree K c)) utf8 sized
-  header_is_read (json_form K) _ laws s sized counted = absurd s
-  header_is_read (container_form content_type K) (value c) laws s sized counted = container_read words word n place content_type c utf8 laws.1 counted
-  header_is_read (container_form content_type K) _ laws s sized counted = absurd s
+  header_is_read attachment_form (attached a) laws s sized = attachment_read words word n place a utf8 (type_is_text a s) (content_type_is_text a s) s.0 sized
+  header_is_read attachment_form _ laws s sized = absurd s
+  header_is_read opaque_form (opaque b) laws s sized = short_read words word n place b utf8 sized
+  header_is_read opaque_form _ laws s sized = absurd s
+  header_is_read (json_form K) (value c) laws s sized = short_read words word n place (compact_text (tree K c)) utf8 sized
+  header_is_read (json_form K) _ laws s sized = absurd s
+  header_is_read (container_form content_type K) (value c) laws s sized = container_read words word n place content_type c utf8 laws.1 sized
+  header_is_read (container_form content_type K) _ laws s sized = absurd s
 
 pub size_said : (f : Form) (c : Content) (n : ℕ) → ContentMeets stored_content f c → HasSize (header_said n f c).length (payload_by f c)
 size_said attachment_form (attached a) n s = refl
@@ -135,6 +135,17 @@ counted_alike word content_type K c =
 container_alike : (word content_type : List ℕ) (K : Kind) (c : Cell) → tree (container_kind K) c ≡ tree (container_kind K) (norm (container_kind K) c)
     → framed_as word (container_form content_type K) (value c) ≡ framed_as word (container_form content_type K) (value (norm (container_kind K) c))
 container_alike word content_type K c e = ap₂ (λ members d. record { header = compact_text (object members); payload = compact_text d }) (counted_alike word content_type K c) e
+
+-- what is stated of the normal form is what is stated of the content, where both have one frame
+pub stated_norm : (word : List ℕ) (f : Form) (c : Content) → ContentMeets stored_content f c → framed_as word f c ≡ framed_as word f (content_norm f c) → stated_by f (content_norm f c) ≡ stated_by f c
+stated_norm word attachment_form (attached a) s e = refl
+stated_norm word attachment_form _ s e = absurd s
+stated_norm word opaque_form (opaque b) s e = refl
+stated_norm word opaque_form _ s e = absurd s
+stated_norm word (json_form K) (value c) s e = ap (λ (f : Frame). length f.payload) (sym e)
+stated_norm word (json_form K) _ s e = absurd s
+stated_norm word (container_form content_type K) (value c) s e = count_norm K c
+stated_norm word (container_form content_type K) _ s e = absurd s
 
 pub content_rewritten : (word : List ℕ) (f : Form) (c : Content) (h : Header) (payload : List ℕ) (now : Cell) → FormIsLawful f → IsMoment now → AreTexts h → ContentShows f now h payload c → IsContentRewritten word f c
 content_rewritten word attachment_form c h payload now laws moment texts shown =

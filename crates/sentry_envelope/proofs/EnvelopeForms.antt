@@ -1,5 +1,5 @@
 -- One text for each normal form, and what is spelled is written as its normal form is.
-use Rattle.std.proofs.Common.{◌≡◌, ℕ, List, [], ◌∷◌, Some, refl, sym, ap, ap₂, ◌∙◌, subst}
+use Rattle.std.proofs.Common.{◌≡◌, ◌<◌, ◌^◌, ℕ, List, [], ◌∷◌, Some, refl, sym, ap, ap₂, ◌∙◌, subst}
 use Rattle.serde_json.specs.Written.{compact_text}
 use Rattle.sentry_tables.specs.Cell.{Cell, absent}
 use Rattle.sentry_tables.specs.Norm.{norm}
@@ -10,11 +10,11 @@ use Rattle.sentry_tables.proofs.Laws.{has_laws}
 use Rattle.sentry_framing.specs.Framing.{with_line}
 use Rattle.sentry_framing.specs.ItemHeader.{Header}
 use Rattle.sentry_envelope.specs.Profile.{words, Profile, ProfileLaws}
-use Rattle.sentry_envelope.specs.Envelope.{Content, Item, item, raw, Envelope, Spells, ContentShowsAt, ItemsStand, first_id, frame_by, frame_at, frame_text, items_text, envelope_text, content_norm_at, items_norm, envelope_norm, ContentDemand, stored_content, plain_content, ContentMeets, ContentMeetsAt, ItemsMeet, IsEnvelopeStored, IsEnvelopePlain}
-use Rattle.sentry_envelope.specs.EnvelopeLaws.{IsFit, EnvelopesHaveOneForm, EnvelopesAreRewritten, RewritingTwiceIsOnce}
-use Rattle.sentry_envelope.proofs.EnvelopeTypes.{type_shown, shows_at, meets_at, frame_is, norm_is, lawful_at}
+use Rattle.sentry_envelope.specs.Envelope.{Content, Item, item, raw, Envelope, Spells, ContentShowsAt, ItemsStand, first_id, frame_by, frame_at, frame_text, items_text, envelope_text, content_norm, content_norm_at, items_norm, envelope_norm, stated_at, ItemsAreSized, IsEnvelopeSized, ContentDemand, stored_content, plain_content, ContentMeets, ContentMeetsAt, ItemsMeet, IsEnvelopeStored, IsEnvelopePlain, IsEnvelopeReadable}
+use Rattle.sentry_envelope.specs.EnvelopeLaws.{IsFit, EnvelopesHaveOneForm, EnvelopesAreRewritten, RewritingTwiceIsOnce, NormalFormsAreSized, SpelledHaveOneForm}
+use Rattle.sentry_envelope.proofs.EnvelopeTypes.{type_shown, shows_at, meets_at, frame_is, norm_is, stated_is, lawful_at}
 use Rattle.sentry_envelope.proofs.EnvelopeWrittenHeaders.{AreTexts, header_texts}
-use Rattle.sentry_envelope.proofs.EnvelopeContents.{content_rewritten}
+use Rattle.sentry_envelope.proofs.EnvelopeContents.{content_rewritten, stated_norm}
 use Rattle.sentry_envelope.proofs.EnvelopeIds.{ids_alike}
 use Rattle.sentry_envelope.proofs.EnvelopeBack.{back}
 use Rattle.sentry_envelope.proofs.EnvelopeNormal.{stable}
@@ -26,12 +26,14 @@ pub record AreItemsRewritten (P : Profile) (items : List Item) : Type 0 where
   pub stored : ItemsMeet stored_content P.types items
   pub plain : ItemsMeet plain_content P.types items
   pub alike : items_text P items ≡ items_text P (items_norm P.types items)
+  pub sized : ItemsAreSized P.types items → ItemsAreSized P.types (items_norm P.types items)
 
 -- the same of the content of one item
 record IsRewrittenAt (P : Profile) (n : ℕ) (c : Content) : Type 0 where
   stored : ContentMeetsAt stored_content P.types n c
   plain : ContentMeetsAt plain_content P.types n c
   alike : frame_at P.types n c ≡ frame_at P.types n (content_norm_at P.types n c)
+  stated : stated_at P.types n (content_norm_at P.types n c) ≡ stated_at P.types n c
 
 module _ (P : Profile) (laws : ProfileLaws P) where
   item_rewritten : (n : ℕ) (c : Content) (h : Header) (payload : List ℕ) (now : Cell) → IsMoment now → AreTexts h → ContentShowsAt P.types n now h payload c → IsRewrittenAt P n c
@@ -44,14 +46,20 @@ module _ (P : Profile) (laws : ProfileLaws P) where
         stored = met stored_content here.stored;
         plain = met plain_content here.plain;
         alike = frame_is at c ∙ ap Some here.alike ∙ ap (λ x. Some (frame_by t x)) (sym (norm_is at c)) ∙ sym (frame_is at (content_norm_at P.types n c));
+        stated = ap (stated_at P.types n) (norm_is at c) ∙ stated_is at (content_norm t.form c) ∙ stated_norm t.word t.form c here.stored here.alike ∙ sym (stated_is at c);
       }
 
   pub items_rewritten : (now : Cell) → IsMoment now → (items : List Item) (body : List ℕ) → ItemsStand P now body items [] → AreItemsRewritten P items
-  items_rewritten now moment [] body h = record { stored = tt; plain = tt; alike = refl }
+  items_rewritten now moment [] body h = record { stored = tt; plain = tt; alike = refl; sized = λ h. tt }
   items_rewritten now moment (item n c ∷ items) body (f, next, first, (h, read, kind, shown), more) =
       let here = item_rewritten n c h f.payload now moment (header_texts (words P.types) f.header h read) shown in
       let others = items_rewritten now moment items next more in
-      record { stored = (here.stored, others.stored); plain = (here.plain, others.plain); alike = ap₂ frame_text here.alike others.alike }
+      record {
+        stored = (here.stored, others.stored);
+        plain = (here.plain, others.plain);
+        alike = ap₂ frame_text here.alike others.alike;
+        sized = λ h. (subst (λ m. m < 2 ^ 64) (sym here.stated) h.0, others.sized h.1);
+      }
   items_rewritten now moment (raw ∷ items) body (f, next, first, shown, more) = absurd shown
 
   -- ---- envelopes
@@ -90,3 +98,20 @@ module _ (P : Profile) (laws : ProfileLaws P) where
   twice bytes now later e f moment h readable sized again =
       let (stored, plain, text) = rewritten bytes now e moment h in
       ap (envelope_text P) ((back P laws e later stored plain readable sized).1 f again) ∙ sym text
+
+  pub normal_sized : NormalFormsAreSized P
+  unfolding envelope_norm IsEnvelopeSized
+  normal_sized bytes now e moment h = (items_rewritten now moment e.items h.body h.items).sized
+
+  -- what bytes spell is read back, where it is readable and sized
+  fit : (bytes : List ℕ) (now : Cell) (e : Envelope) → IsMoment now → Spells P bytes now e → IsEnvelopeReadable P e → IsEnvelopeSized P e → IsFit P e
+  fit bytes now e moment h readable sized =
+      let (stored, plain, text) = rewritten bytes now e moment h in
+      record { stored = stored; plain = plain; readable = readable; sized = normal_sized bytes now e moment h sized }
+
+  pub spelled_one_form : SpelledHaveOneForm P
+  spelled_one_form bytes others now later a b moment also h k r s p q =
+      let forms = one_form a b (fit bytes now a moment h r p) (fit others later b also k s q) in
+      let first = (rewritten bytes now a moment h).2 in
+      let second = (rewritten others later b also k).2 in
+      (λ same. first ∙ forms.0 same ∙ sym second, λ same. forms.1 (sym first ∙ same ∙ second))

@@ -4,7 +4,8 @@ use Rattle.sentry_envelope.specs.EnvelopeLaws.{EnvelopeLaws}
 use Rattle.sentry_envelope.proofs.EnvelopeAnswers.{one_answer}
 use Rattle.sentry_envelope.proofs.EnvelopeBack.{back}
 use Rattle.sentry_envelope.proofs.EnvelopeNormal.{stable}
-use Rattle.sentry_envelope.proofs.EnvelopeForms.{one_form, rewritten, twice}
+use Rattle.sentry_envelope.proofs.EnvelopeForms.{normal_sized, one_form, rewritten, spelled_one_form, twice}
+use Rattle.sentry_envelope.proofs.EnvelopeSized.{short}
 
 pub envelope_laws : (P : Profile) → ProfileLaws P → EnvelopeLaws P
 envelope_laws P laws = record {
@@ -14,4 +15,7 @@ envelope_laws P laws = record {
   one_form = one_form P laws;
   rewritten = rewritten P laws;
   twice = twice P laws;
+  short = short P;
+  normal_sized = normal_sized P laws;
+  spelled_one_form = spelled_one_form P laws;
 }

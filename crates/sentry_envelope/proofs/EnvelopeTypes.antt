@@ -5,7 +5,7 @@ use Rattle.sentry_tables.specs.Cell.{Cell, absent}
 use Rattle.sentry_tables.specs.Kind.{Kind, has_key}
 use Rattle.sentry_framing.specs.ItemHeader.{place_of, Header}
 use Rattle.sentry_envelope.specs.Profile.{ItemType, words, FormIsLawful, GivesLawful, TypesAreLawful}
-use Rattle.sentry_envelope.specs.Envelope.{Content, value, ContentShows, ContentShowsAt, given_at, frame_by, frame_at, content_norm, content_norm_at, ContentDemand, ContentMeets, ContentMeetsAt}
+use Rattle.sentry_envelope.specs.Envelope.{Content, value, ContentShows, ContentShowsAt, given_at, frame_by, frame_at, content_norm, content_norm_at, stated_by, stated_at, ContentDemand, ContentMeets, ContentMeetsAt}
 
 -- this type stands at this place of the list
 pub data IsAt : List ItemType → ℕ → ItemType → Type 1 where
@@ -50,6 +50,10 @@ frame_is (later at) c = frame_is at c
 pub norm_is : {ts : List ItemType} {n : ℕ} {t : ItemType} → IsAt ts n t → (c : Content) → content_norm_at ts n c ≡ content_norm t.form c
 norm_is first c = refl
 norm_is (later at) c = norm_is at c
+
+pub stated_is : {ts : List ItemType} {n : ℕ} {t : ItemType} → IsAt ts n t → (c : Content) → stated_at ts n c ≡ stated_by t.form c
+stated_is first c = refl
+stated_is (later at) c = stated_is at c
 
 pub given_is : {ts : List ItemType} {n : ℕ} {t : ItemType} → IsAt ts n t → (c : Content) → given_at ts n c ≡ given_as t.gives c
 given_is (first {t} {ts}) c = given_first t ts c

@@ -1,9 +1,8 @@
 -- What `==` says of headers and of envelopes.
-use Rattle.std.proofs.Common.{rules, ◌≡◌, ◌&&◌, ℕ, Bool, List, [], ◌∷◌, map, refl, ap, Decides}
+use Rattle.std.proofs.Common.{rules, ◌≡◌, ◌&&◌, List, [], ◌∷◌, refl, Decides}
 use Rattle.std.proofs.lemmas.Bool.Decides.{Decides-and, Decides-eqb}
 use Rattle.std.proofs.lemmas.Slice.Eq.{slice_eq-Decides}
 use lib.Pointwise.{pointwise}
-use lib.Dec.{eqb}
 use Rattle.uuid.specs.contracts.UuidPartialEq.TheImpl.{eq-value as of_ids}
 use Rattle.uuid.specs.declared.Uuid.{Uuid}
 use Rattle.sentry_tables.specs.Cell.{octets}
@@ -19,16 +18,16 @@ use Rattle.sentry_parts.specs.contracts.client_sdk_info.ClientSdkInfoPartialEq.T
 use Rattle.sentry_parts.proofs.Equal.{software_decides}
 use Rattle.sentry_items.specs.contracts.item.EnvelopeItemPartialEq.TheImpl.{eq-value as of_items}
 use Rattle.sentry_items.specs.declared.item.EnvelopeItem.{EnvelopeItem}
-use Rattle.sentry_items.specs.declared.item.EnvelopeItem.TheVariants as item
-use Rattle.sentry_items.proofs.Equal.{attachments_decide}
+use Rattle.sentry_items.proofs.Equal.{items_decide}
 use Rattle.sentry_envelope.specs.contracts.envelope.ContentsPartialEq.TheImpl.{eq-value as of_contents}
 use Rattle.sentry_envelope.specs.contracts.headers.EnvelopeHeadersPartialEq.TheImpl.{eq-value as of_headers}
 use Rattle.sentry_envelope.specs.declared.envelope.Contents.{Contents}
 use Rattle.sentry_envelope.specs.declared.envelope.Contents.TheVariants as contents
 use Rattle.sentry_envelope.specs.declared.envelope.Envelope.{Envelope}
 use Rattle.sentry_envelope.specs.declared.headers.EnvelopeHeaders.{EnvelopeHeaders}
-use Rattle.sentry_envelope.specs.HeaderFields.{headers_cell}
-use Rattle.sentry_envelope.specs.EnvelopeView.{item_view, held_in, IsSame, items as held_items, bytes as held_bytes}
+use Rattle.sentry_envelope.specs.HeaderFields.{header_fields, headers_cell}
+use Rattle.sentry_envelope.specs.EnvelopeAlike.{EachHoldsNoTree, HasNoTree, EachAlike, HoldAlike, AreEnvelopesAlike}
+use Rattle.sentry_envelope.specs.EnvelopeView.{items_in}
 
 ids_decide : (a b : Uuid) → Decides (of_ids.it a b) (octets a ≡ octets b)
 ids_decide a b = search rules
@@ -37,6 +36,7 @@ moments_decide : (a b : Moment) → Decides (of_moments.it a b) (moment_cell a �
 moments_decide a b = search rules
 
 pub headers_decide : (a b : EnvelopeHeaders) → Decides (of_headers.it a b) (headers_cell a ≡ headers_cell b)
+unfolding header_fields
 headers_decide a b =
     let parts = Decides-and _ _ (options_decide of_dsns.it dsn_cell dsns_decide a.dsn b.dsn)
     (Decides-and _ _ (options_decide of_ids.it octets ids_decide a.event_id b.event_id)
@@ -44,37 +44,17 @@ headers_decide a b =
     (options_decide of_moments.it moment_cell moments_decide a.sent_at b.sent_at))) in
     (λ same. let e = parts.0 same in let dsn = e.0 in let id = e.1.0 in let sdk = e.1.1.0 in let sent = e.1.1.1 in cc, λ same. parts.1 (cc, (cc, (cc, cc))))
 
--- of lists, where `E` decides which of their values are the same, seen by `view`
-views_decide : {A V : Type 0} (E : A → A → Bool) (view : A → V) → ((a b : A) → Decides (E a b) (view a ≡ view b)) → (xs ys : List A) → Decides (pointwise E xs ys) (map view xs ≡ map view ys)
-views_decide E view each [] [] = (λ same. refl, λ same. refl)
-views_decide E view each [] (y ∷ ys) = (λ same. cc, λ same. cc)
-views_decide E view each (x ∷ xs) [] = (λ same. cc, λ same. cc)
-views_decide E view each (x ∷ xs) (y ∷ ys) =
-    let both = Decides-and (E x y) (pointwise E xs ys) (each x y) (views_decide E view each xs ys) in
-    (λ same. let e = both.0 same in let first = e.0 in let rest = e.1 in cc, λ same. both.1 (cc, cc))
+each_decides : (xs ys : List EnvelopeItem) → EachHoldsNoTree xs → EachHoldsNoTree ys → Decides (pointwise of_items.it xs ys) (EachAlike xs ys)
+each_decides [] [] s t = (λ same. tt, λ same. refl)
+each_decides [] (y ∷ ys) s t = (λ same. cc, λ same. absurd same)
+each_decides (x ∷ xs) [] s t = (λ same. cc, λ same. absurd same)
+each_decides (x ∷ xs) (y ∷ ys) s t = Decides-and (of_items.it x y) (pointwise of_items.it xs ys) (items_decide x y s.0 t.0) (each_decides xs ys s.1 t.1)
 
-bytes_decide : (xs ys : List ℕ) → Decides (pointwise eqb xs ys) (xs ≡ ys)
-bytes_decide xs ys = slice_eq-Decides Decides-eqb xs ys _ refl
+contents_decide : (a b : Contents) → EachHoldsNoTree (items_in a) → EachHoldsNoTree (items_in b) → Decides (of_contents.it a b) (HoldAlike a b)
+contents_decide (contents.Items x) (contents.Items y) s t = each_decides x.items y.items s t
+contents_decide (contents.Raw x) (contents.Raw y) s t = slice_eq-Decides Decides-eqb x.items y.items _ refl
+contents_decide (contents.Items x) (contents.Raw y) s t = (λ same. cc, λ same. absurd same)
+contents_decide (contents.Raw x) (contents.Items y) s t = (λ same. cc, λ same. absurd same)
 
-items_decide : (a b : EnvelopeItem) → Decides (of_items.it a b) (item_view a ≡ item_view b)
-items_decide (item.Attachment a) (item.Attachment b) = let each = attachments_decide a b in (λ same. let e = each.0 same in cc, λ same. each.1 (cc))
-items_decide (item.ReplayRecording a) (item.ReplayRecording b) =
-    let each = bytes_decide a.buffer.items b.buffer.items in (λ same. let e = each.0 same in cc, λ same. each.1 (cc))
-items_decide item.Raw item.Raw = (λ same. refl, λ same. refl)
-items_decide (item.Attachment a) (item.ReplayRecording b) = (λ same. cc, λ same. cc)
-items_decide (item.Attachment a) item.Raw = (λ same. cc, λ same. cc)
-items_decide (item.ReplayRecording a) (item.Attachment b) = (λ same. cc, λ same. cc)
-items_decide (item.ReplayRecording a) item.Raw = (λ same. cc, λ same. cc)
-items_decide item.Raw (item.Attachment b) = (λ same. cc, λ same. cc)
-items_decide item.Raw (item.ReplayRecording b) = (λ same. cc, λ same. cc)
-
-contents_decide : (a b : Contents) → Decides (of_contents.it a b) (held_in a ≡ held_in b)
-contents_decide (contents.Items x) (contents.Items y) =
-    let views = views_decide of_items.it item_view items_decide x.items y.items in (λ same. ap held_items (views.0 same), λ same. views.1 (cc))
-contents_decide (contents.Raw x) (contents.Raw y) =
-    let each = bytes_decide x.items y.items in (λ same. ap held_bytes (each.0 same), λ same. each.1 (cc))
-contents_decide (contents.Items x) (contents.Raw y) = (λ same. cc, λ same. cc)
-contents_decide (contents.Raw x) (contents.Items y) = (λ same. cc, λ same. cc)
-
-pub envelopes_decide : (a b : Envelope) → Decides (of_headers.it a.headers b.headers && of_contents.it a.contents b.contents) (IsSame a b)
-envelopes_decide a b = Decides-and _ _ (headers_decide a.headers b.headers) (contents_decide a.contents b.contents)
+pub envelopes_decide : (a b : Envelope) → HasNoTree a → HasNoTree b → Decides (of_headers.it a.headers b.headers && of_contents.it a.contents b.contents) (AreEnvelopesAlike a b)
+envelopes_decide a b s t = Decides-and _ _ (headers_decide a.headers b.headers) (contents_decide a.contents b.contents s t)

@@ -9,7 +9,7 @@ use Rattle.sentry_tables.specs.Meets.{IsPlain}
 use Rattle.sentry_tables.specs.Written.{tree}
 use Rattle.uuid.specs.declared.Uuid.{Uuid}
 use Rattle.sentry_envelope.specs.EnvelopeView.{IsReady, no_fields}
-use Rattle.sentry_envelope.specs.HeaderFields.{header_kind, put_id}
+use Rattle.sentry_envelope.specs.HeaderFields.{header_fields, header_kind, put_id}
 use Rattle.sentry_envelope.proofs.SentryProfile.{header_lawful}
 
 -- the tree of a header that is ready to be written holds no floats
@@ -23,11 +23,11 @@ with_ready (Err e) P Q R f h = tt
 
 -- a header without fields is plain, and one that is plain is so with another id
 pub no_fields_plain : IsPlain header_kind no_fields
-unfolding header_kind
+unfolding header_fields
 no_fields_plain = ((tt, (tt, (tt, (tt, tt)))), (tt, refl))
 
 pub put_plain : (id : Option Uuid) (h : Cell) → IsPlain header_kind h → IsPlain header_kind (put_id id h)
-unfolding header_kind
+unfolding header_fields
 put_plain None (fields (cell c (cell d cs)) other) p = ((p.0.0, (tt, p.0.1.1)), p.1)
 put_plain (Some i) (fields (cell c (cell d cs)) other) p = ((p.0.0, (tt, p.0.1.1)), p.1)
 put_plain id (fields (cell c no_cells) other) p = absurd p.0.1

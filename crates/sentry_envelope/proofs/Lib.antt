@@ -3,11 +3,13 @@ pub mod Demands
 pub mod HeaderValues
 pub mod EnvelopeLine
 pub mod EnvelopeShown
+pub mod EnvelopeSized
 pub mod EnvelopeAnswers
 pub mod EnvelopeReading
 pub mod SentryProfile
 pub mod ItemReads
 pub mod WholeReads
+pub mod WrittenDrawn
 pub mod EnvelopeTypes
 pub mod EnvelopeWrittenHeaders
 pub mod EnvelopeAttachments
@@ -16,6 +18,7 @@ pub mod EnvelopeIds
 pub mod EnvelopeItems
 pub mod EnvelopeBack
 pub mod EnvelopeNormal
+pub mod EnvelopeMade
 pub mod EnvelopeForms
 pub mod EnvelopeLaws
 pub mod OneEnvelope
@@ -26,3 +29,4 @@ pub mod ConservationLemmas
 pub mod LossLemmas
 pub mod FilterLemmas
 pub mod Equal
+pub mod Accepted

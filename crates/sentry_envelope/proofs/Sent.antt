@@ -1,14 +1,13 @@
 -- The text of an envelope, item by item, and demands on items, item by item.
 use Rattle.std.proofs.Common.{◌≡◌, ◌+◌, ◌<◌, ℕ, suc, length, get_or, drop, drop-cons, add-one, List, [], ◌∷◌, ◌++◌, Option, Some, None, Result, refl, sym, ap, ◌∙◌, subst, append_assoc}
 use Rattle.std.specs.Prelude.{codes, map, OnOk}
-use Rattle.std.proofs.lemmas.Result.{on_ok_weaker}
 use Rattle.serde_json.specs.Written.{compact_text}
 use Rattle.sentry_json.specs.Line.{newline}
 use Rattle.sentry_tables.specs.Cell.{Cell}
 use Rattle.sentry_tables.specs.Written.{tree}
-use Rattle.sentry_framing.specs.Framing.{Frame}
+use Rattle.sentry_framing.specs.Framing.{Frame, with_line}
 use Rattle.sentry_envelope.specs.EnvelopeView.{item_view}
-use Rattle.sentry_envelope.specs.SentryProfile.{without_id, profile}
+use Rattle.sentry_envelope.specs.SentryProfile.{profile}
 use Rattle.sentry_envelope.specs.HeaderFields.{header_kind}
 use Rattle.sentry_items.specs.Attached.{attachment_header, short_header}
 use Rattle.sentry_items.specs.HeaderTokens.{header_text}
@@ -17,8 +16,8 @@ use Rattle.sentry_items.specs.declared.attachment.Attachment.{Attachment}
 use Rattle.sentry_items.specs.declared.replay_recording.ReplayRecording.{ReplayRecording}
 use Rattle.sentry_items.specs.declared.item.EnvelopeItem.{EnvelopeItem}
 use Rattle.sentry_items.specs.declared.item.EnvelopeItem.TheVariants as variants
-use Rattle.sentry_envelope.specs.Profile.{attachment_form, opaque_form, ItemType, Profile}
-use Rattle.sentry_envelope.specs.Envelope.{Item, item, raw, attached, opaque, frame_by, frame_text, frame_of_item, items_text, envelope_text, ContentDemand, ItemsMeet}
+use Rattle.sentry_envelope.specs.Profile.{ItemType, Profile}
+use Rattle.sentry_envelope.specs.Envelope.{Item, item, raw, frame_text, frame_of_item, items_text, envelope_text, ContentDemand, ItemsMeet}
 
 -- a frame, and then what follows it
 pub frame_then : (f : Option Frame) (next : List ℕ) → frame_text f [] ++ next ≡ frame_text f next
@@ -47,24 +46,22 @@ module _ (G : ContentDemand) (ts : List ItemType) where
 -- ---- one item
 
 module _ {E : Type 0} (r : Result (Unit {0}) E) where
-  frame_sent : (old between new : List ℕ) (f : Frame) → between ≡ old ++ f.header → OnOk r (new ≡ between ++ newline ∷ (f.payload ++ newline ∷ [])) → OnOk r (new ≡ old ++ frame_text (Some f) [])
-  frame_sent old between new f headed sent =
-      on_ok_weaker r (λ e. e ∙ ap (λ s. s ++ newline ∷ (f.payload ++ newline ∷ [])) headed ∙ append_assoc old f.header (newline ∷ (f.payload ++ newline ∷ []))) sent
-
   abbrev Sends : List ℕ → List ℕ → EnvelopeItem → Type 0
   Sends old new i = OnOk r (new ≡ old ++ frame_text (frame_of_item profile (item_view i)) [])
 
-  pub attachment_sent : (i : EnvelopeItem) (old between new : List ℕ) (a : Attachment) → i ≡ variants.Attachment a
-      → between ≡ old ++ header_text (attachment_header (codes "attachment") (attachment_view a)) → OnOk r (new ≡ between ++ newline ∷ (a.buffer.items ++ newline ∷ [])) → Sends old new i
-  unfolding profile header_text
-  attachment_sent i old between new a is headed sent =
-      subst (Sends old new) (sym is) (frame_sent old between new (frame_by (without_id (codes "attachment") attachment_form) (attached (attachment_view a))) headed sent)
+  -- a frame with this header was sent
+  abbrev IsSent : List ℕ → List ℕ → List ℕ → List ℕ → Type 0
+  IsSent old new header payload = OnOk r (new ≡ old ++ with_line header (with_line payload []))
 
-  pub recording_sent : (i : EnvelopeItem) (old between new : List ℕ) (x : ReplayRecording) → i ≡ variants.ReplayRecording x
-      → between ≡ old ++ header_text (short_header (codes "replay_recording") x.buffer.items) → OnOk r (new ≡ between ++ newline ∷ (x.buffer.items ++ newline ∷ [])) → Sends old new i
+  pub attachment_sent : (i : EnvelopeItem) (old new header : List ℕ) (a : Attachment) → i ≡ variants.Attachment a → header ≡ header_text (attachment_header (codes "attachment") (attachment_view a))
+      → IsSent old new header a.buffer.items → Sends old new i
   unfolding profile header_text
-  recording_sent i old between new x is headed sent =
-      subst (Sends old new) (sym is) (frame_sent old between new (frame_by (without_id (codes "replay_recording") opaque_form) (opaque x.buffer.items)) headed sent)
+  attachment_sent i old new header a is headed sent = subst (Sends old new) (sym is) (subst (λ h. IsSent old new h a.buffer.items) headed sent)
+
+  pub recording_sent : (i : EnvelopeItem) (old new header : List ℕ) (x : ReplayRecording) → i ≡ variants.ReplayRecording x → header ≡ header_text (short_header (codes "replay_recording") x.buffer.items)
+      → IsSent old new header x.buffer.items → Sends old new i
+  unfolding profile header_text
+  recording_sent i old new header x is headed sent = subst (Sends old new) (sym is) (subst (λ h. IsSent old new h x.buffer.items) headed sent)
 
 -- ---- an envelope
 

@@ -1,10 +1,12 @@
 -- The profile of Sentry's envelopes is lawful.
 use Rattle.std.proofs.Common.{◌≡◌, refl}
 use Rattle.std.specs.Prelude.{codes}
+use Rattle.sentry_tables.proofs.ByRows.{laws_by_rows}
 use Rattle.sentry_tables.proofs.Sound.{ascii_text}
+use Rattle.sentry_tables.specs.Fields.{rows_of}
 use Rattle.sentry_tables.specs.Lawful.{IsLawful}
 use Rattle.sentry_envelope.specs.Profile.{ProfileLaws, words}
-use Rattle.sentry_envelope.specs.HeaderFields.{header_kind}
+use Rattle.sentry_envelope.specs.HeaderFields.{header_fields, header_kind}
 use Rattle.sentry_framing.specs.ItemWords.{item_words}
 use Rattle.sentry_envelope.specs.SentryProfile.{item_types, profile}
 use Rattle.sentry_keys.proofs.DsnTrees.{dsn_scalar_laws}
@@ -17,8 +19,8 @@ pub same_words : item_words ≡ words item_types
 same_words = refl
 
 pub header_lawful : IsLawful header_kind
-unfolding header_kind
-header_lawful = (refl, tt, dsn_scalar_laws, (refl, tt, hyphenated_laws, (refl, tt, sdk_lawful, (refl, rfc3339_refuses_null, rfc3339_scalar_laws, tt, refl), refl), refl), refl)
+unfolding header_fields
+header_lawful = laws_by_rows (rows_of header_fields) refl (search (dsn_scalar_laws, hyphenated_laws, sdk_lawful, rfc3339_refuses_null, rfc3339_scalar_laws))
 
 pub profile_lawful : ProfileLaws profile
 unfolding profile

@@ -239,19 +239,22 @@ IsEnvelopeReadable P e =
     IsReadable P.header e.header × (depth (tree P.header e.header) ≤ 127)
     × ItemsMeet readable_content P.types e.items
 
-abbrev pub IsSizedFrame : Option Frame → Type 0
-IsSizedFrame None = ⊤
-IsSizedFrame (Some frame) = length frame.payload < 2 ^ 64
+-- the number that an item's header states: of a container its items, and of any other payload its bytes
+abbrev pub stated_by : Form → Content → ℕ
+stated_by (container_form content_type K) (value c) = item_count c
+stated_by f c = length (payload_by f c)
 
-abbrev pub count_in : Content → ℕ
-count_in (value c) = item_count c
-count_in _ = zero
+-- the same of the type at this place
+abbrev pub stated_at : List ItemType → ℕ → Content → ℕ
+stated_at [] n c = zero
+stated_at (t ∷ ts) zero c = stated_by t.form c
+stated_at (t ∷ ts) (suc n) c = stated_at ts n c
 
-abbrev pub ItemsAreSized : Profile → List Item → Type 0
-ItemsAreSized P [] = ⊤
-ItemsAreSized P (item n c ∷ is) = IsSizedFrame (frame_at P.types n c) × (count_in c < 2 ^ 64) × ItemsAreSized P is
-ItemsAreSized P (raw ∷ is) = ItemsAreSized P is
+abbrev pub ItemsAreSized : List ItemType → List Item → Type 0
+ItemsAreSized ts [] = ⊤
+ItemsAreSized ts (item n c ∷ is) = (stated_at ts n c < 2 ^ 64) × ItemsAreSized ts is
+ItemsAreSized ts (raw ∷ is) = ItemsAreSized ts is
 
--- Each payload of its text has fewer than 2^64 bytes and items, as any in a machine's memory has: its length is a number that is read.
+-- Each number that its items' headers state is below 2^64, as of any text in a machine's memory: it is a number that is read.
 unfoldable pub IsEnvelopeSized : Profile → Envelope → Type 0
-IsEnvelopeSized P e = ItemsAreSized P e.items
+IsEnvelopeSized P e = ItemsAreSized P.types e.items

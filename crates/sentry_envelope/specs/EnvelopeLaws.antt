@@ -1,5 +1,5 @@
 -- The laws of envelopes.
-use Rattle.std.specs.Prelude.{◌≡◌, ◌⊎◌, ◌↔◌, ℕ, List}
+use Rattle.std.specs.Prelude.{◌≡◌, ◌⊎◌, ◌↔◌, ◌<◌, ◌^◌, ℕ, List, length}
 use Rattle.sentry_tables.specs.Cell.{Cell}
 use Rattle.sentry_tables.specs.Lawful.{IsMoment}
 use Rattle.sentry_envelope.specs.Profile.{Profile}
@@ -58,6 +58,20 @@ abbrev pub RewritingTwiceIsOnce : Profile → Type 0
 RewritingTwiceIsOnce P = (bytes : List ℕ) (now later : Cell) (e f : Envelope) → IsMoment now → Spells P bytes now e → IsEnvelopeReadable P e → IsEnvelopeSized P e
     → Spells P (envelope_text P e) later f → envelope_text P f ≡ envelope_text P e
 
+-- An envelope whose text has fewer than 2^64 bytes, as any in a machine's memory has, is sized.
+abbrev pub ShortTextsAreSized : Profile → Type 0
+ShortTextsAreSized P = (e : Envelope) → IsEnvelopeStored P e → length (envelope_text P e) < 2 ^ 64 → IsEnvelopeSized P e
+
+-- The normal form of what bytes spell is sized where that is.
+abbrev pub NormalFormsAreSized : Profile → Type 0
+NormalFormsAreSized P = (bytes : List ℕ) (now : Cell) (e : Envelope) → IsMoment now → Spells P bytes now e → IsEnvelopeSized P e → IsEnvelopeSized P (envelope_norm P e)
+
+-- So two envelopes that bytes spell share the normal form exactly where they are written alike.
+abbrev pub SpelledHaveOneForm : Profile → Type 0
+SpelledHaveOneForm P = (bytes others : List ℕ) (now later : Cell) (a b : Envelope) → IsMoment now → IsMoment later → Spells P bytes now a → Spells P others later b
+    → IsEnvelopeReadable P a → IsEnvelopeReadable P b → IsEnvelopeSized P a → IsEnvelopeSized P b
+    → (envelope_norm P a ≡ envelope_norm P b) ↔ (envelope_text P a ≡ envelope_text P b)
+
 pub record EnvelopeLaws (P : Profile) : Type 0 where
   pub one_answer : HasOneAnswer P
   pub back : EnvelopesReadBack P
@@ -65,3 +79,6 @@ pub record EnvelopeLaws (P : Profile) : Type 0 where
   pub one_form : EnvelopesHaveOneForm P
   pub rewritten : EnvelopesAreRewritten P
   pub twice : RewritingTwiceIsOnce P
+  pub short : ShortTextsAreSized P
+  pub normal_sized : NormalFormsAreSized P
+  pub spelled_one_form : SpelledHaveOneForm P

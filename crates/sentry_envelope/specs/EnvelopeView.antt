@@ -4,9 +4,8 @@ use Rattle.sentry_tables.specs.Cell.{Cell, absent, fields, no_cells, cell}
 use Rattle.serde_json.specs.Data.{no_members}
 use Rattle.sentry_tables.specs.Kind.{Kind}
 use Rattle.sentry_tables.specs.Meets.{IsPlain, IsStored}
-use Rattle.sentry_items.specs.View.{attachment_view}
+use Rattle.sentry_items.specs.View.{ItemView, attachment, replay_recording, raw as raw_view, item_held}
 use Rattle.sentry_items.specs.declared.item.EnvelopeItem.{EnvelopeItem}
-use Rattle.sentry_items.specs.declared.item.EnvelopeItem.TheVariants as item_variants
 use Rattle.sentry_envelope.specs.Envelope.{Item, item, raw, attached, opaque, Envelope as Model, given_by, envelope_text, IsEnvelopePlain}
 use Rattle.sentry_envelope.specs.HeaderFields.{header_kind, headers_cell, fill_id}
 use Rattle.sentry_envelope.specs.SentryProfile.{item_types, profile}
@@ -17,11 +16,14 @@ use Rattle.sentry_envelope.specs.declared.envelope.Envelope.{Envelope}
 use Rattle.sentry_envelope.specs.declared.envelope.AddRefused.{AddRefused}
 use Rattle.sentry_envelope.specs.declared.envelope.AddRefused.TheVariants as refusals
 
--- an item by the place of its type and what it holds
+-- what an item holds, at the place of its type
+abbrev pub placed : ItemView → Item
+placed (attachment a) = item 0 (attached a)
+placed (replay_recording b) = item 1 (opaque b)
+placed raw_view = raw
+
 abbrev pub item_view : EnvelopeItem → Item
-item_view (item_variants.Attachment a) = item 0 (attached (attachment_view a))
-item_view (item_variants.ReplayRecording r) = item 1 (opaque r.buffer.items)
-item_view item_variants.Raw = raw
+item_view i = placed (item_held i)
 
 -- ---- what an envelope holds: items, or bytes that nothing read
 

@@ -1,5 +1,5 @@
 -- The fields of an envelope's header.
-use Rattle.std.specs.Prelude.{List, [], ◌∷◌, Option, codes, true, refl, ◌≡◌}
+use Rattle.std.specs.Prelude.{List, [], ◌∷◌, Option, Some, None, codes, true, refl, ◌≡◌}
 use Rattle.sentry_tables.specs.Cell.{Cell, absent, present, octets, fields, cell}
 use Rattle.sentry_tables.specs.Kind.{Kind, may, may_strict, keys}
 use Rattle.sentry_tables.specs.Written.{in_order}
@@ -19,7 +19,8 @@ use Rattle.uuid.specs.declared.Uuid.{Uuid}
 abbrev pub id_cell : Option Uuid → Cell
 id_cell id = option_cell octets id
 
-abbrev pub header_fields : List (Field EnvelopeHeaders)
+-- members of other keys are ignored
+unfoldable pub header_fields : List (Field EnvelopeHeaders)
 header_fields =
     field (codes "dsn") may dsn_kind (λ h. option_cell dsn_cell h.dsn)
     ∷ field (codes "event_id") may hyphenated_kind (λ h. id_cell h.event_id)
@@ -27,20 +28,25 @@ header_fields =
     ∷ field (codes "sent_at") may_strict rfc3339_kind (λ h. option_cell moment_cell h.sent_at)
     ∷ []
 
--- members of other keys are ignored
-unfoldable pub header_kind : Kind
+abbrev pub header_kind : Kind
 header_kind = table_of header_fields
 
 abbrev pub headers_cell : EnvelopeHeaders → Cell
 headers_cell h = fields_by header_fields h
 
 pub header_in_order : in_order (keys (rows_of header_fields)) ≡ true
+unfolding header_fields
 header_in_order = refl
 
 -- an id fills an event id that is absent
 abbrev pub fill_id : Cell → Cell → Cell
 fill_id (octets id) (fields (cell dsn (cell absent cs)) other) = fields (cell dsn (cell (present (octets id)) cs)) other
 fill_id id h = h
+
+-- the id that is given, if one is
+abbrev pub given_id : Option Uuid → Cell
+given_id None = absent
+given_id (Some id) = octets id
 
 -- the header with this event id, or without one
 abbrev pub put_id : Option Uuid → Cell → Cell

@@ -1,8 +1,10 @@
 pub mod Callbacks
 pub mod Envelope
+pub mod EnvelopeAlike
 pub mod EnvelopeFault
 pub mod EnvelopeLaws
 pub mod EnvelopeLosses
+pub mod EnvelopeMade
 pub mod EnvelopeView
 pub mod Filter
 pub mod HeaderFields
@@ -10,3 +12,4 @@ pub mod ItemsLeft
 pub mod OneEnvelope
 pub mod Profile
 pub mod SentryProfile
+pub mod Accepted

@@ -1,26 +1,63 @@
--- Profiles of which bytes spell at most one envelope at a moment: no header or item draws an id.
-use Rattle.std.specs.Prelude.{◌≡◌, ℕ, List, [], ◌∷◌, ⊤}
+-- Bytes that spell at most one envelope at a moment: those in which no header and no item draws an id.
+use Rattle.std.specs.Prelude.{◌≡◌, ℕ, zero, suc, List, [], ◌∷◌, Some, ⊤}
+use Rattle.std.specs.List.{All}
 use Rattle.sentry_tables.specs.Cell.{Cell}
-use Rattle.sentry_tables.specs.Single.{IsSingle}
-use Rattle.sentry_envelope.specs.Profile.{Form, attachment_form, opaque_form, json_form, container_form, ItemType, Profile}
-use Rattle.sentry_envelope.specs.Envelope.{Envelope, Spells}
+use Rattle.sentry_tables.specs.Drawn.{NothingDrawnInText, NeverDraws}
+use Rattle.sentry_framing.specs.Framing.{Frame, IsLineAndBody, IsFramed}
+use Rattle.sentry_framing.specs.ItemHeader.{Header, read_header}
+use Rattle.sentry_envelope.specs.Profile.{Form, attachment_form, opaque_form, json_form, container_form, container_kind, ItemType, words, Profile}
+use Rattle.sentry_envelope.specs.Envelope.{Envelope, Spells, reads, envelope_text, IsEnvelopeStored, IsEnvelopePlain, IsEnvelopeReadable, IsEnvelopeSized}
 
--- a payload of this form shows at most one content
-abbrev pub FormIsSingle : Form → Type 0
-FormIsSingle attachment_form = ⊤
-FormIsSingle opaque_form = ⊤
-FormIsSingle (json_form K) = IsSingle K
-FormIsSingle (container_form content_type K) = IsSingle K
+-- ---- what is drawn
 
-abbrev pub TypesAreSingle : List ItemType → Type 0
-TypesAreSingle [] = ⊤
-TypesAreSingle (t ∷ ts) = FormIsSingle t.form × TypesAreSingle ts
+-- reading the payload by this form draws nothing
+abbrev pub PayloadDrawsNothing : Form → List ℕ → Type 0
+PayloadDrawsNothing attachment_form payload = ⊤
+PayloadDrawsNothing opaque_form payload = ⊤
+PayloadDrawsNothing (json_form K) payload = NothingDrawnInText K payload
+PayloadDrawsNothing (container_form content_type K) payload = NothingDrawnInText (container_kind K) payload
 
--- the header's kind and that of each payload draw nothing
-pub record IsSingleProfile (P : Profile) : Type 0 where
-  pub header : IsSingle P.header
-  pub types : TypesAreSingle P.types
+-- the same by the type at this place
+abbrev pub PayloadDrawsNothingAt : List ItemType → ℕ → List ℕ → Type 0
+PayloadDrawsNothingAt [] n payload = ⊤
+PayloadDrawsNothingAt (t ∷ ts) zero payload = PayloadDrawsNothing t.form payload
+PayloadDrawsNothingAt (t ∷ ts) (suc n) payload = PayloadDrawsNothingAt ts n payload
 
--- At each moment bytes spell at most one envelope.
+-- the same by the type that the frame's header names
+abbrev pub FrameDrawsNothing : Profile → Frame → Type 0
+FrameDrawsNothing P frame = (h : Header) → read_header (words P.types) frame.header ≡ Some h → PayloadDrawsNothingAt P.types h.kind frame.payload
+
+-- Nothing is drawn in the bytes: not in their header line, and where they are framed, in no frame.
+pub record NothingDrawnIn (P : Profile) (bytes : List ℕ) : Type 0 where
+  pub header : (line body : List ℕ) → IsLineAndBody bytes line body → NothingDrawnInText P.header line
+  pub items : (line body : List ℕ) (frames : List Frame) → IsLineAndBody bytes line body → IsFramed (reads P) body frames → All (FrameDrawsNothing P) frames
+
+-- ---- profiles that never draw
+
+abbrev pub FormNeverDraws : Form → Type 0
+FormNeverDraws attachment_form = ⊤
+FormNeverDraws opaque_form = ⊤
+FormNeverDraws (json_form K) = NeverDraws K
+FormNeverDraws (container_form content_type K) = NeverDraws K
+
+abbrev pub TypesNeverDraw : List ItemType → Type 0
+TypesNeverDraw [] = ⊤
+TypesNeverDraw (t ∷ ts) = FormNeverDraws t.form × TypesNeverDraw ts
+
+pub record ProfileNeverDraws (P : Profile) : Type 0 where
+  pub header : NeverDraws P.header
+  pub types : TypesNeverDraw P.types
+
+-- ---- the law
+
+-- At each moment bytes in which nothing is drawn spell at most one envelope.
 abbrev pub HasOneEnvelope : Profile → Type 0
-HasOneEnvelope P = (bytes : List ℕ) (now : Cell) (e f : Envelope) → Spells P bytes now e → Spells P bytes now f → e ≡ f
+HasOneEnvelope P = (bytes : List ℕ) (now : Cell) (e f : Envelope) → NothingDrawnIn P bytes → Spells P bytes now e → Spells P bytes now f → e ≡ f
+
+-- At each moment any bytes spell at most one envelope.
+abbrev pub AlwaysHasOneEnvelope : Profile → Type 0
+AlwaysHasOneEnvelope P = (bytes : List ℕ) (now : Cell) (e f : Envelope) → Spells P bytes now e → Spells P bytes now f → e ≡ f
+
+-- Nothing is drawn in the text of an envelope that is read back.
+abbrev pub TextsDrawNothing : Profile → Type 0
+TextsDrawNothing P = (e : Envelope) → IsEnvelopeStored P e → IsEnvelopePlain P e → IsEnvelopeReadable P e → IsEnvelopeSized P e → NothingDrawnIn P (envelope_text P e)

@@ -1,7 +1,4 @@
 //! Envelopes.
-ghost use Rattle.std.specs.Prelude.{◌≡◌, map, IfOk};
-ghost use Rattle.sentry_envelope.specs.EnvelopeView.{item_view};
-
 use crate::error::EnvelopeWriteError;
 use crate::file::read_file;
 use crate::headers::{EnvelopeHeaders, read_header_line};
@@ -9,6 +6,7 @@ use crate::items::{EnvelopeItemIter, IntoItems};
 use crate::plain::items_are_plain;
 use crate::read::read_items;
 use crate::write::write_envelope;
+use json::Scratch;
 use rand_core::Rng;
 use sentry_framing::{EnvelopeError, Frames};
 use sentry_items::EnvelopeItem;
@@ -53,7 +51,7 @@ impl Envelope {
     ghost use Rattle.std.specs.Prelude.{false, ◌≡◌, ◌≢◌, ◌↔◌, ◌⊎◌, List, ℕ, ◌+◌, ◌-◌, ◌^◌, ◌<◌, Some, IfOk, IfErr, IsOkAnd, OnErr, OnOk, IsSome, IsSomeAnd, IfSome, IsTrue, option_map};
     ghost use Rattle.std.specs.Io.KnownBytes.{Appends, Keeps};
     ghost use Rattle.sentry_items.specs.Counted.{writer_inside, writer_failures, AppendsFront};
-    ghost use Rattle.sentry_envelope.specs.Envelope.{Envelope as Model, IsEnvelopePlain, IsEnvelopeStored, Spells, envelope_text, envelope_norm};
+    ghost use Rattle.sentry_envelope.specs.Envelope.{Envelope as Model, IsEnvelopePlain, IsEnvelopeSized, IsEnvelopeStored, Spells, envelope_text, envelope_norm};
     ghost use Rattle.sentry_envelope.specs.EnvelopeFault.{Fault};
     ghost use Rattle.sentry_moments.specs.Moments.{moment_cell};
     ghost use Rattle.sentry_envelope.specs.EnvelopeView.{held, header_of, event_id_of, structured, raw_bytes, IsSame, item_view, items_of, with_item, empty, no_fields, refused_item, text_of, HasReadyHeader, IsUnwritable};
@@ -118,6 +116,7 @@ impl Envelope {
     /// - `UnexpectedEof`, `InvalidItemHeader` and `MissingNewline`: a frame's framing, as `Frames::next_frame` says.
     /// - `InvalidItemPayload`: a payload isn't read as its item's type.
     /// - `OutOfMemory`: memory was refused.
+    #[inline(never)]
     pub fn from_slice<R: Rng>(
         alloc: Global,
         bytes: &[u8],
@@ -130,8 +129,9 @@ impl Envelope {
         ensures fault { IfErr result (λ x. x ≢ EnvelopeError.OutOfMemory → Fault profile bytes.now x) }
     {
         let mut frames = Frames::new(bytes);
-        let headers = read_header_line(alloc, frames.header_line())?;
-        let items = read_items(alloc, &mut frames, now)?;
+        let mut scratch = Scratch::new(alloc);
+        let headers = read_header_line(alloc, frames.header_line(), &mut scratch)?;
+        let items = read_items(alloc, &mut frames, now, &mut scratch)?;
         Ok(Envelope {
             headers,
             contents: Contents::Items(items),
@@ -300,6 +300,7 @@ impl Envelope {
     fn text(&self, alloc: Global) -> Result<Vec<u8>, EnvelopeWriteError>
         ensures ok { IfOk result (λ text. text.items ≡ text_of self.now) }
         ensures stored { OnOk result (IfSome (structured self.now) (IsEnvelopeStored profile)) }
+        ensures sized { OnOk result (IfSome (structured self.now) (IsEnvelopeSized profile)) }
         ensures not_plain { (result ≡ Err EnvelopeWriteError.NotPlain) ↔ IsUnwritable self.now }
         ensures nothing_sent { IfErr result (λ e. e ≢ EnvelopeWriteError.Io) }
     {
@@ -327,6 +328,7 @@ impl Envelope {
     ) -> Result<(), EnvelopeWriteError>
         ensures whole { OnOk result (Appends (W.contents writer.old) (W.contents writer.new) (text_of self.now)) }
         ensures stored { OnOk result (IfSome (structured self.now) (IsEnvelopeStored profile)) }
+        ensures sized { OnOk result (IfSome (structured self.now) (IsEnvelopeSized profile)) }
         ensures not_plain { (result ≡ Err EnvelopeWriteError.NotPlain) ↔ IsUnwritable self.now }
         ensures nothing { IfErr result (λ e. e ≢ EnvelopeWriteError.Io → Keeps (W.contents writer.old) (W.contents writer.new)) }
         ensures front { result ≡ Err EnvelopeWriteError.Io → AppendsFront (W.contents writer.old) (W.contents writer.new) (text_of self.now) }
@@ -354,6 +356,7 @@ impl Envelope {
         requires { writer_failures writer.old < 2 ^ 64 - 1 }
         ensures whole { OnOk result (Appends (W.contents (writer_inside writer.old)) (W.contents (writer_inside writer.new)) (text_of self.now)) }
         ensures stored { OnOk result (IfSome (structured self.now) (IsEnvelopeStored profile)) }
+        ensures sized { OnOk result (IfSome (structured self.now) (IsEnvelopeSized profile)) }
         ensures not_plain { (result ≡ Err EnvelopeWriteError.NotPlain) ↔ IsUnwritable self.now }
         ensures nothing { IfErr result (λ e. e ≢ EnvelopeWriteError.Io → Keeps (W.contents (writer_inside writer.old)) (W.contents (writer_inside writer.new))) }
         ensures front { result ≡ Err EnvelopeWriteError.Io → AppendsFront (W.contents (writer_inside writer.old)) (W.contents (writer_inside writer.new)) (text_of self.now) }
@@ -366,40 +369,4 @@ impl Envelope {
             Err(_) => Err(EnvelopeWriteError::Io),
         }
     }
-
-    /// The same envelope. It fails where memory is refused.
-    pub fn clone(&self) -> Result<Envelope, AllocError>
-        ensures { IfOk result (λ e. IsSame e self.now) }
-    {
-        Ok(Envelope {
-            headers: self.headers.clone()?,
-            contents: self.contents.clone()?,
-        })
-    }
-}
-
-impl Contents {
-    ghost use Rattle.std.specs.Prelude.{◌≡◌, IfOk};
-    ghost use Rattle.sentry_envelope.specs.EnvelopeView.{held_in};
-
-    /// The same contents.
-    fn clone(&self) -> Result<Contents, AllocError>
-        ensures { IfOk result (λ contents. held_in contents ≡ held_in self.now) }
-    {
-        match self {
-            Contents::Items(items) => Ok(Contents::Items(clone_items(items)?)),
-            Contents::Raw(bytes) => Ok(Contents::Raw(bytes.clone()?)),
-        }
-    }
-}
-
-/// The same items.
-fn clone_items(items: &Vec<EnvelopeItem>) -> Result<Vec<EnvelopeItem>, AllocError>
-    ensures { IfOk result (λ copies. map item_view copies.items ≡ map item_view items.now.items) }
-{
-    let mut copies = Vec::with_capacity(*items.allocator(), items.len())?;
-    for item in items {
-        copies.push(item.clone()?)?;
-    }
-    Ok(copies)
 }

@@ -221,7 +221,7 @@ fn header_left(headers: EnvelopeHeaders, keep: bool, event_id: Option<Uuid>) -> 
 }
 
 /// The id of the first event or transaction.
-fn first_id(items: &[EnvelopeItem]) -> Option<Uuid>
+pub(crate) fn first_id(items: &[EnvelopeItem]) -> Option<Uuid>
     ensures { result ≡ first_id_of items.now }
 {
     for item in items {

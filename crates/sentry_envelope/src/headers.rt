@@ -2,21 +2,17 @@
 
 ghost use Rattle.std.specs.Prelude.{◌≡◌, ◌⊎◌, IfOk, IfErr};
 ghost use Rattle.sentry_members.specs.Reading.{TextShown, TextRefused};
-ghost use Rattle.sentry_envelope.specs.HeaderFields.{header_kind, headers_cell};
+ghost use Rattle.sentry_envelope.specs.HeaderFields.{header_fields, header_in_order, header_kind, headers_cell};
 
-use json::Writer;
+use json::Scratch;
 use sentry_framing::EnvelopeError;
 use sentry_identifiers::Hyphenated;
 use sentry_keys::Dsn;
-use sentry_members::codec::is_plain_option_as;
-use sentry_members::member::{copy_option, is_plain_option};
-use sentry_members::{FromTree, Member, TreeError, read_line};
+use sentry_members::{Formed, Member, TreeError, read_line_with};
 use sentry_moments::{Moment, Rfc3339};
 use sentry_parts::ClientSdkInfo;
-use sentry_rows::rows::{object, optional, optional_as, optional_strict_as};
-use sentry_rows::table::{table_tree, write_table};
-use sentry_rows::{Sink, Table};
-use serde_json::Value;
+use sentry_rows::{AsTable, Copier, CopyTable, Giver, ReadTable, Reader, Sink, Table};
+use sentry_trees::Node;
 use std::alloc::{AllocError, Global};
 use uuid::Uuid;
 
@@ -31,10 +27,12 @@ pub struct EnvelopeHeaders {
     sent_at: Option<Moment>,
 }
 
+#[tactic(auto, unfolding(crate::specs::HeaderFields::header_fields))]
 impl EnvelopeHeaders {
     ghost use Rattle.std.specs.Prelude.{◌≡◌, Some, IfOk, option_map};
     ghost use Rattle.sentry_envelope.specs.EnvelopeView.{no_fields};
-    ghost use Rattle.sentry_envelope.specs.HeaderFields.{headers_cell, put_dsn, put_id, put_sdk, put_sent_at};
+    ghost use Rattle.sentry_tables.specs.Norm.{norm};
+    ghost use Rattle.sentry_envelope.specs.HeaderFields.{fill_id, given_id, headers_cell, put_dsn, put_id, put_sdk, put_sent_at};
 
     /// A header without fields.
     pub fn new() -> EnvelopeHeaders
@@ -99,6 +97,17 @@ impl EnvelopeHeaders {
         EnvelopeHeaders { event_id, ..self }
     }
 
+    /// The same header with this event id where it has none.
+    #[tactic(auto, using(crate::proofs::EnvelopeMade::filled_stays, crate::proofs::EnvelopeMade::filled_takes))]
+    pub(crate) fn filled(self, id: Option<Uuid>) -> EnvelopeHeaders
+        ensures { headers_cell result ≡ fill_id (given_id id) (headers_cell self) }
+    {
+        match self.event_id {
+            Some(_) => self,
+            None => self.with_id(id),
+        }
+    }
+
     /// The event id.
     pub(crate) fn event_id(&self) -> Option<&Uuid>
         ensures { option_map (λ id. id.now) result ≡ self.now.event_id }
@@ -112,80 +121,68 @@ impl EnvelopeHeaders {
     {
         self.copy()
     }
+
+    /// The header's normal form, which has the normal form of each field. It fails where memory is refused.
+    pub fn normalized(&self) -> Result<EnvelopeHeaders, AllocError>
+        ensures { IfOk result (λ headers. headers_cell headers ≡ norm header_kind (headers_cell self.now)) }
+    {
+        self.normal()
+    }
 }
 
-impl Table for EnvelopeHeaders {
-    ghost use Rattle.sentry_envelope.specs.HeaderFields.{header_fields, header_in_order};
+impl Formed for EnvelopeHeaders {
+    type Form = AsTable;
+}
 
+#[tactic(auto, unfolding(crate::specs::HeaderFields::header_fields))]
+impl Table for EnvelopeHeaders {
     ghost lines = { header_fields };
 
-    fn rows<S: Sink>(&self, sink: &mut S) -> Result<(), AllocError> {
-        sink.optional("dsn", &self.dsn)?;
-        sink.optional_as::<Hyphenated, Uuid>("event_id", &self.event_id)?;
-        sink.optional("sdk", &self.sdk)?;
-        sink.optional_strict_as::<Rfc3339, Moment>("sent_at", &self.sent_at)?;
-        Ok(())
+    fn rows<S: Sink>(&self, to: &mut Giver<'_, S>) {
+        to.optional("dsn", &self.dsn);
+        to.optional_as::<Hyphenated, Uuid>("event_id", &self.event_id);
+        to.optional("sdk", &self.sdk);
+        to.optional_strict_as::<Rfc3339, Moment>("sent_at", &self.sent_at);
     }
 
     ghost ordered = { header_in_order };
 }
 
-impl Member for EnvelopeHeaders {
-    ghost use Rattle.sentry_envelope.specs.HeaderFields.{header_kind, headers_cell};
-
-    ghost kind = { header_kind };
-
-    ghost cell_of = { headers_cell };
-
-    #[tactic(auto, unfolding(crate::specs::HeaderFields::header_kind))]
-    fn to_tree(&self, alloc: Global) -> Result<Value, AllocError> {
-        table_tree(self, alloc)
-    }
-
-    #[tactic(auto, unfolding(crate::specs::HeaderFields::header_kind))]
-    fn write(&self, out: &mut Writer) -> Result<(), AllocError> {
-        write_table(self, out)
-    }
-
-    fn copy(&self) -> Result<EnvelopeHeaders, AllocError> {
-        Ok(EnvelopeHeaders {
-            dsn: copy_option(&self.dsn)?,
-            event_id: self.event_id,
-            sdk: copy_option(&self.sdk)?,
-            sent_at: self.sent_at,
-        })
-    }
-
-    #[tactic(auto, unfolding(crate::specs::HeaderFields::header_kind))]
-    fn is_plain(&self) -> bool {
-        let mut plain = is_plain_option(&self.dsn);
-        plain &= is_plain_option_as::<Hyphenated, Uuid>(&self.event_id);
-        plain &= is_plain_option(&self.sdk);
-        plain &= is_plain_option_as::<Rfc3339, Moment>(&self.sent_at);
-        plain
+#[tactic(auto, unfolding(crate::specs::HeaderFields::header_fields))]
+impl ReadTable for EnvelopeHeaders {
+    fn read<N: Node>(from: &mut Reader<'_, N>) -> EnvelopeHeaders {
+        EnvelopeHeaders {
+            dsn: from.optional("dsn"),
+            event_id: from.optional_as::<Hyphenated, Uuid>("event_id"),
+            sdk: from.optional("sdk"),
+            sent_at: from.optional_strict_as::<Rfc3339, Moment>("sent_at"),
+        }
     }
 }
 
-impl FromTree for EnvelopeHeaders {
-    #[tactic(auto, using(sentry_rows::proofs::Answering::table_fails, sentry_rows::proofs::Answering::not_object), unfolding(crate::specs::HeaderFields::header_kind))]
-    fn from_tree(alloc: Global, tree: &Value) -> Result<EnvelopeHeaders, TreeError> {
-        object(tree)?;
+#[tactic(auto, unfolding(crate::specs::HeaderFields::header_fields))]
+impl CopyTable for EnvelopeHeaders {
+    fn copied(&self, copies: &mut Copier) -> Result<EnvelopeHeaders, AllocError> {
         Ok(EnvelopeHeaders {
-            dsn: optional(alloc, tree, "dsn")?,
-            event_id: optional_as::<Hyphenated, Uuid>(alloc, tree, "event_id")?,
-            sdk: optional(alloc, tree, "sdk")?,
-            sent_at: optional_strict_as::<Rfc3339, Moment>(alloc, tree, "sent_at")?,
+            dsn: copies.optional(&self.dsn),
+            event_id: copies.optional_as::<Hyphenated, Uuid>(&self.event_id),
+            sdk: copies.optional(&self.sdk),
+            sent_at: copies.optional_strict_as::<Rfc3339, Moment>(&self.sent_at),
         })
     }
 }
 
 /// The header that a line shows.
-pub(crate) fn read_header_line(alloc: Global, line: &[u8]) -> Result<EnvelopeHeaders, EnvelopeError>
+pub(crate) fn read_header_line(
+    alloc: Global,
+    line: &[u8],
+    scratch: &mut Scratch,
+) -> Result<EnvelopeHeaders, EnvelopeError>
     ensures ok { IfOk result (λ headers. TextShown header_kind line.now (headers_cell headers)) }
     ensures err { IfErr result (λ e. (e ≡ EnvelopeError.OutOfMemory)
         ⊎ ((e ≡ EnvelopeError.InvalidHeader) × TextRefused header_kind line.now)) }
 {
-    match read_line::<EnvelopeHeaders>(alloc, line) {
+    match read_line_with::<EnvelopeHeaders>(alloc, line, scratch) {
         Ok(headers) => Ok(headers),
         Err(TreeError::Misfit) => Err(EnvelopeError::InvalidHeader),
         Err(TreeError::Memory) => Err(EnvelopeError::OutOfMemory),

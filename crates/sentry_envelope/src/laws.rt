@@ -2,10 +2,11 @@
 ghost use Rattle.std.specs.Prelude.{◌≡◌, ◌↔◌, true};
 ghost use Rattle.sentry_envelope.specs.declared.envelope.Envelope.{Envelope as Envelopes};
 ghost use Rattle.sentry_envelope.specs.declared.headers.EnvelopeHeaders.{EnvelopeHeaders as Headers};
-ghost use Rattle.sentry_envelope.specs.EnvelopeView.{IsSame};
+ghost use Rattle.sentry_envelope.specs.EnvelopeAlike.{HasNoTree, AreEnvelopesAlike};
 ghost use Rattle.sentry_envelope.specs.HeaderFields.{headers_cell};
-ghost use Rattle.sentry_envelope.specs.EnvelopeLaws.{HasOneAnswer, EnvelopesReadBack, EnvelopesAreStable, EnvelopesHaveOneForm, EnvelopesAreRewritten, RewritingTwiceIsOnce};
-ghost use Rattle.sentry_envelope.specs.OneEnvelope.{HasOneEnvelope};
+ghost use Rattle.sentry_envelope.specs.EnvelopeLaws.{HasOneAnswer, EnvelopesReadBack, EnvelopesAreStable, EnvelopesHaveOneForm, EnvelopesAreRewritten, RewritingTwiceIsOnce, ShortTextsAreSized, NormalFormsAreSized, SpelledHaveOneForm};
+ghost use Rattle.sentry_envelope.specs.OneEnvelope.{HasOneEnvelope, AlwaysHasOneEnvelope, TextsDrawNothing};
+ghost use Rattle.sentry_envelope.specs.Accepted.{AcceptedIsReadable};
 ghost use Rattle.sentry_envelope.specs.SentryProfile.{profile};
 
 use crate::envelope::Envelope;
@@ -23,9 +24,12 @@ pub fn one_answer()
     ensures { HasOneAnswer profile }
 {}
 
-/// At each moment bytes spell at most one envelope: no item or header that is carried now draws an id.
+/// At each moment bytes in which nothing is drawn spell at most one envelope, and nothing is drawn in the text of an
+/// envelope that is read back. No item or header that is carried now draws an id: so any bytes spell at most one.
 pub fn one_envelope()
-    ensures { HasOneEnvelope profile }
+    ensures undrawn { HasOneEnvelope profile }
+    ensures written { TextsDrawNothing profile }
+    ensures always { AlwaysHasOneEnvelope profile }
 {}
 
 /// At each moment the text of a stored, plain, readable and sized envelope spells its normal form, and nothing else.
@@ -45,9 +49,20 @@ pub fn one_form()
     ensures { EnvelopesHaveOneForm profile }
 {}
 
+/// Two envelopes that bytes spell, readable and sized, share the normal form exactly where they are written alike.
+pub fn spelled_one_form()
+    ensures { SpelledHaveOneForm profile }
+{}
+
 /// What bytes spell is stored and plain, and is written as its normal form is.
 pub fn rewritten()
     ensures { EnvelopesAreRewritten profile }
+{}
+
+/// What bytes spell is readable, where no JSON line of its text nests more than 127 deep: so what is accepted is read
+/// back, but for depth.
+pub fn accepted_is_readable()
+    ensures { AcceptedIsReadable profile }
 {}
 
 /// Where what bytes spell is readable and sized, reading what is rewritten, and writing again, gives the same bytes.
@@ -55,9 +70,16 @@ pub fn twice()
     ensures { RewritingTwiceIsOnce profile }
 {}
 
-/// Two headers are equal exactly where their fields are the same, and two envelopes where their headers and what
-/// they hold are the same.
+/// An envelope whose text has fewer than 2^64 bytes, as any in memory has, is sized; and where what bytes spell is sized,
+/// its normal form is.
+pub fn sized()
+    ensures short { ShortTextsAreSized profile }
+    ensures normal { NormalFormsAreSized profile }
+{}
+
+/// Two headers are equal exactly where their fields are the same. Two envelopes without trees are equal exactly where
+/// their headers are the same, and their items alike one by one, or their bytes the same.
 pub fn equal_envelopes()
     ensures headers { (a b : Headers) → ⟦<EnvelopeHeaders as PartialEq>⟧.eq a b ≡ true ↔ (headers_cell a ≡ headers_cell b) }
-    ensures envelopes { (a b : Envelopes) → ⟦<Envelope as PartialEq>⟧.eq a b ≡ true ↔ IsSame a b }
+    ensures envelopes { (a b : Envelopes) → HasNoTree a → HasNoTree b → ⟦<Envelope as PartialEq>⟧.eq a b ≡ true ↔ AreEnvelopesAlike a b }
 {}

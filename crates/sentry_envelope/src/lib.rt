@@ -13,6 +13,7 @@ pub mod laws;
 mod losses;
 mod plain;
 mod read;
+mod remade;
 mod write;
 
 pub use envelope::{AddRefused, Envelope};

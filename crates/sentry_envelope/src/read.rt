@@ -12,6 +12,7 @@ ghost use Rattle.sentry_moments.specs.Moments.{moment_cell};
 ghost use Rattle.sentry_envelope.specs.SentryProfile.{profile};
 ghost use Rattle.sentry_framing.specs.View.{frame_of};
 
+use json::Scratch;
 use sentry_framing::{EnvelopeError, Frames, ItemFrame, ItemHeader, ItemKind};
 use sentry_items::{Attachment, AttachmentType, EnvelopeItem, ReplayRecording};
 use sentry_text::Moment;
@@ -22,12 +23,13 @@ pub(crate) fn read_items(
     alloc: Global,
     frames: &mut Frames<'_>,
     now: Moment,
+    scratch: &mut Scratch,
 ) -> Result<Vec<EnvelopeItem>, EnvelopeError>
     ensures ok { IfOk result (λ items. ItemsStand profile (moment_cell now) frames.old.rest (map item_view items.items) []) }
     ensures err { IfErr result (λ e. e ≢ EnvelopeError.OutOfMemory → BodyIsAtFault profile frames.old.rest e) }
 {
     let mut items = Vec::new(alloc);
-    while let Some(answer) = frames.next_item(alloc) {
+    while let Some(answer) = frames.next_item_with(alloc, scratch) {
         let (frame, header) = answer?;
         items.push(read_item(alloc, &frame, header, now)?)?;
     }

@@ -1,9 +1,9 @@
 //! The text of a structured envelope.
 
-ghost use Rattle.std.specs.Prelude.{◌≡◌, ◌∷◌, ◌++◌, [], IfOk, OnOk, map};
+ghost use Rattle.std.specs.Prelude.{◌≡◌, ◌++◌, [], IfOk, OnOk, map};
 ghost use Rattle.serde_json.specs.Written.{compact_text};
-ghost use Rattle.sentry_json.specs.Line.{newline};
 ghost use Rattle.sentry_tables.specs.Written.{tree};
+ghost use Rattle.sentry_framing.specs.Framing.{with_line};
 ghost use Rattle.sentry_envelope.specs.Envelope.{envelope_text, frame_text, frame_of_item};
 ghost use Rattle.sentry_envelope.specs.EnvelopeView.{item_view, IsReady};
 ghost use Rattle.sentry_envelope.specs.HeaderFields.{header_kind, headers_cell};
@@ -27,8 +27,9 @@ pub(crate) fn write_envelope(
     let mut out = Vec::new(alloc);
     write_headers(headers, &mut out)?;
     out.push(b'\n')?;
+    let mut line = Vec::new(alloc);
     for item in items {
-        write_item(alloc, item, &mut out)?;
+        write_item(alloc, item, &mut line, &mut out)?;
     }
     Ok(out)
 }
@@ -42,26 +43,35 @@ fn write_headers(headers: &EnvelopeHeaders, out: &mut Vec<u8>) -> Result<(), All
 }
 
 /// Appends an item's header and payload, each ended by a line feed. A raw item isn't written.
-fn write_item(alloc: Global, item: &EnvelopeItem, out: &mut Vec<u8>) -> Result<(), AllocError>
+///
+/// The header is built in `line`: a writer of JSON clears memory ahead of what it writes, and more of it after a long text.
+fn write_item(
+    alloc: Global,
+    item: &EnvelopeItem,
+    line: &mut Vec<u8>,
+    out: &mut Vec<u8>,
+) -> Result<(), AllocError>
     ensures { OnOk result (out.new.items ≡ out.old.items ++ frame_text (frame_of_item profile (item_view item.now)) []) }
 {
+    line.clear();
     match item {
         EnvelopeItem::Attachment(attachment) => {
-            attachment.write_header(alloc, "attachment", out)?;
-            write_payload(&attachment.buffer, out)
+            attachment.write_header(alloc, "attachment", line)?;
+            write_frame(line, &attachment.buffer, out)
         }
         EnvelopeItem::ReplayRecording(recording) => {
-            write_short_header(alloc, "replay_recording", &recording.buffer, out)?;
-            write_payload(&recording.buffer, out)
+            write_short_header(alloc, "replay_recording", &recording.buffer, line)?;
+            write_frame(line, &recording.buffer, out)
         }
         EnvelopeItem::Raw => Ok(()),
     }
 }
 
-/// Appends a line feed, a payload and a line feed.
-fn write_payload(payload: &[u8], out: &mut Vec<u8>) -> Result<(), AllocError>
-    ensures { OnOk result (out.new.items ≡ out.old.items ++ newline ∷ (payload.now ++ newline ∷ [])) }
+/// Appends a header and a payload, each ended by a line feed.
+fn write_frame(header: &[u8], payload: &[u8], out: &mut Vec<u8>) -> Result<(), AllocError>
+    ensures { OnOk result (out.new.items ≡ out.old.items ++ with_line header.now (with_line payload.now [])) }
 {
+    out.extend_from_slice(header)?;
     out.push(b'\n')?;
     out.extend_from_slice(payload)?;
     out.push(b'\n')?;

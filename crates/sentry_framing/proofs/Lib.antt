@@ -10,3 +10,4 @@ pub mod Verdicts
 pub mod Faults
 pub mod StatedLengths
 pub mod Written
+pub mod HeaderLines

@@ -1,7 +1,11 @@
 -- What the scan of a piece computes: what is left after the brace that closes it.
 use Rattle.std.proofs.Common.{◌≡◌, ◌≢◌, ℕ, ◌+◌, ◌-◌, ◌==◌, if◌then◌else◌, eqb, false, List, [], ◌∷◌, Option, Some, None, refl, ne_eqb, arith}
-use Rattle.sentry_framing.specs.declared.piece.Place.{Place}
-use Rattle.sentry_framing.specs.declared.piece.Place.TheVariants.{Plain, InString, AfterBackslash}
+
+-- what a byte is read as, inside a piece
+pub data Place : Type 0 where
+  Plain : Place
+  InString : Place
+  AfterBackslash : Place
 
 unfoldable pub rest_after : List ℕ → Place → ℕ → Option (List ℕ)
 rest_after [] place depth = None

@@ -7,9 +7,8 @@ use Rattle.sentry_json.specs.Balanced.{IsBalanced, braces}
 use Rattle.sentry_framing.specs.Framing.{is_space, IsBlank, Opens, Reading, Frame, IsFirstFrame, IsShort, IsUnendedHeader, IsUnendedPayload, IsWithoutHeader, IsFault}
 use Rattle.sentry_framing.specs.declared.error.EnvelopeError.{EnvelopeError}
 use Rattle.sentry_framing.specs.declared.error.EnvelopeError.TheVariants.{UnexpectedEof, MissingHeader, MissingItemHeader, MissingNewline, InvalidHeader, InvalidItemHeader, InvalidItemPayload, OutOfMemory}
-use Rattle.sentry_framing.specs.declared.piece.Place.TheVariants.{Plain}
 use Rattle.sentry_framing.proofs.Conses.{same_head, same_tail}
-use Rattle.sentry_framing.proofs.Machine.{rest_after}
+use Rattle.sentry_framing.proofs.Machine.{Plain, rest_after}
 use Rattle.sentry_framing.proofs.Pieces.{found_inside, after_open}
 use Rattle.sentry_framing.proofs.Opening.{IsDark, Space, same_opening, not_blank, no_header, refused_header, opens}
 use Rattle.sentry_framing.proofs.Tails.{Tail, cut, short, unended, IsTail, tail_of, tail_is, some_tail}

@@ -1,16 +1,15 @@
 -- The scan of a piece against the grammar, in both directions.
-use Rattle.std.proofs.Common.{◌≡◌, ◌≢◌, inl, inr, ℕ, zero, suc, ◌+◌, List, [], ◌∷◌, ◌++◌, Some, refl, sym, ◌∙◌, ap, subst, append_assoc, append-nil, add-one}
+use Rattle.std.proofs.Common.{◌≡◌, ◌≢◌, inl, inr, ℕ, zero, suc, ◌+◌, ◌<◌, ◌≤◌, List, [], ◌∷◌, ◌++◌, length, get_or, take, drop, Some, arith, refl, sym, ◌∙◌, ap, subst, append_assoc, append-nil, add-one}
 use Rattle.std.proofs.lemmas.Bool.{cases_eq}
-use Rattle.std.proofs.lemmas.List.{append_cancel_right}
+use Rattle.std.proofs.lemmas.List.{append_cancel_right, drop_more, drop_all, take_more}
 use Rattle.std.proofs.lemmas.Option.{none-some, same_Some}
-use Rattle.sentry_framing.specs.declared.piece.Place.TheVariants.{Plain, InString, AfterBackslash}
 use Rattle.sentry_json.specs.Balanced.{IsStringEnd, closed, byte, pair, IsBalanced, braces, IsInside, nothing, plain, string, piece}
 use Rattle.sentry_framing.proofs.Conses.{same_tail}
-use Rattle.sentry_framing.proofs.Machine.{rest_after, plain_other, string_other, escaped, plain_quote, plain_open, plain_close, plain_last, nothing_left, string_quote, string_backslash}
+use Rattle.sentry_framing.proofs.Machine.{Plain, InString, AfterBackslash, rest_after, plain_other, string_other, escaped, plain_quote, plain_open, plain_close, plain_last, nothing_left, string_quote, string_backslash}
 
 -- ---- what the grammar has, the scan passes over
 
-string_passes : {t : List ℕ} → IsStringEnd t → (s : List ℕ) (d : ℕ) → rest_after (t ++ s) InString d ≡ rest_after s Plain d
+pub string_passes : {t : List ℕ} → IsStringEnd t → (s : List ℕ) (d : ℕ) → rest_after (t ++ s) InString d ≡ rest_after s Plain d
 string_passes closed s d = string_quote s d
 string_passes (byte {b} {s = t} q e h) s d = string_other b (t ++ s) d q e ∙ string_passes h s d
 string_passes (pair {b} {s = t} h) s d = string_backslash (b ∷ (t ++ s)) d ∙ escaped b (t ++ s) d ∙ string_passes h s d
@@ -39,11 +38,11 @@ mutual
 -- ---- what the scan finds, the grammar has
 
 -- what is left once that many braces, opened before, are closed
-abbrev Closes : ℕ → List ℕ → List ℕ → Type 0
+abbrev pub Closes : ℕ → List ℕ → List ℕ → Type 0
 Closes zero s rest = s ≡ rest
 Closes (suc d) s rest = (i : List ℕ) × (m : List ℕ) × IsInside i × (s ≡ i ++ 125 ∷ m) × Closes d m rest
 
-abbrev ClosesString : ℕ → List ℕ → List ℕ → Type 0
+abbrev pub ClosesString : ℕ → List ℕ → List ℕ → Type 0
 ClosesString d s rest = (t : List ℕ) × (m : List ℕ) × IsStringEnd t × (s ≡ t ++ m) × Closes (suc d) m rest
 
 -- a part of the inside before what closes
@@ -96,7 +95,7 @@ mutual
         ]
       ]
 
-  sound_string : (s : List ℕ) (d : ℕ) (rest : List ℕ) → rest_after s InString d ≡ Some rest → ClosesString d s rest
+  pub sound_string : (s : List ℕ) (d : ℕ) (rest : List ℕ) → rest_after s InString d ≡ Some rest → ClosesString d s rest
   sound_string [] d rest e = absurd (none-some rest (sym (nothing_left InString d) ∙ e))
   sound_string (b ∷ s) d rest e =
       elim (cases_eq b 34) [
@@ -142,3 +141,70 @@ same_piece p q x y hp hq e =
 
 pub not_longer : (p q rest : List ℕ) → IsBalanced p → IsBalanced q → p ++ rest ≡ q → rest ≡ []
 not_longer p q rest hp hq e = same_rest p q rest [] hp hq (e ∙ sym (append-nil q))
+
+-- ---- the end of a string, byte by byte
+
+-- a string that ends after these bytes ends after the first of them too
+past_byte : (next u rest : List ℕ) (b : ℕ) → b ≢ 34 → b ≢ 92 → IsStringEnd u → b ∷ next ≡ u ++ rest → (v : List ℕ) × IsStringEnd v × (next ≡ v ++ rest)
+past_byte next u rest b q n closed e = absurd (q cc)
+past_byte next u rest b q n (byte {s} x y h) e = (s, h, cc)
+past_byte next u rest b q n (pair h) e = absurd (n cc)
+
+not_same : ◌≡◌ {A = ℕ} 92 34 → ⊥
+not_same e = omega arith
+
+past_pair : (next u rest : List ℕ) (b : ℕ) → IsStringEnd u → 92 ∷ b ∷ next ≡ u ++ rest → (v : List ℕ) × IsStringEnd v × (next ≡ v ++ rest)
+past_pair next u rest b closed e = absurd (not_same cc)
+past_pair next u rest b (byte {s} x y h) e = absurd (y cc)
+past_pair next u rest b (pair {s} h) e = (s, h, cc)
+
+no_end : (u rest : List ℕ) → IsStringEnd u → [] ≡ u ++ rest → ⊥
+no_end u rest closed e = cc
+no_end u rest (byte x y h) e = cc
+no_end u rest (pair h) e = cc
+
+no_pair : (u rest : List ℕ) → IsStringEnd u → 92 ∷ [] ≡ u ++ rest → ⊥
+no_pair u rest closed e = not_same cc
+no_pair u rest (byte x y h) e = y cc
+no_pair u rest (pair h) e = cc
+
+-- the bytes from the place i on begin with the end of a string
+abbrev pub Ends : List ℕ → ℕ → List ℕ → Type 0
+Ends s i rest = (u : List ℕ) × IsStringEnd u × (drop i s ≡ u ++ rest)
+
+module _ (s : List ℕ) (i : ℕ) (within : i < length s) (rest : List ℕ) (ends : Ends s i rest) where
+  pub ends_byte : get_or s i 0 ≢ 34 → get_or s i 0 ≢ 92 → Ends s (i + 1) rest
+  ends_byte q n = past_byte (drop (i + 1) s) ends.0 rest (get_or s i 0) q n ends.1 (sym (drop_more s i 0 within) ∙ ends.2)
+
+  pub ends_pair : get_or s i 0 ≡ 92 → i + 1 < length s → Ends s (i + 2) rest
+  ends_pair is more =
+      let two : drop i s ≡ 92 ∷ get_or s (i + 1) 0 ∷ drop (i + 2) s = drop_more s i 0 within ∙ ap (λ b. b ∷ drop (i + 1) s) is ∙ ap (λ x. 92 ∷ x) (drop_more s (i + 1) 0 more ∙ ap (λ n. get_or s (i + 1) 0 ∷ drop n s) (omega arith)) in
+      past_pair (drop (i + 2) s) ends.0 rest (get_or s (i + 1) 0) ends.1 (sym two ∙ ends.2)
+
+  pub ends_cut : get_or s i 0 ≡ 92 → length s ≤ i + 1 → ⊥
+  ends_cut is last =
+      let one : drop i s ≡ 92 ∷ [] = drop_more s i 0 within ∙ ap (λ b. b ∷ drop (i + 1) s) is ∙ ap (λ x. 92 ∷ x) (drop_all (i + 1) s last) in
+      no_pair ends.0 rest ends.1 (sym one ∙ ends.2)
+
+pub ends_past : (s : List ℕ) (i : ℕ) (rest : List ℕ) → length s ≤ i → Ends s i rest → ⊥
+ends_past s i rest past ends = no_end ends.0 rest ends.1 (sym (drop_all i s past) ∙ ends.2)
+
+-- what stands before the place i, and the end of a string, are the end of a string
+abbrev pub Begun : List ℕ → ℕ → Type 0
+Begun s i = (t : List ℕ) → IsStringEnd t → IsStringEnd (take i s ++ t)
+
+module _ (s : List ℕ) (i : ℕ) (within : i < length s) (begun : Begun s i) where
+  one_more : (t : List ℕ) → take (i + 1) s ++ t ≡ take i s ++ get_or s i 0 ∷ t
+  one_more t = ap (λ x. x ++ t) (take_more s i 0 within) ∙ append_assoc (take i s) (get_or s i 0 ∷ []) t
+
+  pub begun_end : get_or s i 0 ≡ 34 → IsStringEnd (take (i + 1) s)
+  begun_end is = subst IsStringEnd (ap (λ b. take i s ++ b ∷ []) (sym is) ∙ sym (take_more s i 0 within)) (begun (34 ∷ []) closed)
+
+  pub begun_byte : get_or s i 0 ≢ 34 → get_or s i 0 ≢ 92 → Begun s (i + 1)
+  begun_byte q n t h = subst IsStringEnd (sym (one_more t)) (begun (get_or s i 0 ∷ t) (byte q n h))
+
+  pub begun_pair : get_or s i 0 ≡ 92 → i + 1 < length s → Begun s (i + 2)
+  begun_pair is more t h =
+      let two : take (i + 2) s ++ t ≡ take i s ++ get_or s i 0 ∷ get_or s (i + 1) 0 ∷ t =
+      ap (λ n. take n s ++ t) (omega arith) ∙ ap (λ x. x ++ t) (take_more s (i + 1) 0 more) ∙ append_assoc (take (i + 1) s) (get_or s (i + 1) 0 ∷ []) t ∙ one_more (get_or s (i + 1) 0 ∷ t) in
+      subst IsStringEnd (sym (two ∙ ap (λ b. take i s ++ b ∷ get_or s (i + 1) 0 ∷ t) is)) (begun (92 ∷ get_or s (i + 1) 0 ∷ t) (pair h))

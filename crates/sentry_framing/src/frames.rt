@@ -7,9 +7,10 @@ ghost use Rattle.sentry_framing.specs.HeaderView.{header_view};
 ghost use Rattle.sentry_framing.specs.View.{frame_of};
 
 use crate::error::EnvelopeError;
-use crate::header::{ItemHeader, read_item_header};
+use crate::header::{ItemHeader, read_item_header_with};
 use crate::lines::{end_line, skip_space, split_line};
 use crate::piece::piece_len;
+use json::Scratch;
 use std::alloc::Global;
 use std::marker::Model;
 
@@ -99,7 +100,9 @@ impl<'a> Frames<'a> {
 
     /// The first frame of what is left, with what its header says, or the first check of it that fails.
     ///
-    /// It answers as [`Frames::next_frame`] does, and leaves the same.
+    /// It answers as [`Frames::next_frame`] does, and leaves the same. A reader of many items makes one `Scratch`
+    /// and calls [`Frames::next_item_with`].
+    #[inline(never)]
     pub fn next_item(
         &mut self,
         alloc: Global,
@@ -117,10 +120,33 @@ impl<'a> Frames<'a> {
             → self.new.rest ≡ [])) }
         ensures memory { result ≡ Some (Err EnvelopeError.OutOfMemory) → self.new ≡ self.old }
     {
+        let mut scratch = Scratch::new(alloc);
+        self.next_item_with(alloc, &mut scratch)
+    }
+
+    /// The same, with the memory that reading a header needs handed in.
+    pub fn next_item_with(
+        &mut self,
+        alloc: Global,
+        scratch: &mut Scratch,
+    ) -> Option<Result<(ItemFrame<'a>, ItemHeader), EnvelopeError>>
+        ensures header_line { self.new.header_line ≡ self.old.header_line }
+        ensures none { IsNone result ↔ (self.old.rest ≡ []) }
+        ensures none_left { IsNone result → self.new.rest ≡ [] }
+        ensures frame { IfSome result (λ answer. IfOk answer (λ item.
+            IsFirstFrame (stated_length item_words) self.old.rest (frame_of item.0) self.new.rest)) }
+        ensures header { IfSome result (λ answer. IfOk answer (λ item.
+            read_header item_words item.0.header.now ≡ Some (header_view item.1))) }
+        ensures fault { IfSome result (λ answer. IfErr answer (λ e. e ≢ EnvelopeError.OutOfMemory
+            → IsFault (stated_length item_words) self.old.rest e)) }
+        ensures ended { IfSome result (λ answer. IfErr answer (λ e. e ≢ EnvelopeError.OutOfMemory
+            → self.new.rest ≡ [])) }
+        ensures memory { result ≡ Some (Err EnvelopeError.OutOfMemory) → self.new ≡ self.old }
+    {
         if self.rest.is_empty() {
             return None;
         }
-        match first_item(alloc, self.rest) {
+        match first_item(alloc, self.rest, scratch) {
             Ok((frame, header, rest)) => {
                 self.rest = rest;
                 Some(Ok((frame, header)))
@@ -167,6 +193,7 @@ fn split_header(body: &[u8]) -> Result<(&[u8], &[u8]), EnvelopeError>
 fn first_item<'a>(
     alloc: Global,
     body: &'a [u8],
+    scratch: &mut Scratch,
 ) -> Result<(ItemFrame<'a>, ItemHeader, &'a [u8]), EnvelopeError>
     ensures frame { IfOk result (λ x. IsFirstFrame (stated_length item_words) body.now (frame_of x.0) x.2.now) }
     ensures header { IfOk result (λ x. read_header item_words x.0.header.now ≡ Some (header_view x.1)) }
@@ -174,7 +201,7 @@ fn first_item<'a>(
         → IsFault (stated_length item_words) body.now e) }
 {
     let (header, after) = split_header(body)?;
-    let fields = read_item_header(alloc, header)?;
+    let fields = read_item_header_with(alloc, header, scratch)?;
     let left = end_line(after)?;
     let (payload, tail) = split_payload(fields.length, left)?;
     let rest = end_line(tail)?;

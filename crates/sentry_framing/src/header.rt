@@ -1,6 +1,5 @@
 // What an item header says.
 ghost use Rattle.std.specs.Prelude.{◌≡◌, ◌⊎◌, Some, None, IfOk, IfErr, option_map, string_bytes};
-ghost use Rattle.serde_json.specs.View.{view};
 ghost use Rattle.serde_json.specs.Find.{as_str};
 ghost use Rattle.sentry_framing.specs.ItemHeader.{header_of, read_header, optional, whole_number};
 ghost use Rattle.sentry_framing.specs.ItemWords.{item_words};
@@ -8,8 +7,9 @@ ghost use Rattle.sentry_framing.specs.HeaderView.{header_view};
 
 use crate::error::EnvelopeError;
 use crate::kind::ItemKind;
-use sentry_members::{TreeError, read_tree};
-use serde_json::Value;
+use json::Scratch;
+use sentry_members::{ReadsNode, TreeError, read_line_by};
+use sentry_trees::Node;
 use std::alloc::Global;
 
 /// The fields of an item header.
@@ -30,24 +30,26 @@ pub struct ItemHeader {
 }
 
 /// A number that may be absent or null.
-fn optional_number(value: Option<&Value>) -> Result<Option<u64>, TreeError>
-    ensures ok { IfOk result (λ number. optional whole_number (option_map (λ v. view v.now) value.entry) ≡ Some number) }
-    ensures misfit { result ≡ Err TreeError.Misfit → optional whole_number (option_map (λ v. view v.now) value.entry) ≡ None }
+fn optional_number<N: Node>(place: &Option<N>) -> Result<Option<u64>, TreeError>
+    ensures ok { IfOk result (λ number. optional whole_number (option_map N.data_of place.now) ≡ Some number) }
+    ensures misfit { result ≡ Err TreeError.Misfit → optional whole_number (option_map N.data_of place.now) ≡ None }
 {
-    match value {
-        None | Some(Value::Null) => Ok(None),
-        Some(value) => value.as_u64().map(Some).ok_or(TreeError::Misfit),
+    match place {
+        None => Ok(None),
+        Some(node) if node.is_null() => Ok(None),
+        Some(node) => node.as_u64().map(Some).ok_or(TreeError::Misfit),
     }
 }
 
 /// A text that may be absent or null.
-fn optional_text(alloc: Global, value: Option<&Value>) -> Result<Option<String>, TreeError>
-    ensures ok { IfOk result (λ text. optional as_str (option_map (λ v. view v.now) value.entry) ≡ Some (option_map string_bytes text)) }
-    ensures misfit { result ≡ Err TreeError.Misfit → optional as_str (option_map (λ v. view v.now) value.entry) ≡ None }
+fn optional_text<N: Node>(alloc: Global, place: &Option<N>) -> Result<Option<String>, TreeError>
+    ensures ok { IfOk result (λ text. optional as_str (option_map N.data_of place.now) ≡ Some (option_map string_bytes text)) }
+    ensures misfit { result ≡ Err TreeError.Misfit → optional as_str (option_map N.data_of place.now) ≡ None }
 {
-    match value {
-        None | Some(Value::Null) => Ok(None),
-        Some(value) => match value.as_str() {
+    match place {
+        None => Ok(None),
+        Some(node) if node.is_null() => Ok(None),
+        Some(node) => match node.as_str() {
             Some(text) => match String::from_str(alloc, text) {
                 Ok(text) => Ok(Some(text)),
                 Err(_) => Err(TreeError::Memory),
@@ -59,11 +61,11 @@ fn optional_text(alloc: Global, value: Option<&Value>) -> Result<Option<String>,
 
 /// The fields that a tree shows.
 #[tactic(auto, unfolding(crate::specs::ItemHeader::header_of))]
-fn item_header(alloc: Global, tree: &Value) -> Result<ItemHeader, TreeError>
-    ensures ok { IfOk result (λ fields. header_of item_words (view tree.now) ≡ Some (header_view fields)) }
-    ensures misfit { result ≡ Err TreeError.Misfit → header_of item_words (view tree.now) ≡ None }
+fn item_header<N: Node>(alloc: Global, node: &N) -> Result<ItemHeader, TreeError>
+    ensures ok { IfOk result (λ fields. header_of item_words (N.data_of node.now) ≡ Some (header_view fields)) }
+    ensures misfit { result ≡ Err TreeError.Misfit → header_of item_words (N.data_of node.now) ≡ None }
 {
-    let Some(word) = tree.get("type").and_then(Value::as_str) else {
+    let Some(word) = node.text_at("type") else {
         return Err(TreeError::Misfit);
     };
     let Some(kind) = ItemKind::from_word(word) else {
@@ -71,36 +73,60 @@ fn item_header(alloc: Global, tree: &Value) -> Result<ItemHeader, TreeError>
     };
     Ok(ItemHeader {
         kind,
-        length: optional_number(tree.get("length"))?,
-        content_type: optional_text(alloc, tree.get("content_type"))?,
-        filename: optional_text(alloc, tree.get("filename"))?,
-        attachment_type: optional_text(alloc, tree.get("attachment_type"))?,
+        length: optional_number(&node.get("length"))?,
+        content_type: optional_text(alloc, &node.get("content_type"))?,
+        filename: optional_text(alloc, &node.get("filename"))?,
+        attachment_type: optional_text(alloc, &node.get("attachment_type"))?,
     })
 }
 
-/// The fields of the header that stands in these bytes.
-#[tactic(auto, unfolding(crate::specs::ItemHeader::read_header))]
-fn header_fields(alloc: Global, header: &[u8]) -> Result<ItemHeader, TreeError>
-    ensures ok { IfOk result (λ fields. read_header item_words header.now ≡ Some (header_view fields)) }
-    ensures misfit { result ≡ Err TreeError.Misfit → read_header item_words header.now ≡ None }
-{
-    let tree = read_tree(alloc, header)?;
-    item_header(alloc, &tree)
+/// The reader of an item header's tree.
+#[derive(Drop)]
+struct Fields;
+
+impl ReadsNode<ItemHeader> for Fields {
+    ghost shown = { λ reader d fields. header_of item_words d ≡ Some (header_view fields) };
+
+    ghost refused = { λ reader d. header_of item_words d ≡ None };
+
+    fn read<N: Node>(self, alloc: Global, node: &N) -> Result<ItemHeader, TreeError> {
+        item_header(alloc, node)
+    }
 }
 
 /// The fields of the item header that stands in these bytes. Other keys are ignored.
+///
+/// A reader of many headers makes one `Scratch` and calls [`read_item_header_with`].
 ///
 /// # Errors
 ///
 /// - `InvalidItemHeader`: the bytes aren't one JSON object without floats, with a known `type`, and with `length`,
 ///   `content_type`, `filename` and `attachment_type` absent, null, or a whole number below 2^64 and texts.
 /// - `OutOfMemory`: memory was refused.
+#[inline(never)]
 pub fn read_item_header(alloc: Global, header: &[u8]) -> Result<ItemHeader, EnvelopeError>
     ensures ok { IfOk result (λ fields. read_header item_words header.now ≡ Some (header_view fields)) }
     ensures err { IfErr result (λ e. (e ≡ EnvelopeError.OutOfMemory)
         ⊎ ((e ≡ EnvelopeError.InvalidItemHeader) × (read_header item_words header.now ≡ None))) }
 {
-    match header_fields(alloc, header) {
+    let mut scratch = Scratch::new(alloc);
+    read_item_header_with(alloc, header, &mut scratch)
+}
+
+/// The fields of the item header that stands in these bytes, with the memory that reading needs handed in.
+///
+/// It answers as [`read_item_header`] does.
+#[tactic(auto, using(crate::proofs::HeaderLines::no_header))]
+pub fn read_item_header_with(
+    alloc: Global,
+    header: &[u8],
+    scratch: &mut Scratch,
+) -> Result<ItemHeader, EnvelopeError>
+    ensures ok { IfOk result (λ fields. read_header item_words header.now ≡ Some (header_view fields)) }
+    ensures err { IfErr result (λ e. (e ≡ EnvelopeError.OutOfMemory)
+        ⊎ ((e ≡ EnvelopeError.InvalidItemHeader) × (read_header item_words header.now ≡ None))) }
+{
+    match read_line_by(alloc, header, scratch, Fields) {
         Ok(fields) => Ok(fields),
         Err(TreeError::Misfit) => Err(EnvelopeError::InvalidItemHeader),
         Err(TreeError::Memory) => Err(EnvelopeError::OutOfMemory),

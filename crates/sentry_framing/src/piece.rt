@@ -1,14 +1,6 @@
 // The balanced piece at the front of some bytes.
 ghost use Rattle.std.specs.Prelude.{◌≡◌, ◌≤◌, ◌++◌, List, ℕ, IfSome, IfNone, length, take};
-ghost use Rattle.sentry_json.specs.Balanced.{IsBalanced};
-
-/// What a byte is read as, inside a piece.
-#[derive(Clone, Copy)]
-enum Place {
-    Plain,
-    InString,
-    AfterBackslash,
-}
+ghost use Rattle.sentry_json.specs.Balanced.{IsBalanced, IsStringEnd};
 
 /// The length of the balanced piece at the front. Any bytes may follow it.
 pub fn piece_len(bytes: &[u8]) -> Option<usize>
@@ -20,22 +12,41 @@ pub fn piece_len(bytes: &[u8]) -> Option<usize>
         return None;
     };
     let mut depth = 0usize;
-    let mut place = Place::Plain;
-    for (i, byte) in inside.iter().enumerate() {
-        match place {
-            Place::Plain => match byte {
-                b'"' => place = Place::InString,
-                b'{' => depth += 1,
-                b'}' if depth == 0 => return Some(i + 2),
-                b'}' => depth -= 1,
-                _ => {}
+    let mut i = 0usize;
+    while i < inside.len() {
+        match inside[i] {
+            b'"' => match string_len(&inside[i + 1..]) {
+                Some(len) => i += len + 1,
+                None => return None,
             },
-            Place::InString => match byte {
-                b'"' => place = Place::Plain,
-                b'\\' => place = Place::AfterBackslash,
-                _ => {}
-            },
-            Place::AfterBackslash => place = Place::InString,
+            b'{' => {
+                depth += 1;
+                i += 1;
+            }
+            b'}' if depth == 0 => return Some(i + 2),
+            b'}' => {
+                depth -= 1;
+                i += 1;
+            }
+            _ => i += 1,
+        }
+    }
+    None
+}
+
+/// The length of what is left of a string at the front, up to its second quote and with it.
+fn string_len(bytes: &[u8]) -> Option<usize>
+    ensures within { IfSome result (λ len. len ≤ length bytes.now) }
+    ensures found { IfSome result (λ len. IsStringEnd (take len bytes.now)) }
+    ensures none { IfNone result ((end rest : List ℕ) → IsStringEnd end → bytes.now ≡ end ++ rest → ⊥) }
+{
+    let mut i = 0usize;
+    while i < bytes.len() {
+        match bytes[i] {
+            b'"' => return Some(i + 1),
+            b'\\' if bytes.len() - i > 1 => i += 2,
+            b'\\' => return None,
+            _ => i += 1,
         }
     }
     None

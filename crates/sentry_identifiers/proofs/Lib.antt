@@ -5,6 +5,6 @@ pub mod HexIdTrees
 pub mod CodeIdTrees
 pub mod DebugIdTrees
 pub mod UuidLaws
-pub mod UuidSingle
 pub mod UuidTexts
 pub mod UuidsWritten
+pub mod Lengths

@@ -140,7 +140,7 @@ random_is_uuid : (id : Cell) → IsRandomUuid id → IsUuid id
 random_is_uuid (octets b) h = h.0
 random_is_uuid _ h = absurd h
 
--- zeros, but for the version and the variant
+-- zeros, but for the version, and the variant that random ones have
 abbrev example : List ℕ
 example = 0 ∷ 0 ∷ 0 ∷ 0 ∷ 0 ∷ 0 ∷ 64 ∷ 0 ∷ 128 ∷ 0 ∷ 0 ∷ 0 ∷ 0 ∷ 0 ∷ 0 ∷ 0 ∷ []
 
@@ -148,7 +148,7 @@ below : (x : ℕ) → nat_lt x 256 ≡ true → x < 256
 below x e = grind (arith, nat_tests)
 
 example_is_random : IsRandomUuid (octets example)
-example_is_random = ((refl, λ k d within. below (get_or example k d) (AllPass-from_list_all (λ x. nat_lt x 256) example refl k d within)), refl, refl)
+example_is_random = ((refl, λ k d within. below (get_or example k d) (AllPass-from_list_all (λ x. nat_lt x 256) example refl k d within)), refl)
 
 pub drawn_uuid_laws : (to_text : Cell → List ℕ) → RuleLaws (draw IsRandomUuid) (uuid_kind to_text)
 drawn_uuid_laws to_text = (uuid_refuses_null to_text, λ id h. uuid_normal to_text id (random_is_uuid id h), (octets example, example_is_random))

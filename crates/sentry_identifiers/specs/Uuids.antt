@@ -1,9 +1,7 @@
 -- UUIDs as texts.
-use Rattle.std.specs.Prelude.{◌≡◌, ◌<◌, ℕ, List, [], Option, option_map, length, slice_index, All}
+use Rattle.std.specs.Prelude.{◌≡◌, ◌<◌, ℕ, List, [], Option, option_map, length, All}
 use Rattle.uuid.specs.Text.{lower, simple_text, hyphenated_text, parsed}
 use Rattle.uuid.specs.Uuid.{version_num}
-use Rattle.uuid.specs.Parts.{variant_of}
-use Rattle.uuid.specs.declared.Variant.TheVariants.{RFC4122}
 use Rattle.sentry_tables.specs.Cell.{Cell, octets}
 use Rattle.sentry_tables.specs.Kind.{Kind}
 use Rattle.sentry_members.specs.Spelling.{Spelling, read_as, spelled_kind}
@@ -40,7 +38,7 @@ hyphenated_kind = uuid_kind hyphenated
 abbrev pub simple_kind : Kind
 simple_kind = uuid_kind simple
 
--- a random UUID: of version 4, and of the variant that RFC 9562 lays out
+-- a random UUID: of version 4, whatever its variant
 abbrev pub IsRandomUuid : Cell → Type 0
-IsRandomUuid (octets b) = IsUuid (octets b) × (version_num b ≡ 4) × (variant_of (slice_index b 8) ≡ RFC4122)
+IsRandomUuid (octets b) = IsUuid (octets b) × (version_num b ≡ 4)
 IsRandomUuid _ = ⊥

@@ -3,7 +3,7 @@
 ghost use Rattle.std.specs.Prelude.{◌≡◌, IfOk, IsTrue, string_bytes};
 ghost use Rattle.sentry_identifiers.specs.CodeDigits.{code_digits, are_code_digits};
 
-use sentry_members::{Room, Spelled, TreeError};
+use sentry_members::{AsText, Formed, Room, Spelled, TreeError, Way};
 use std::alloc::{AllocError, Global};
 
 /// The identifier of a code file: hex digits in lower case, as
@@ -68,6 +68,10 @@ fn hex_digits(alloc: Global, text: &str) -> Result<String, AllocError>
     Ok(digits)
 }
 
+impl Formed for CodeId {
+    type Form = AsText;
+}
+
 impl Spelled for CodeId {
     ghost use Rattle.sentry_tables.specs.Cell.{text};
     ghost use Rattle.sentry_identifiers.specs.CodeId.{code_text};
@@ -85,7 +89,8 @@ impl Spelled for CodeId {
         Ok(self.as_str())
     }
 
-    fn copied(&self) -> Result<CodeId, AllocError> {
+    #[tactic(auto, using(sentry_members::proofs::Ways::unchanged))]
+    fn copied(&self, _way: Way) -> Result<CodeId, AllocError> {
         self.clone()
     }
 

@@ -6,7 +6,7 @@ ghost use Rattle.sentry_numbers.specs.Number.{ReadsAs};
 
 use crate::bytes::are_bytes;
 use sentry_members::spelled::printed;
-use sentry_members::{Room, Spelled, TreeError};
+use sentry_members::{AsText, Formed, Room, Spelled, TreeError, Way};
 use std::alloc::{AllocError, Global};
 use std::fmt;
 use std::str::FromStr;
@@ -138,6 +138,10 @@ impl fmt::Display for DebugId {
     }
 }
 
+impl Formed for DebugId {
+    type Form = AsText;
+}
+
 impl Spelled for DebugId {
     ghost use Rattle.sentry_identifiers.specs.DebugId.{debug_parts};
     ghost use Rattle.sentry_identifiers.specs.DebugIdTree.{debug_cell, debug_spelling};
@@ -153,11 +157,14 @@ impl Spelled for DebugId {
         }
     }
 
+    #[tactic(auto, using(crate::proofs::Lengths::debug_id_fits))]
     fn text<'a>(&'a self, room: &'a mut Room) -> Result<&'a str, AllocError> {
+        self.hold();
         printed(self, room)
     }
 
-    fn copied(&self) -> Result<DebugId, AllocError> {
+    #[tactic(auto, using(sentry_members::proofs::Ways::unchanged))]
+    fn copied(&self, _way: Way) -> Result<DebugId, AllocError> {
         Ok(*self)
     }
 

@@ -11,8 +11,8 @@ use crate::hex_id::read_bytes;
 use hex::FromHexError;
 use rand_core::Rng;
 use sentry_members::spelled::printed;
-use sentry_members::{Own, Room, Spelled, TreeError};
-use sentry_rows::Drawn;
+use sentry_members::{AsText, Formed, Own, Room, Spelled, TreeError, Way};
+use sentry_sinks::Drawn;
 use std::alloc::{AllocError, Global};
 use std::str::FromStr;
 use std::{fmt, str};
@@ -111,6 +111,10 @@ impl fmt::Debug for TraceId {
     }
 }
 
+impl Formed for TraceId {
+    type Form = AsText;
+}
+
 impl Spelled for TraceId {
     ghost use Rattle.sentry_identifiers.specs.HexIdTree.{trace_cell};
 
@@ -126,11 +130,14 @@ impl Spelled for TraceId {
         }
     }
 
+    #[tactic(auto, using(crate::proofs::Lengths::hex_id_fits))]
     fn text<'a>(&'a self, room: &'a mut Room) -> Result<&'a str, AllocError> {
+        self.hold();
         printed(self, room)
     }
 
-    fn copied(&self) -> Result<TraceId, AllocError> {
+    #[tactic(auto, using(sentry_members::proofs::Ways::unchanged))]
+    fn copied(&self, _way: Way) -> Result<TraceId, AllocError> {
         Ok(*self)
     }
 

@@ -11,8 +11,9 @@ ghost use Rattle.sentry_members.specs.Reading.{Reads};
 use crate::bytes::are_bytes;
 use json::Writer;
 use rand_core::Rng;
-use sentry_members::{Codec, ReadCodec, TreeError};
-use sentry_rows::Drawn;
+use sentry_members::{Codec, ReadCodec, TreeError, Way};
+use sentry_sinks::Drawn;
+use sentry_trees::Node;
 use serde_json::Value;
 use std::alloc::{AllocError, Global};
 use uuid::Uuid;
@@ -44,8 +45,13 @@ impl Codec<Uuid> for Hyphenated {
         out.string(value.hyphenated().encode_lower(&mut buffer))
     }
 
-    fn copy(value: &Uuid) -> Result<Uuid, AllocError> {
+    #[tactic(auto, using(sentry_members::proofs::Ways::unchanged))]
+    fn remade(value: &Uuid, _way: Way) -> Result<Uuid, AllocError> {
         Ok(*value)
+    }
+
+    fn is_null_tree(_value: &Uuid) -> bool {
+        false
     }
 
     fn is_plain(value: &Uuid) -> bool {
@@ -71,8 +77,13 @@ impl Codec<Uuid> for Simple {
         out.string(value.simple().encode_lower(&mut buffer))
     }
 
-    fn copy(value: &Uuid) -> Result<Uuid, AllocError> {
+    #[tactic(auto, using(sentry_members::proofs::Ways::unchanged))]
+    fn remade(value: &Uuid, _way: Way) -> Result<Uuid, AllocError> {
         Ok(*value)
+    }
+
+    fn is_null_tree(_value: &Uuid) -> bool {
+        false
     }
 
     fn is_plain(value: &Uuid) -> bool {
@@ -82,10 +93,10 @@ impl Codec<Uuid> for Simple {
 }
 
 /// The UUID of a tree that is a text in one of the four forms.
-fn read_uuid(tree: &Value) -> Result<Uuid, TreeError>
-    ensures { (to_text : Cell → List ℕ) → Reads (uuid_kind to_text) octets (view tree.now) result }
+fn read_uuid<N: Node>(node: &N) -> Result<Uuid, TreeError>
+    ensures { (to_text : Cell → List ℕ) → Reads (uuid_kind to_text) octets (N.data_of node.now) result }
 {
-    match tree.as_str() {
+    match node.as_str() {
         Some(text) => match Uuid::parse_str(text) {
             Ok(id) => Ok(id),
             Err(_) => Err(TreeError::Misfit),
@@ -95,14 +106,14 @@ fn read_uuid(tree: &Value) -> Result<Uuid, TreeError>
 }
 
 impl ReadCodec<Uuid> for Hyphenated {
-    fn from_tree(_alloc: Global, tree: &Value) -> Result<Uuid, TreeError> {
-        read_uuid(tree)
+    fn from_node<N: Node>(_alloc: Global, node: &N) -> Result<Uuid, TreeError> {
+        read_uuid(node)
     }
 }
 
 impl ReadCodec<Uuid> for Simple {
-    fn from_tree(_alloc: Global, tree: &Value) -> Result<Uuid, TreeError> {
-        read_uuid(tree)
+    fn from_node<N: Node>(_alloc: Global, node: &N) -> Result<Uuid, TreeError> {
+        read_uuid(node)
     }
 }
 

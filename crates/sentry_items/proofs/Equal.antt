@@ -7,7 +7,8 @@ use lib.Dec.{eqb}
 use Rattle.std.specs.Option.{option_eq}
 use Rattle.std.specs.String.{string_eq}
 use Rattle.sentry_items.specs.Attached.{Attached}
-use Rattle.sentry_items.specs.View.{attachment_type_cell, attachment_view, item_held, attachment, replay_recording}
+use Rattle.sentry_items.specs.Alike.{HoldsNoTree, AreAlike}
+use Rattle.sentry_items.specs.View.{attachment_type_cell, attachment_view, item_held}
 use Rattle.sentry_items.specs.declared.attachment.Attachment.{Attachment}
 use Rattle.sentry_items.specs.declared.attachment_type.AttachmentType.{AttachmentType}
 use Rattle.sentry_items.specs.contracts.attachment_type.AttachmentTypePartialEq.TheImpl.{eq-value as of_types}
@@ -28,7 +29,7 @@ types_decide : (a b : AttachmentType) → Decides (of_types.it a b) (attachment_
 types_decide a b = search rules
 
 -- equal parts are an equal view
-views_same : (a b : Attached) → (a.buffer ≡ b.buffer) × ((a.filename ≡ b.filename) × ((a.content_type ≡ b.content_type) × (a.ty ≡ b.ty))) → a ≡ b
+pub views_same : (a b : Attached) → (a.buffer ≡ b.buffer) × ((a.filename ≡ b.filename) × ((a.content_type ≡ b.content_type) × (a.ty ≡ b.ty))) → a ≡ b
 views_same a b (buffer, (filename, (content_type, ty))) = λ i. record { buffer = buffer i; filename = filename i; content_type = content_type i; ty = ty i }
 
 pub attachments_decide : (a b : Attachment) → Decides (pointwise eqb a.buffer.items b.buffer.items && (string_eq a.filename b.filename && (option_eq string_eq a.content_type b.content_type && option_eq of_types.it a.ty b.ty))) (attachment_view a ≡ attachment_view b)
@@ -41,15 +42,13 @@ attachments_decide a b =
       λ same. parts.1 (ap (λ (v : Attached). v.buffer) same, (ap (λ (v : Attached). v.filename) same, (ap (λ (v : Attached). v.content_type) same, ap (λ (v : Attached). v.ty) same))),
     )
 
-pub items_decide : (a b : EnvelopeItem) → Decides (of_items.it a b) (item_held a ≡ item_held b)
-items_decide (item.Attachment a) (item.Attachment b) = (λ same. ap attachment ((attachments_decide a b).0 same), λ same. (attachments_decide a b).1 (cc))
-items_decide (item.ReplayRecording a) (item.ReplayRecording b) =
-    let bytes = slice_eq-Decides Decides-eqb a.buffer.items b.buffer.items _ refl in
-    (λ same. ap replay_recording (bytes.0 same), λ same. bytes.1 (cc))
-items_decide item.Raw item.Raw = (λ same. refl, λ same. refl)
-items_decide (item.Attachment a) (item.ReplayRecording b) = (λ same. cc, λ same. cc)
-items_decide (item.Attachment a) item.Raw = (λ same. cc, λ same. cc)
-items_decide (item.ReplayRecording a) (item.Attachment b) = (λ same. cc, λ same. cc)
-items_decide (item.ReplayRecording a) item.Raw = (λ same. cc, λ same. cc)
-items_decide item.Raw (item.Attachment b) = (λ same. cc, λ same. cc)
-items_decide item.Raw (item.ReplayRecording b) = (λ same. cc, λ same. cc)
+pub items_decide : (a b : EnvelopeItem) → HoldsNoTree (item_held a) → HoldsNoTree (item_held b) → Decides (of_items.it a b) (AreAlike (item_held a) (item_held b))
+items_decide (item.Attachment a) (item.Attachment b) s t = attachments_decide a b
+items_decide (item.ReplayRecording a) (item.ReplayRecording b) s t = slice_eq-Decides Decides-eqb a.buffer.items b.buffer.items _ refl
+items_decide item.Raw item.Raw s t = (λ same. tt, λ same. refl)
+items_decide (item.Attachment a) (item.ReplayRecording b) s t = (λ same. cc, λ same. absurd same)
+items_decide (item.Attachment a) item.Raw s t = (λ same. cc, λ same. absurd same)
+items_decide (item.ReplayRecording a) (item.Attachment b) s t = (λ same. cc, λ same. absurd same)
+items_decide (item.ReplayRecording a) item.Raw s t = (λ same. cc, λ same. absurd same)
+items_decide item.Raw (item.Attachment b) s t = (λ same. cc, λ same. absurd same)
+items_decide item.Raw (item.ReplayRecording b) s t = (λ same. cc, λ same. absurd same)

@@ -1,5 +1,7 @@
 pub mod AttachmentTypes
 pub mod Equal
 pub mod HeaderTokens
+pub mod Made
 pub mod Sent
+pub mod Sums
 pub mod Words

@@ -4,7 +4,8 @@ use Rattle.std.proofs.lemmas.Option.{same_Some}
 use Rattle.std.specs.Prelude.{slice_get}
 use Rattle.sentry_tables.specs.Laws.{HasLaws}
 use Rattle.sentry_members.specs.Spelling.{SpellingLaws}
-use Rattle.sentry_words.proofs.Enumerations.{ReadsItsWords, words_laws, spelled_has_laws}
+use Rattle.sentry_members.proofs.Spellings.{spelled_has_laws}
+use Rattle.sentry_words.proofs.Enumerations.{ReadsItsWords, words_laws}
 use Rattle.sentry_items.specs.declared.category.Category.{Category}
 use Rattle.sentry_items.specs.declared.category.Category.TheVariants as category
 use Rattle.sentry_items.specs.declared.reason.Reason.{Reason}

@@ -1,7 +1,10 @@
+pub mod Alike
 pub mod Attached
 pub mod AttachmentWords
 pub mod Categories
 pub mod Counted
 pub mod HeaderTokens
 pub mod Losses
+pub mod Made
+pub mod Sums
 pub mod View

@@ -1,9 +1,12 @@
 //! Attachments.
 
+ghost use Rattle.std.specs.Prelude.{◌≡◌, IfOk};
+
 use crate::attachment_type::AttachmentType;
 use crate::counted::send_both;
 use crate::header::write_last_members;
 use json::Writer;
+use sentry_members::{Member, Way};
 use std::alloc::{AllocError, Global};
 use std::io::Write;
 use std::{fmt, mem};
@@ -27,6 +30,9 @@ pub struct Attachment {
 /// As many bytes as a header with usual names takes: room for it is made at once.
 const USUAL_HEADER: usize = 192;
 
+/// The media type that is written where there is none.
+const USUAL_CONTENT_TYPE: &str = "application/octet-stream";
+
 /// Why an attachment was not written, or not in full.
 #[derive(Debug, Drop, Error)]
 pub enum AttachmentWriteError {
@@ -39,14 +45,15 @@ pub enum AttachmentWriteError {
 }
 
 impl Attachment {
-    ghost use Rattle.std.specs.Prelude.{◌≡◌, ℕ, List, ◌∷◌, ◌++◌, codes, [], None, IfOk, OnOk, IsTrue};
+    ghost use Rattle.std.specs.Prelude.{◌≡◌, ℕ, List, ◌∷◌, ◌++◌, codes, [], None, IfOk, OnOk, IsTrue, option_map, string_bytes};
     ghost use Rattle.std.specs.Io.KnownBytes.{Appends, Keeps};
     ghost use Rattle.json.specs.Token.{begin_object};
-    ghost use Rattle.sentry_items.specs.Attached.{attached_type, attached_content_type, attachment_header, attachment_text, IsAttachedStored, IsTypeOption, IsUtf8Option};
+    ghost use Rattle.sentry_items.specs.Attached.{attached_type, attached_content_type, attachment_header, attachment_text, attached_norm, IsAttachedStored, IsTypeOption, IsUtf8Option};
     ghost use Rattle.sentry_items.specs.AttachmentWords.{attachment_type_text};
     ghost use Rattle.sentry_items.specs.Counted.{AppendsFront};
     ghost use Rattle.sentry_items.specs.HeaderTokens.{header_text, member_tokens};
-    ghost use Rattle.sentry_items.specs.View.{attachment_view};
+    ghost use Rattle.sentry_items.specs.Made.{attached_made};
+    ghost use Rattle.sentry_items.specs.View.{attachment_type_cell, attachment_view};
 
     /// An attachment of no bytes, with an empty name and without types.
     pub fn default_in(alloc: Global) -> Attachment
@@ -60,22 +67,64 @@ impl Attachment {
         }
     }
 
+    /// The same attachment, or its normal form. It fails where memory is refused.
+    pub fn remade(&self, way: Way) -> Result<Attachment, AllocError>
+        ensures { IfOk result (λ attachment. attachment_view attachment ≡ attached_made way (attachment_view self.now)) }
+    {
+        Ok(Attachment {
+            buffer: copied_bytes(&self.buffer)?,
+            filename: self.filename.clone()?,
+            content_type: self.remade_content_type(way)?,
+            ty: self.remade_type(way)?,
+        })
+    }
+
+    /// The media type of the same attachment, or of its normal form.
+    #[tactic(auto, using(crate::proofs::Made::no_media_type, crate::proofs::Made::usual_media_type))]
+    fn remade_content_type(&self, way: Way) -> Result<Option<String>, AllocError>
+        ensures { IfOk result (λ text. option_map string_bytes text ≡ (attached_made way (attachment_view self.now)).content_type) }
+    {
+        match &self.content_type {
+            Some(text) => Ok(Some(text.clone()?)),
+            None => match way {
+                Way::Same => Ok(None),
+                Way::Normal => {
+                    let alloc = *self.buffer.allocator();
+                    Ok(Some(String::from_str(alloc, USUAL_CONTENT_TYPE)?))
+                }
+            },
+        }
+    }
+
+    /// The type of the same attachment, or of its normal form.
+    #[tactic(auto, using(crate::proofs::Made::no_type, crate::proofs::Made::usual_type))]
+    fn remade_type(&self, way: Way) -> Result<Option<AttachmentType>, AllocError>
+        ensures { IfOk result (λ ty. option_map attachment_type_cell ty ≡ (attached_made way (attachment_view self.now)).ty) }
+    {
+        match &self.ty {
+            Some(ty) => Ok(Some(ty.remade(way)?)),
+            None => match way {
+                Way::Same => Ok(None),
+                Way::Normal => Ok(Some(AttachmentType::Attachment)),
+            },
+        }
+    }
+
     /// The same attachment. It fails where memory is refused.
+    #[tactic(auto, unfolding(crate::specs::Made::attached_made))]
     pub fn clone(&self) -> Result<Attachment, AllocError>
         ensures { IfOk result (λ attachment. attachment_view attachment ≡ attachment_view self.now) }
     {
-        Ok(Attachment {
-            buffer: self.buffer.clone()?,
-            filename: self.filename.clone()?,
-            content_type: match &self.content_type {
-                Some(text) => Some(text.clone()?),
-                None => None,
-            },
-            ty: match &self.ty {
-                Some(ty) => Some(ty.clone()?),
-                None => None,
-            },
-        })
+        self.remade(Way::Same)
+    }
+
+    /// The attachment's normal form: both types are given, and a custom type that spells a known one is that one.
+    /// It fails where memory is refused.
+    #[tactic(auto, unfolding(crate::specs::Made::attached_made))]
+    pub fn normalized(&self) -> Result<Attachment, AllocError>
+        ensures { IfOk result (λ attachment. attachment_view attachment ≡ attached_norm (attachment_view self.now)) }
+    {
+        self.remade(Way::Normal)
     }
 
     /// Whether the attachment can be written: always, since its texts are UTF-8.
@@ -107,7 +156,7 @@ impl Attachment {
     {
         match &self.content_type {
             Some(text) => text.as_str(),
-            None => "application/octet-stream",
+            None => USUAL_CONTENT_TYPE,
         }
     }
 
@@ -178,6 +227,13 @@ impl Attachment {
             Err(_) => Err(AttachmentWriteError::Io),
         }
     }
+}
+
+/// The same bytes.
+fn copied_bytes(bytes: &Vec<u8>) -> Result<Vec<u8>, AllocError>
+    ensures { IfOk result (λ copy. copy.items ≡ bytes.now.items) }
+{
+    bytes.clone()
 }
 
 impl fmt::Debug for Attachment {

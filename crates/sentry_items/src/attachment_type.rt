@@ -1,6 +1,6 @@
 //! What an attachment is for.
 
-use sentry_members::{Room, Spelled, TreeError};
+use sentry_members::{AsText, Formed, Room, Spelled, TreeError, Way};
 use std::alloc::{AllocError, Global};
 
 /// The type of an attachment.
@@ -75,6 +75,10 @@ impl AttachmentType {
     }
 }
 
+impl Formed for AttachmentType {
+    type Form = AsText;
+}
+
 impl Spelled for AttachmentType {
     ghost use Rattle.sentry_items.specs.AttachmentWords.{attachment_type_spelling};
     ghost use Rattle.sentry_items.specs.View.{attachment_type_cell};
@@ -91,8 +95,21 @@ impl Spelled for AttachmentType {
         Ok(self.as_str())
     }
 
-    fn copied(&self) -> Result<AttachmentType, AllocError> {
-        self.clone()
+    #[tactic(auto, using(sentry_members::proofs::Ways::made_same, sentry_members::proofs::Ways::made_normal))]
+    fn copied(&self, way: Way) -> Result<AttachmentType, AllocError> {
+        match way {
+            Way::Same => self.clone(),
+            Way::Normal => match self {
+                AttachmentType::Attachment => Ok(AttachmentType::Attachment),
+                AttachmentType::Minidump => Ok(AttachmentType::Minidump),
+                AttachmentType::AppleCrashReport => Ok(AttachmentType::AppleCrashReport),
+                AttachmentType::UnrealContext => Ok(AttachmentType::UnrealContext),
+                AttachmentType::UnrealLogs => Ok(AttachmentType::UnrealLogs),
+                AttachmentType::Custom(text) => {
+                    AttachmentType::from_text(*text.allocator(), text.as_str())
+                }
+            },
+        }
     }
 
     fn hold(&self) {

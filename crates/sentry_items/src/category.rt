@@ -1,6 +1,6 @@
 //! What is counted as lost.
 
-use sentry_members::{Room, Spelled, TreeError};
+use sentry_members::{AsText, Formed, Room, Spelled, TreeError, Way};
 use sentry_words::IndexedEnum;
 use std::alloc::{AllocError, Global};
 
@@ -102,6 +102,10 @@ impl IndexedEnum for Category {
     ghost in_place = { category_in_place };
 }
 
+impl Formed for Category {
+    type Form = AsText;
+}
+
 impl Spelled for Category {
     ghost use Rattle.sentry_members.specs.Spelling.{word_cell};
     ghost use Rattle.sentry_items.specs.Categories.{category_word, category_spelling};
@@ -132,7 +136,8 @@ impl Spelled for Category {
         Ok(self.as_str())
     }
 
-    fn copied(&self) -> Result<Category, AllocError> {
+    #[tactic(auto, using(sentry_members::proofs::Ways::unchanged))]
+    fn copied(&self, _way: Way) -> Result<Category, AllocError> {
         Ok(*self)
     }
 

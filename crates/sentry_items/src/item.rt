@@ -2,6 +2,7 @@
 
 use crate::attachment::Attachment;
 use crate::replay_recording::ReplayRecording;
+use sentry_members::Way;
 use std::alloc::AllocError;
 
 /// One item of an envelope.
@@ -19,21 +20,39 @@ pub enum EnvelopeItem {
 
 impl EnvelopeItem {
     ghost use Rattle.std.specs.Prelude.{◌≡◌, IfOk};
+    ghost use Rattle.sentry_items.specs.Made.{item_made, item_norm};
     ghost use Rattle.sentry_items.specs.View.{item_held};
 
+    /// The same item, or its normal form. It fails where memory is refused.
+    #[tactic(auto, using(crate::proofs::Made::attachment_made, crate::proofs::Made::recording_made, crate::proofs::Made::raw_made))]
+    pub fn remade(&self, way: Way) -> Result<EnvelopeItem, AllocError>
+        ensures { IfOk result (λ item. item_held item ≡ item_made way (item_held self.now)) }
+    {
+        match self {
+            EnvelopeItem::Attachment(attachment) => {
+                Ok(EnvelopeItem::Attachment(attachment.remade(way)?))
+            }
+            EnvelopeItem::ReplayRecording(recording) => {
+                Ok(EnvelopeItem::ReplayRecording(recording.remade(way)?))
+            }
+            EnvelopeItem::Raw => Ok(EnvelopeItem::Raw),
+        }
+    }
+
     /// The same item. It fails where memory is refused.
+    #[tactic(auto, unfolding(crate::specs::Made::item_made))]
     pub fn clone(&self) -> Result<EnvelopeItem, AllocError>
         ensures { IfOk result (λ item. item_held item ≡ item_held self.now) }
     {
-        match self {
-            EnvelopeItem::Attachment(attachment) => Ok(EnvelopeItem::Attachment(
-                attachment.clone()?,
-            )),
-            EnvelopeItem::ReplayRecording(recording) => Ok(EnvelopeItem::ReplayRecording(
-                recording.clone()?,
-            )),
-            EnvelopeItem::Raw => Ok(EnvelopeItem::Raw),
-        }
+        self.remade(Way::Same)
+    }
+
+    /// The item's normal form. It fails where memory is refused.
+    #[tactic(auto, unfolding(crate::specs::Made::item_made))]
+    pub fn normalized(&self) -> Result<EnvelopeItem, AllocError>
+        ensures { IfOk result (λ item. item_held item ≡ item_norm (item_held self.now)) }
+    {
+        self.remade(Way::Normal)
     }
 }
 

@@ -1,6 +1,6 @@
 //! Why something was lost.
 
-use sentry_members::{Room, Spelled, TreeError};
+use sentry_members::{AsText, Formed, Room, Spelled, TreeError, Way};
 use sentry_words::IndexedEnum;
 use std::alloc::{AllocError, Global};
 
@@ -87,6 +87,10 @@ impl IndexedEnum for Reason {
     ghost in_place = { reason_in_place };
 }
 
+impl Formed for Reason {
+    type Form = AsText;
+}
+
 impl Spelled for Reason {
     ghost use Rattle.sentry_members.specs.Spelling.{word_cell};
     ghost use Rattle.sentry_items.specs.Categories.{reason_word, reason_spelling};
@@ -114,7 +118,8 @@ impl Spelled for Reason {
         Ok(self.as_str())
     }
 
-    fn copied(&self) -> Result<Reason, AllocError> {
+    #[tactic(auto, using(sentry_members::proofs::Ways::unchanged))]
+    fn copied(&self, _way: Way) -> Result<Reason, AllocError> {
         Ok(*self)
     }
 

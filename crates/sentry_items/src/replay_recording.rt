@@ -1,5 +1,6 @@
 //! Recordings of replays.
 
+use sentry_members::Way;
 use std::alloc::{AllocError, Global};
 
 /// The recording of a replay: bytes that nothing here reads.
@@ -23,12 +24,26 @@ impl ReplayRecording {
         }
     }
 
-    /// The same recording. It fails where memory is refused.
-    pub fn clone(&self) -> Result<ReplayRecording, AllocError>
+    /// The same recording, which is its own normal form. It fails where memory is refused.
+    pub fn remade(&self, _way: Way) -> Result<ReplayRecording, AllocError>
         ensures { IfOk result (λ recording. recording.buffer.items ≡ self.now.buffer.items) }
     {
         Ok(ReplayRecording {
             buffer: self.buffer.clone()?,
         })
+    }
+
+    /// The same recording. It fails where memory is refused.
+    pub fn clone(&self) -> Result<ReplayRecording, AllocError>
+        ensures { IfOk result (λ recording. recording.buffer.items ≡ self.now.buffer.items) }
+    {
+        self.remade(Way::Same)
+    }
+
+    /// The recording's normal form, which is the same. It fails where memory is refused.
+    pub fn normalized(&self) -> Result<ReplayRecording, AllocError>
+        ensures { IfOk result (λ recording. recording.buffer.items ≡ self.now.buffer.items) }
+    {
+        self.remade(Way::Normal)
     }
 }

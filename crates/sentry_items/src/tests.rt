@@ -1,9 +1,9 @@
 use crate::attachment::{Attachment, AttachmentWriteError};
 use crate::attachment_type::AttachmentType;
 use crate::counted::{CountedReader, CountedWriter, send, send_both, send_plain};
-use crate::header::write_short_header;
 use crate::item::EnvelopeItem;
 use crate::replay_recording::ReplayRecording;
+use sentry_members::{Member, Way};
 use std::alloc::{AllocError, Global};
 use std::io;
 use std::io::{ErrorKind, Read, Write};
@@ -23,40 +23,20 @@ fn hello(alloc: Global) -> Result<Attachment, AllocError> {
 #[test]
 fn an_attachment_is_written(rt: HostRuntime) -> Result<(), Fail> {
     let alloc = rt.alloc();
-    let mut out = Vec::new(alloc);
-    hello(alloc)?.to_writer(alloc, &mut out)?;
-    assert_eq!(rt; out.as_slice(), HELLO.as_bytes());
     let typed = Attachment {
         buffer: Vec::from_slice(alloc, b"\n\0")?,
         filename: String::from_str(alloc, "a \"b\".dmp")?,
         content_type: Some(String::from_str(alloc, "application/x-dmp")?),
         ty: Some(AttachmentType::Minidump),
     };
-    assert!(rt; typed.is_plain());
-    assert!(rt; typed.clone()? == typed);
-    assert!(rt; typed != hello(alloc)?);
-    out.clear();
+    let mut out = Vec::from_slice(alloc, b"before ")?;
     typed.clone()?.to_writer(alloc, &mut out)?;
     let expected = concat!(
-        "{\"attachment_type\":\"event.minidump\",\"content_type\":\"application/x-dmp\",",
+        "before {\"attachment_type\":\"event.minidump\",\"content_type\":\"application/x-dmp\",",
         "\"filename\":\"a \\\"b\\\".dmp\",\"length\":2,\"type\":\"attachment\"}\n\n\0"
     );
-    assert_eq!(rt; out.as_slice(), expected.as_bytes());
-    Ok(())
-}
-
-#[test]
-fn headers_are_appended(rt: HostRuntime) -> Result<(), Fail> {
-    let alloc = rt.alloc();
-    let mut out = Vec::from_slice(alloc, b"before ")?;
-    write_short_header(alloc, "replay_recording", b"abc", &mut out)?;
-    hello(alloc)?.write_header(alloc, "attachment", &mut out)?;
-    let expected = concat!(
-        "before {\"length\":3,\"type\":\"replay_recording\"}",
-        "{\"attachment_type\":\"event.attachment\",\"content_type\":\"application/octet-stream\",",
-        "\"filename\":\"\",\"length\":10,\"type\":\"attachment\"}"
-    );
-    assert_eq!(rt; out.as_slice(), expected.as_bytes());
+    assert!(rt; out.as_slice() == expected.as_bytes() && typed.is_plain());
+    assert!(rt; typed.clone()? == typed && typed != hello(alloc)?);
     Ok(())
 }
 
@@ -69,36 +49,23 @@ fn debug_texts(rt: HostRuntime) -> Result<(), Fail> {
         format!(in alloc; "{attachment:?}")?.as_str(),
         "Attachment { buffer: 10, filename: \"f\", content_type: None, type: None }"
     );
-    for (error, text) in [
-        (AttachmentWriteError::Memory, "out of memory"),
-        (AttachmentWriteError::Io, "Io"),
-    ] {
-        assert_eq!(rt; format!(in alloc; "{error}")?.as_str(), text);
-    }
     Ok(())
 }
 
+/// A custom type of a known text is a value of its own, whose normal form is the known type.
 #[test]
-fn attachment_types(rt: HostRuntime) -> Result<(), Fail> {
+fn custom_types(rt: HostRuntime) -> Result<(), Fail> {
     let alloc = rt.alloc();
-    for (text, ty) in [
-        ("event.attachment", AttachmentType::default()),
-        ("event.minidump", AttachmentType::Minidump),
-        ("event.applecrashreport", AttachmentType::AppleCrashReport),
-        ("unreal.context", AttachmentType::UnrealContext),
-        ("unreal.logs", AttachmentType::UnrealLogs),
-    ] {
-        assert_eq!(rt; ty.as_str(), text);
-        assert!(rt; AttachmentType::from_text(alloc, text)? == ty);
-        assert!(rt; ty.clone()? == ty);
-    }
-    let other = AttachmentType::from_text(alloc, "Event.Minidump")?;
-    assert_eq!(rt; other.as_str(), "Event.Minidump");
-    assert!(rt; other == AttachmentType::Custom(String::from_str(alloc, "Event.Minidump")?));
     let custom = AttachmentType::Custom(String::from_str(alloc, "event.minidump")?);
-    assert_eq!(rt; custom.as_str(), "event.minidump");
-    assert!(rt; custom.clone()? == custom);
-    assert!(rt; custom != AttachmentType::Minidump);
+    for holds in [
+        AttachmentType::from_text(alloc, "event.minidump")? == AttachmentType::Minidump,
+        AttachmentType::from_text(alloc, "event.attachment")? == AttachmentType::default(),
+        custom.as_str() == "event.minidump" && custom != AttachmentType::Minidump,
+        custom.clone()? == custom,
+        custom.remade(Way::Normal)? == AttachmentType::Minidump,
+    ] {
+        assert!(rt; holds);
+    }
     Ok(())
 }
 
@@ -106,11 +73,10 @@ fn attachment_types(rt: HostRuntime) -> Result<(), Fail> {
 fn items(rt: HostRuntime) -> Result<(), Fail> {
     let alloc = rt.alloc();
     let mut recording = ReplayRecording::default_in(alloc);
-    assert!(rt; recording.buffer.is_empty());
     recording.buffer.push(1)?;
     let items = [
         EnvelopeItem::from(hello(alloc)?),
-        EnvelopeItem::from(recording.clone()?),
+        EnvelopeItem::from(recording),
         EnvelopeItem::Raw,
     ];
     for (place, item) in items.iter().enumerate() {
@@ -118,8 +84,6 @@ fn items(rt: HostRuntime) -> Result<(), Fail> {
             assert_eq!(rt; item.clone()? == *other, place == other_place);
         }
     }
-    assert!(rt; items[0] == EnvelopeItem::Attachment(hello(alloc)?));
-    assert!(rt; items[1] == EnvelopeItem::ReplayRecording(recording));
     Ok(())
 }
 
@@ -168,13 +132,9 @@ fn a_failed_write_ends_an_attachment(rt: HostRuntime) -> Result<(), Fail> {
         for at_once in [1, 7, 1000] {
             for room in 0..text.len() {
                 let mut out = Full::new(alloc, room, at_once, by_error);
-                assert!(rt;
-                    matches!(
-                        attachment.to_writer(alloc, &mut out),
-                        Err(AttachmentWriteError::Io)
-                    )
-                );
-                assert_eq!(rt; out.taken.as_slice(), &text[..room]);
+                let answer = attachment.to_writer(alloc, &mut out);
+                let failed = matches!(answer, Err(AttachmentWriteError::Io));
+                assert!(rt; failed && out.taken.as_slice() == &text[..room]);
             }
             let mut out = Full::new(alloc, text.len(), at_once, by_error);
             attachment.to_writer(alloc, &mut out)?;
@@ -190,25 +150,21 @@ fn a_failed_write_is_counted(rt: HostRuntime) -> Result<(), Fail> {
     for by_error in [false, true] {
         for room in 0..3 {
             let mut out = CountedWriter::new(Full::new(alloc, room, 1, by_error));
-            assert!(rt; send(b"abc", &mut out).is_err());
-            assert_eq!(rt; out.failures(), 1);
-            assert_eq!(rt; out.into_inner().taken.len(), room);
+            let failed = send(b"abc", &mut out).is_err() && out.failures() == 1;
+            assert!(rt; failed && out.into_inner().taken.len() == room);
         }
     }
     let mut out = CountedWriter::new(Full::new(alloc, 3, 1, true));
-    assert!(rt; send(b"abc", &mut out).is_ok());
-    assert_eq!(rt; out.failures(), 0);
-    assert_eq!(rt; out.write(b"")?, 0);
-    assert_eq!(rt; out.failures(), 0);
-    assert!(rt; out.write(b"d").is_err());
-    assert_eq!(rt; out.failures(), 1);
+    let sent = send(b"abc", &mut out).is_ok() && out.write(b"")? == 0;
+    assert!(rt; sent && out.failures() == 0);
+    assert!(rt; out.write(b"d").is_err() && out.failures() == 1);
     let mut inner = out.into_inner();
-    assert_eq!(rt; inner.taken.as_slice(), b"abc".as_slice());
-    assert!(rt; send_plain(b"d", &mut inner).is_err());
+    let whole = inner.taken.as_slice() == b"abc".as_slice();
+    assert!(rt; whole && send_plain(b"d", &mut inner).is_err());
     let mut plain = Vec::new(alloc);
-    assert!(rt; send_plain(b"the ", &mut plain).is_ok());
-    assert!(rt; send_both(b"wh", b"ole", &mut plain).is_ok());
-    assert_eq!(rt; plain.as_slice(), b"the whole".as_slice());
+    let sent = send_plain(b"the ", &mut plain).is_ok()
+        && send_both(b"wh", b"ole", &mut plain).is_ok();
+    assert!(rt; sent && plain.as_slice() == b"the whole".as_slice());
     Ok(())
 }
 
@@ -235,11 +191,9 @@ impl Read for Broken {
 fn a_failed_read_is_counted(rt: HostRuntime) -> Result<(), Fail> {
     let mut reader = CountedReader::new(Broken { given: false });
     let mut buffer = [0; 2];
-    assert_eq!(rt; reader.read(&mut buffer)?, 1);
-    assert_eq!(rt; buffer[0], b'e');
-    assert_eq!(rt; reader.failures(), 0);
-    assert!(rt; reader.read(&mut buffer).is_err());
-    assert_eq!(rt; reader.failures(), 1);
-    assert!(rt; reader.into_inner().given);
+    let given = reader.read(&mut buffer)? == 1 && buffer[0] == b'e';
+    assert!(rt; given && reader.failures() == 0);
+    let failed = reader.read(&mut buffer).is_err() && reader.failures() == 1;
+    assert!(rt; failed && reader.into_inner().given);
     Ok(())
 }

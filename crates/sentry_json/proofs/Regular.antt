@@ -30,7 +30,7 @@ from_ranged true p =
     IfSome_cond IsRanged (is_integer p && nat_lt 0 (digits_of p) && nat_le (digits_of p) (2 ^ 63)) _ _
     (λ e. let q = and_parts (is_integer p && nat_lt 0 (digits_of p)) _ e in signed_ranged (digits_of p) (ltb-true _ _ (and_parts (is_integer p) _ q.0).1) (leb-true _ _ q.1)) (λ _. float_ranged true p)
 
-number_ranged : (s : List ℕ) → IfSome (number_of s) IsRanged
+pub number_ranged : (s : List ℕ) → IfSome (number_of s) IsRanged
 unfolding number_of
 number_ranged s = IfSome_cond IsRanged (slice_index s 0 == minus) (number_from true (scan (drop 1 s))) (number_from false (scan s)) (λ _. from_ranged true (scan (drop 1 s))) (λ _. from_ranged false (scan s))
 

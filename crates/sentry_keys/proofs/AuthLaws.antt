@@ -5,14 +5,19 @@ use Rattle.sentry_moments.specs.Decimal.{Worth, Billionths}
 use Rattle.sentry_moments.proofs.DecimalTexts.{one_worth}
 use Rattle.sentry_tables.specs.Kind.{scalar}
 use Rattle.sentry_tables.specs.Laws.{HasLaws}
+use Rattle.sentry_tables.specs.Lawful.{RefusesNull}
 use Rattle.sentry_tables.proofs.Laws.{has_laws}
 use Rattle.sentry_keys.specs.Auth.{Pair, Time, Parts, values_at, last_at, timestamp_key, version_key, IsReadable, IsTime, VersionIs, TimestampIs, VersionsAreReadable, IsAuth, HasUnreadableVersion, HasNoKey}
 use Rattle.sentry_keys.specs.AuthFields.{auth_scalar, auth_kind}
-use Rattle.sentry_keys.proofs.AuthTrees.{auth_laws}
+use Rattle.sentry_keys.proofs.AuthTrees.{auth_laws, null_refused}
 
 pub auth_kind_laws : HasLaws auth_kind
 unfolding auth_kind
 auth_kind_laws = has_laws (scalar auth_scalar) auth_laws
+
+pub auth_refuses_null : RefusesNull auth_kind
+unfolding auth_kind
+auth_refuses_null = null_refused
 
 one_version : (o : Option (List ℕ)) (m n : ℕ) → VersionIs o m → VersionIs o n → m ≡ n
 one_version None m n a b = a ∙ sym b

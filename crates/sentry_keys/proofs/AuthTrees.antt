@@ -1,15 +1,17 @@
 -- An authentication's tree: what shows it, and its laws.
-use Rattle.std.proofs.Common.{◌≡◌, ◌⊎◌, ◌<◌, ◌^◌, Option, Some, None, Result, Ok, Err, inl, inr, refl, sym, ap, subst, ◌∙◌, arith, option_map, string_bytes, ◌≤◌, false, pos}
+use Rattle.std.proofs.Common.{◌≡◌, ◌⊎◌, ◌<◌, ◌^◌, Option, Some, None, Result, Ok, Err, inl, inr, refl, sym, ap, ap₂, subst, ◌∙◌, arith, option_map, string_bytes, ◌≤◌, false, pos}
 use Rattle.std.specs.Prelude.{OnOk, IfOk, String}
 use Rattle.std.specs.declared.alloc.Global.{Global}
 use Rattle.std.proofs.lemmas.Bool.{false≢true}
 use Rattle.std.proofs.lemmas.Str.{IsUtf8-string_bytes}
 use Rattle.json.specs.Written.{Written}
-use Rattle.serde_json.specs.Data.{Data, no_members, depth}
+use Rattle.serde_json.specs.Data.{Data, null, no_members, depth}
 use Rattle.sentry_json.specs.Sound.{IsSound}
 use Rattle.sentry_moments.specs.declared.moment.Moment.{Moment}
 use Rattle.sentry_tables.specs.Cell.{Cell, absent, text, whole, moment, fields, sequence, no_cells, cell}
+use Rattle.sentry_tables.specs.Kind.{scalar}
 use Rattle.sentry_tables.specs.Lawful.{IsLawful, ScalarLaws, IsMoment}
+use Rattle.sentry_tables.specs.Drawn.{NothingDrawn}
 use Rattle.sentry_tables.specs.Laws.{HasLaws}
 use Rattle.sentry_tables.specs.Meets.{IsPlain, IsStored, IsOptional}
 use Rattle.sentry_tables.specs.Norm.{norm}
@@ -17,6 +19,7 @@ use Rattle.sentry_tables.specs.Shows.{Shows}
 use Rattle.sentry_tables.specs.Fields.{table_of}
 use Rattle.sentry_tables.specs.Written.{tree, is_null}
 use Rattle.sentry_tables.proofs.Basic.{text_laws, unsigned_laws}
+use Rattle.sentry_tables.proofs.Drawn.{never_drawn}
 use Rattle.sentry_tables.proofs.Laws.{has_laws}
 use Rattle.sentry_members.specs.Cells.{text_cell, natural_cell, option_cell}
 use Rattle.sentry_members.specs.Kinds.{text_kind}
@@ -52,12 +55,29 @@ ShownBeside d time rows = (time ≡ absent) × Shows auth_table epoch d rows
 kept : (Q : Cell → Type 0) → ((time rows : Cell) → IsStored auth_table rows → IsPlain auth_table rows → Q (beside time rows)) → (c : Cell) → IsKept c → Q c
 kept Q f c h = each Stored (λ x. auth_scalar.plain x → Q x) (λ time rows s p. f time rows s.1 p) c h.0 h.1
 
+real : IsMoment epoch
+real = (omega arith, omega arith)
+
+-- no row draws
+undrawn : (d : Data) → NothingDrawn auth_table d
+unfolding auth_table
+undrawn = never_drawn auth_table search
+
+one_shown : (d : Data) (c x : Cell) → auth_scalar.shows d c → auth_scalar.shows d x → c ≡ x
+one_shown d c x h k =
+    each (ShownBeside d) (λ y. y ≡ x)
+    (λ time rows g. each (ShownBeside d) (λ y. beside time rows ≡ y) (λ other shown f. ap₂ beside (g.0 ∙ sym f.0) (table_laws.single epoch d rows shown (undrawn d) g.1 f.1)) x k) c h
+
 rewritten : (d : Data) (rows : Cell) → IsSound d → Shows auth_table epoch d rows → IsStored auth_table rows × IsPlain auth_table rows × (tree auth_table rows ≡ tree auth_table (norm auth_table rows))
-rewritten d rows sound h = table_laws.rewritten d rows epoch sound (omega arith, omega arith) h
+rewritten d rows sound h = table_laws.rewritten d rows epoch sound real h
 
 no_null : (c : Cell) → is_null (auth_scalar.tree c) ≡ false
 unfolding auth_table
 no_null c = refl
+
+pub null_refused : (now c : Cell) → Shows (scalar auth_scalar) now null c → ⊥
+unfolding auth_table
+null_refused now c h = each (ShownBeside null) (λ x. ⊥) (λ time rows g. false≢true g.1.0) c h
 
 decided : (d : Data) → ((c : Cell) × Shows auth_table epoch d c) ⊎ ((c : Cell) → Shows auth_table epoch d c → ⊥) → ((c : Cell) × auth_scalar.shows d c) ⊎ ((c : Cell) → auth_scalar.shows d c → ⊥)
 decided d (inl some) = inl (beside absent some.0, (refl, some.1))
@@ -66,8 +86,7 @@ decided d (inr none) = inr (λ c h. each (ShownBeside d) (λ x. ⊥) (λ time ro
 pub auth_laws : ScalarLaws auth_scalar
 auth_laws = record {
   back = λ c p. kept (λ x. auth_scalar.readable x → auth_scalar.shows (auth_scalar.tree x) (auth_scalar.norm x)) (λ time rows s q r. (refl, (table_laws.back rows epoch s q r).0)) c p;
-  only = λ c x p. kept (λ y. auth_scalar.readable y → auth_scalar.shows (auth_scalar.tree y) x → x ≡ auth_scalar.norm y)
-      (λ time rows s q r h. each (ShownBeside (tree auth_table rows)) (λ z. z ≡ beside absent (norm auth_table rows)) (λ other shown g. ap (λ t. beside t shown) g.0 ∙ ap (beside absent) ((table_laws.back rows epoch s q r).1 shown g.1)) x h) c p;
+  single = one_shown;
   again = λ c p. kept (λ x. auth_scalar.norm (auth_scalar.norm x) ≡ auth_scalar.norm x) (λ time rows s q. ap (beside absent) (table_laws.stable rows s q).again) c p;
   stored_norm = λ c p. kept (λ x. auth_scalar.stored (auth_scalar.norm x)) (λ time rows s q. (tt, (table_laws.stable rows s q).stored)) c p;
   plain_norm = λ c p. kept (λ x. auth_scalar.plain (auth_scalar.norm x)) (λ time rows s q. (table_laws.stable rows s q).plain) c p;
@@ -78,6 +97,7 @@ auth_laws = record {
   sound = λ c p. kept (λ x. IsSound (auth_scalar.tree x)) (λ time rows s q. table_laws.written rows s q) c p;
   shown_stored = λ d c sound h. each (ShownBeside d) auth_scalar.stored (λ time rows g. (subst (IsOptional IsMoment) (sym g.0) tt, (rewritten d rows sound g.1).0)) c h;
   shown_plain = λ d c sound h. each (ShownBeside d) auth_scalar.plain (λ time rows g. (rewritten d rows sound g.1).1) c h;
+  shown_readable = λ d c sound h. each (ShownBeside d) auth_scalar.readable (λ time rows g. table_laws.shown_readable d rows epoch sound real g.1) c h;
   shown_null = λ d c h e. absurd (false≢true e);
   shown_tree = λ d c sound h. each (ShownBeside d) (λ x. auth_scalar.tree x ≡ auth_scalar.tree (auth_scalar.norm x)) (λ time rows g. (rewritten d rows sound g.1).2) c h;
   decide = λ d. decided d (table_laws.decided d epoch);

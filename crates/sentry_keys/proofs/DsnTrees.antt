@@ -13,11 +13,10 @@ use Rattle.sentry_tables.specs.Lawful.{ScalarLaws, RefusesNull, is_ascii}
 use Rattle.sentry_tables.specs.Laws.{HasLaws}
 use Rattle.sentry_tables.specs.Meets.{IsReadable}
 use Rattle.sentry_tables.specs.Shows.{Shows}
-use Rattle.sentry_tables.proofs.Laws.{has_laws}
 use Rattle.sentry_tables.proofs.Sound.{ascii_text}
 use Rattle.sentry_members.specs.Cells.{natural_cell, option_cell}
 use Rattle.sentry_members.specs.Spelling.{SpellingLaws, spelled, ReadsSpelling}
-use Rattle.sentry_members.proofs.Spellings.{spelled_laws, shown_readable, spelled_refuses_null, text_tree}
+use Rattle.sentry_members.proofs.Spellings.{spelled_laws, spelled_has_laws, spelled_refuses_null, text_tree}
 use Rattle.sentry_keys.specs.declared.scheme.Scheme.{Scheme}
 use Rattle.sentry_keys.specs.declared.scheme.Scheme.TheVariants.{Http, Https}
 use Rattle.sentry_keys.specs.declared.dsn.Dsn.{Dsn}
@@ -50,35 +49,33 @@ cell_written c d e = ap written_text (sym e) ∙ parts_written d
 
 -- ---- the laws
 
-spelled_only : (c x : Cell) (d e : DsnParts) → parts_cell d ≡ c → IsDsnText (dsn_text d) d → parts_cell e ≡ x → IsDsnText (written_text c) e → x ≡ c
-spelled_only c x d e is own was other =
-    let same = one_dsn_text (dsn_text d) d e own (subst (λ s. IsDsnText s e) (cell_written c d is) other) in
-    sym was ∙ ap parts_cell (sym same) ∙ is
+spelled_one : (s : List ℕ) (c x : Cell) → dsn_spelling.spells s c → dsn_spelling.spells s x → c ≡ x
+spelled_one s c x (d, is, named) (e, also, other) = sym is ∙ ap parts_cell (one_dsn_text s d e named other) ∙ also
 
 pub dsn_laws : SpellingLaws dsn_spelling
 dsn_laws = record {
   back = λ c p q. (q.0, q.1, subst (λ s. IsDsnText s q.0) (sym (cell_written c q.0 q.1)) q.2);
-  only = λ c x p q h. spelled_only c x q.0 h.0 q.1 q.2 h.1 h.2;
+  one = spelled_one;
   again = λ c p. refl;
   stored_norm = λ c p. p;
   readable_norm = λ c p q. q;
   utf8 = λ c p. subst IsUtf8 (sym (cell_written c p.0 p.1)) p.2;
   spelled_stored = λ s c utf8 h. (h.0, h.1, IsUtf8-from_ascii (dsn_text h.0) (named_ascii s h.0 utf8 h.2));
+  spelled_readable = λ s c utf8 h. (h.0, h.1, named_reads_back s h.0 utf8 h.2);
   spelled_written = λ s c utf8 h. refl;
   decide = λ s.
       ⊎_elim (λ a. inl (parts_cell a.0, (a.0, refl, a.1)))
       (λ a. inr (λ c h. not_both_text s h.0 a.0 h.2 a.1)) (some_text_answer s);
 }
 
--- what a tree shows is readable
-pub dsn_shown_readable : (now : Cell) (d : Data) (c : Cell) → IsSound d → Shows dsn_kind now d c → IsReadable dsn_kind c
-dsn_shown_readable now d c sound h = shown_readable dsn_spelling (λ s c utf8 e. (e.0, e.1, named_reads_back s e.0 utf8 e.2)) d c sound h
-
 pub dsn_scalar_laws : ScalarLaws (spelled dsn_spelling)
 dsn_scalar_laws = spelled_laws dsn_spelling dsn_laws
 
+pub dsn_shown_readable : (now : Cell) (d : Data) (c : Cell) → IsSound d → Shows dsn_kind now d c → IsReadable dsn_kind c
+dsn_shown_readable now = dsn_scalar_laws.shown_readable
+
 pub dsn_has_laws : HasLaws dsn_kind
-dsn_has_laws = has_laws dsn_kind dsn_scalar_laws
+dsn_has_laws = spelled_has_laws dsn_spelling dsn_laws
 
 pub dsn_refuses_null : RefusesNull dsn_kind
 dsn_refuses_null = spelled_refuses_null dsn_spelling

@@ -1,6 +1,5 @@
 pub mod DsnCuts
 pub mod DsnSplits
-pub mod DsnSingle
 pub mod DsnAnswers
 pub mod DsnHosts
 pub mod DsnPaths
@@ -11,6 +10,7 @@ pub mod Equal
 pub mod AuthChoices
 pub mod AuthItems
 pub mod AuthLaws
+pub mod AuthMade
 pub mod AuthPairs
 pub mod AuthReadBack
 pub mod AuthTexts

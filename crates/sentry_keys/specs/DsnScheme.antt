@@ -12,3 +12,8 @@ default_port Https = 443
 abbrev pub scheme_text : Scheme → List ℕ
 scheme_text Http = codes "http"
 scheme_text Https = codes "https"
+
+-- the place of a scheme among the variants
+abbrev pub scheme_index : Scheme → ℕ
+scheme_index Http = 0
+scheme_index Https = 1

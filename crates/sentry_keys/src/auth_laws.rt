@@ -1,18 +1,19 @@
 // What holds of the definitions of authentications alone.
 ghost use Rattle.std.specs.Prelude.{◌≡◌, ◌⊎◌, ◌↔◌, List};
-ghost use Rattle.sentry_tables.specs.Laws.{ReadsBack, IsStable, IsRewritten, IsDecided};
+ghost use Rattle.sentry_tables.specs.Cell.{Cell, absent};
+ghost use Rattle.sentry_tables.specs.Laws.{HasLaws};
+ghost use Rattle.sentry_tables.specs.Lawful.{RefusesNull};
+ghost use Rattle.sentry_tables.specs.Norm.{norm};
 ghost use Rattle.sentry_keys.specs.Auth.{Pair, Parts, IsAuth, HasUnreadableVersion, HasNoKey};
 ghost use Rattle.sentry_keys.specs.AuthClean.{AreClean};
-ghost use Rattle.sentry_keys.specs.AuthFields.{auth_kind};
+ghost use Rattle.sentry_keys.specs.AuthFields.{auth_kind, IsBeside};
 ghost use Rattle.sentry_keys.specs.AuthText.{IsSentry, header_pairs, auth_text};
 
-/// The tree of an authentication shows its normal form, which has no moment, and nothing else; what a
-/// tree shows is written as its normal form is.
+/// Authentications in trees, which hold no moment: the normal form of each has none.
 pub fn auth_trees()
-    ensures back { ReadsBack auth_kind }
-    ensures stable { IsStable auth_kind }
-    ensures rewritten { IsRewritten auth_kind }
-    ensures decided { IsDecided auth_kind }
+    ensures laws { HasLaws auth_kind }
+    ensures null { RefusesNull auth_kind }
+    ensures untimed { (c : Cell) → IsBeside (λ time rows. time ≡ absent) (norm auth_kind c) }
 {}
 
 /// Each list of pairs tells one authentication, or is refused for one reason: a version that isn't a

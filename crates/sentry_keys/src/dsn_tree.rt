@@ -9,7 +9,8 @@ ghost use Rattle.sentry_keys.specs.DsnTree.{dsn_cell, dsn_kind, dsn_spelling};
 use crate::dsn::Dsn;
 use crate::dsn_error::ParseDsnError;
 use json::Writer;
-use sentry_members::{FromTree, Member, TreeError};
+use sentry_members::{FromTree, Member, TreeError, Way};
+use sentry_trees::Node;
 use serde_json::Value;
 use std::alloc::{AllocError, Global};
 
@@ -60,8 +61,13 @@ impl Member for Dsn {
         out.string(text.as_str())
     }
 
-    fn copy(&self) -> Result<Dsn, AllocError> {
+    #[tactic(auto, using(sentry_members::proofs::Ways::unchanged))]
+    fn remade(&self, _way: Way) -> Result<Dsn, AllocError> {
         self.clone()
+    }
+
+    fn is_null_tree(&self) -> bool {
+        false
     }
 
     fn is_plain(&self) -> bool {
@@ -72,8 +78,8 @@ impl Member for Dsn {
 
 impl FromTree for Dsn {
     #[tactic(auto, using(sentry_members::proofs::Spellings::text_read, sentry_members::proofs::Spellings::not_text))]
-    fn from_tree(alloc: Global, tree: &Value) -> Result<Dsn, TreeError> {
-        match tree.as_str() {
+    fn from_node<N: Node>(alloc: Global, node: &N) -> Result<Dsn, TreeError> {
+        match node.as_str() {
             Some(text) => dsn_of_text(alloc, text),
             None => Err(TreeError::Misfit),
         }

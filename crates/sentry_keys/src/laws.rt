@@ -9,14 +9,18 @@ ghost use Rattle.sentry_tables.specs.Laws.{HasLaws};
 ghost use Rattle.sentry_tables.specs.Lawful.{RefusesNull};
 ghost use Rattle.sentry_tables.specs.Meets.{IsReadable, IsStored};
 ghost use Rattle.sentry_tables.specs.Shows.{Shows};
+ghost use Rattle.std.specs.Ordering.{nat_cmp};
+ghost use Rattle.sentry_keys.specs.declared.auth.ParseAuthError.{ParseAuthError as ParseAuthErrors};
 ghost use Rattle.sentry_keys.specs.declared.dsn.Dsn.{Dsn as Dsns};
+ghost use Rattle.sentry_keys.specs.declared.scheme.Scheme.{Scheme as Schemes};
 ghost use Rattle.sentry_keys.specs.declared.dsn_error.ParseDsnError.{ParseDsnError};
 ghost use Rattle.sentry_keys.specs.Dsn.{DsnParts, IsDsn, IsDsnText, Refuses, IsRefused, dsn_parts, dsn_text, DsnReadsBack};
+ghost use Rattle.sentry_keys.specs.DsnScheme.{scheme_index};
 ghost use Rattle.sentry_keys.specs.DsnOrganization.{NamesOrganization};
 ghost use Rattle.sentry_keys.specs.DsnTree.{dsn_kind, parts_cell};
 
 pub use crate::auth_laws::{auth_texts, auth_trees, auths_of_pairs};
-use crate::dsn::Dsn;
+use crate::{Dsn, ParseAuthError, Scheme};
 
 /// Each URL is that of one DSN, or is refused with one error.
 pub fn dsns()
@@ -58,6 +62,17 @@ pub fn dsn_trees()
 /// Two DSNs are equal exactly where their parts are the same.
 pub fn equal_dsns()
     ensures { (a b : Dsns) → ⟦<Dsn as PartialEq>⟧.eq a b ≡ true ↔ (dsn_parts a ≡ dsn_parts b) }
+{}
+
+/// Two schemes, and two errors of authentications, are equal exactly where they are the same variant.
+pub fn equal_variants()
+    ensures schemes { (a b : Schemes) → ⟦<Scheme as PartialEq>⟧.eq a b ≡ true ↔ (a ≡ b) }
+    ensures errors { (a b : ParseAuthErrors) → ⟦<ParseAuthError as PartialEq>⟧.eq a b ≡ true ↔ (a ≡ b) }
+{}
+
+/// Of the schemes `Http` comes first.
+pub fn ordered_schemes()
+    ensures { (a b : Schemes) → ⟦<Scheme as Ord>⟧.cmp a b ≡ nat_cmp (scheme_index a) (scheme_index b) }
 {}
 
 /// A host names at most one organization.

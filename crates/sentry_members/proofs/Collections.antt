@@ -74,32 +74,32 @@ map_wrote K f es r a b c d x y z = object_wrote _ r a b c d x y z
 
 -- ---- copies
 
-cells-append : {A : Type 0} (f : A → Cell) (xs ys : List A) (x y : A) → cells f xs ≡ cells f ys → f x ≡ f y → cells f (xs ++ x ∷ []) ≡ cells f (ys ++ y ∷ [])
-cells-append f [] [] x y e s = ap (λ c. cell c no_cells) s
-cells-append f [] (z ∷ ys) x y e s = absurd cc
-cells-append f (z ∷ xs) [] x y e s = absurd cc
-cells-append f (u ∷ xs) (v ∷ ys) x y e s =
-    let a : f u ≡ f v = cc in
-    let b : cells f xs ≡ cells f ys = cc in
-    let r = cells-append f xs ys x y b s in cc
+cells-append : {A : Type 0} (f g : A → Cell) (xs ys : List A) (x y : A) → cells f xs ≡ cells g ys → f x ≡ g y → cells f (xs ++ x ∷ []) ≡ cells g (ys ++ y ∷ [])
+cells-append f g [] [] x y e s = ap (λ c. cell c no_cells) s
+cells-append f g [] (z ∷ ys) x y e s = absurd cc
+cells-append f g (z ∷ xs) [] x y e s = absurd cc
+cells-append f g (u ∷ xs) (v ∷ ys) x y e s =
+    let a : f u ≡ g v = cc in
+    let b : cells f xs ≡ cells g ys = cc in
+    let r = cells-append f g xs ys x y b s in cc
 
-pub copied_more : {A : Type 0} (f : A → Cell) (xs new ys : List A) (i : ℕ) (x y : A) → i < length ys → y ≡ get_or ys i y → new ≡ xs ++ x ∷ [] → cells f xs ≡ cells f (take i ys) → f x ≡ f y
-    → cells f new ≡ cells f (take (i + 1) ys)
-copied_more f xs new ys i x y lt at made e s = rw (take_more ys i y lt, ← at, made) (cells-append f xs (take i ys) x y e s)
+pub copied_more : {A : Type 0} (f g : A → Cell) (xs new ys : List A) (i : ℕ) (x y : A) → i < length ys → y ≡ get_or ys i y → new ≡ xs ++ x ∷ [] → cells f xs ≡ cells g (take i ys) → f x ≡ g y
+    → cells f new ≡ cells g (take (i + 1) ys)
+copied_more f g xs new ys i x y lt at made e s = rw (take_more ys i y lt, ← at, made) (cells-append f g xs (take i ys) x y e s)
 
-pub copied_entry : {A : Type 0} (f : A → Cell) (done : List (MapEntry A)) (e : MapEntry A) (more es : List (MapEntry A)) (name : String Global) (x : A) → IsStrictlySortedBy string_cmp (keys_of (done ++ e ∷ more)) → string_bytes name ≡ string_bytes e.0
-    → entries f es ≡ entries f done → f x ≡ f e.1 → entries f (insert_entry string_cmp es name x) ≡ entries f (done ++ e ∷ [])
+pub copied_entry : {A : Type 0} (f g : A → Cell) (done : List (MapEntry A)) (e : MapEntry A) (more es : List (MapEntry A)) (name : String Global) (x : A) → IsStrictlySortedBy string_cmp (keys_of (done ++ e ∷ more)) → string_bytes name ≡ string_bytes e.0
+    → entries f es ≡ entries g done → f x ≡ g e.1 → entries f (insert_entry string_cmp es name x) ≡ entries g (done ++ e ∷ [])
 unfolding IsStrictlySortedBy
-copied_entry f [] e more [] name x sorted named h s = rw (named, s)
-copied_entry f [] e more (y ∷ ys) name x sorted named h s = absurd cc
-copied_entry f (z ∷ done) e more [] name x sorted named h s = absurd cc
-copied_entry f (z ∷ done) e more (y ∷ ys) name x sorted named h s =
+copied_entry f g [] e more [] name x sorted named h s = rw (named, s)
+copied_entry f g [] e more (y ∷ ys) name x sorted named h s = absurd cc
+copied_entry f g (z ∷ done) e more [] name x sorted named h s = absurd cc
+copied_entry f g (z ∷ done) e more (y ∷ ys) name x sorted named h s =
     let key : string_bytes y.0 ≡ string_bytes z.0 = cc in
-    let val : f y.1 ≡ f z.1 = cc in
-    let rest : entries f ys ≡ entries f done = cc in
+    let val : f y.1 ≡ g z.1 = cc in
+    let rest : entries f ys ≡ entries g done = cc in
     let up : slice_cmp nat_cmp (string_bytes e.0) (string_bytes z.0) ≡ Greater = above_first z done e more sorted.0 in
     let above : string_cmp name y.0 ≡ Greater = ap (λ b. slice_cmp nat_cmp b (string_bytes y.0)) named ∙ ap (λ b. slice_cmp nat_cmp (string_bytes e.0) b) key ∙ up in
-    let r = copied_entry f done e more ys name x sorted.1 named rest s in
+    let r = copied_entry f g done e more ys name x sorted.1 named rest s in
     put_at f y ys (insert_entry string_cmp ys name x) name x _ refl above ∙ cc
 
 others_same : (xs ys : List Entry) → entries tree_cell xs ≡ entries tree_cell ys → members_view xs ≡ members_view ys

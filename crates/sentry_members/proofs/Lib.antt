@@ -2,7 +2,6 @@ pub mod Collections
 pub mod Equal
 pub mod ListsShown
 pub mod ScalarsShown
-pub mod Single
 pub mod Sorted
 pub mod SoundTrees
 pub mod Soundness
@@ -10,3 +9,4 @@ pub mod Spellings
 pub mod Texts
 pub mod Tokens
 pub mod ValuesShown
+pub mod Ways

@@ -2,9 +2,10 @@
 use Rattle.std.proofs.Common.{◌≡◌, ◌^◌, ◌<◌, ℕ, List, Option, Some, None, option_map, option_and_then, refl, sym, ap, subst, ◌∙◌, Bool, true, false, lt-ltb, cond, le-ltb, ltb-false, arith, ◌≤◌, SFits, w32}
 use Rattle.std.proofs.lemmas.Option.{none-some, same_Some}
 use Rattle.serde_json.specs.Data.{Num, unsigned, negative, float, Data, Items}
-use Rattle.serde_json.specs.Find.{as_array, as_str, as_bool, as_number, as_u64}
+use Rattle.serde_json.specs.Find.{as_array, as_str, as_bool, as_number, as_u64, as_i64}
+use Rattle.sentry_json.specs.Sound.{IsRanged}
 use Rattle.sentry_tables.specs.Cell.{Cell, text, truth, whole, any}
-use Rattle.std.specs.Prelude.{pos, negsuc, ℤ}
+use Rattle.std.specs.Prelude.{pos, negsuc, ℤ, IfSome, nat_lt}
 use Rattle.sentry_tables.specs.Basic.{whole_below, signed_at, IsWithin, pair_of}
 use Rattle.sentry_members.specs.Cells.{pair_cell}
 use Rattle.sentry_members.specs.Kinds.{text_kind, truth_kind, unsigned_kind, signed_kind, pair_kind, any_kind}
@@ -132,3 +133,20 @@ pair_refused d ds o is e none now c h = none-some c (sym (ap (option_and_then pa
 pub pair_shown : (d : Data) (ds : Items) (o : Option (ℕ × ℕ)) (p : ℕ × ℕ) → as_array d ≡ Some ds → option_map pair_cell o ≡ pair_of ds → o ≡ Some p → Shown pair_kind d (pair_cell p)
 unfolding Shown
 pair_shown d ds o p is e some now = ap (option_and_then pair_of) is ∙ sym e ∙ ap (option_map pair_cell) some
+
+seen_number : (n : Num) → IsRanged n → option_map whole (as_i64 n) ≡ signed_at (2 ^ 63) n
+seen_number (unsigned n) h = chose (nat_lt n (2 ^ 63)) n
+  where
+    chose : (b : Bool) (n : ℕ) → option_map whole (cond b (Some (pos n)) None) ≡ cond b (Some (whole (pos n))) None
+    chose true n = refl
+    chose false n = refl
+seen_number (negative (pos n)) h = absurd h
+seen_number (negative (negsuc n)) h = rw (lt-ltb n (2 ^ 63) h) refl
+seen_number (float x) h = refl
+
+seen_option : (o : Option Num) → IfSome o IsRanged → option_map whole (option_and_then as_i64 o) ≡ option_and_then (signed_at (2 ^ 63)) o
+seen_option None h = refl
+seen_option (Some n) h = seen_number n h
+
+pub signed_seen : (r : Option ℤ) (d : Data) → r ≡ option_and_then as_i64 (as_number d) → IfSome (as_number d) IsRanged → option_map whole r ≡ option_and_then (signed_at (2 ^ 63)) (as_number d)
+signed_seen r d e h = ap (option_map whole) e ∙ seen_option (as_number d) h

@@ -9,7 +9,9 @@ use Rattle.serde_json.specs.Find.{as_str}
 use Rattle.sentry_json.specs.Sound.{IsSound}
 use Rattle.sentry_tables.specs.Cell.{Cell}
 use Rattle.sentry_tables.specs.Lawful.{ScalarLaws, RefusesNull}
+use Rattle.sentry_tables.specs.Laws.{HasLaws}
 use Rattle.sentry_tables.proofs.Basic.{told}
+use Rattle.sentry_tables.proofs.Laws.{has_laws}
 use Rattle.sentry_members.specs.Reading.{Shown, Refused, Reads}
 use Rattle.sentry_members.specs.Spelling.{Spelling, Texted, spelled, spelled_kind, SpellingLaws, read_to, read_as, word_cell, word_of, IsWord, enumeration, ReadsSpelling}
 use Rattle.sentry_members.specs.Written.{written, WritesTree}
@@ -27,10 +29,14 @@ module _ (S : Spelling) where
   decided own None = inr (λ c h. h)
   decided own (Some s) = own.decide s
 
+  texted_one : SpellingLaws S → (o : Option (List ℕ)) (c x : Cell) → Texted S.spells o c → Texted S.spells o x → c ≡ x
+  texted_one own None c x h k = absurd h
+  texted_one own (Some s) c x h k = own.one s c x h k
+
   pub spelled_laws : SpellingLaws S → ScalarLaws (spelled S)
   spelled_laws own = record {
     back = λ c p q. own.back c p.0 q;
-    only = λ c x p q h. own.only c x p.0 q h;
+    single = λ d c x h k. texted_one own (as_str d) c x h k;
     again = λ c p. own.again c p.0;
     stored_norm = λ c p. own.stored_norm c p.0;
     plain_norm = λ c p. tt;
@@ -41,14 +47,14 @@ module _ (S : Spelling) where
     sound = λ c p. own.utf8 c p.0;
     shown_stored = λ d c sound h. from_text S.stored d c (λ s is e. own.spelled_stored s c (subst IsSound is sound) e) h;
     shown_plain = λ d c sound h. tt;
+    shown_readable = λ d c sound h. from_text S.readable d c (λ s is e. own.spelled_readable s c (subst IsSound is sound) e) h;
     shown_null = λ d c h e. absurd (false≢true e);
     shown_tree = λ d c sound h. from_text (λ x. string (S.written x) ≡ string (S.written (S.norm x))) d c (λ s is e. ap string (own.spelled_written s c (subst IsSound is sound) e)) h;
     decide = λ d. decided own (as_str d);
   }
 
-  -- what a tree shows is readable, where what a text spells is
-  pub shown_readable : ((s : List ℕ) (c : Cell) → IsUtf8 s → S.spells s c → S.readable c) → (d : Data) (c : Cell) → IsSound d → Texted S.spells (as_str d) c → S.readable c
-  shown_readable f d c sound h = from_text S.readable d c (λ s is e. f s c (subst IsSound is sound) e) h
+  pub spelled_has_laws : SpellingLaws S → HasLaws (spelled_kind S)
+  spelled_has_laws own = has_laws (spelled_kind S) (spelled_laws own)
 
   pub spelled_refuses_null : RefusesNull (spelled_kind S)
   spelled_refuses_null now c h = h
@@ -107,12 +113,13 @@ pub read_to_laws : (of_text : List ℕ → Option Cell) (to_text : Cell → List
     → ReadLaws of_text to_text norm Stored → SpellingLaws (read_to of_text to_text norm Stored)
 read_to_laws of_text to_text norm Stored own = record {
   back = λ c p q. own.reads c p;
-  only = λ c x p q h. same_Some x (norm c) (sym h ∙ own.reads c p);
+  one = λ s c x h k. same_Some c x (sym h ∙ k);
   again = λ c p. own.normal (to_text c) (norm c) (own.reads c p);
   stored_norm = λ c p. own.stored (to_text c) (norm c) (own.utf8 c p) (own.reads c p);
   readable_norm = λ c p q. tt;
   utf8 = own.utf8;
   spelled_stored = own.stored;
+  spelled_readable = λ s c utf8 h. tt;
   spelled_written = λ s c utf8 h. ap to_text (sym (own.normal s c h));
   decide = λ s. told (of_text s);
 }

@@ -1,6 +1,7 @@
 -- Lines, by what the reader of JSON and the reader of trees answer.
-use Rattle.std.proofs.Common.{◌≡◌, ℕ, List, true, false, Some, None, Result, Ok, Err, sym, ◌∙◌, inl, inr}
+use Rattle.std.proofs.Common.{◌≡◌, ℕ, List, true, false, Some, None, Result, Ok, Err, IfOk, subst, sym, ◌∙◌, inl, inr}
 use Rattle.std.proofs.lemmas.Option.{none-some, same_Some}
+use Rattle.std.specs.Prelude.{IfErr}
 use Rattle.std.specs.Str.{IsUtf8, is_utf8}
 use Rattle.std.proofs.lemmas.Bool.{cases_Bool}
 use Rattle.std.proofs.lemmas.Str.{IsUtf8-from_is_utf8, is_utf8-from_IsUtf8}
@@ -10,7 +11,7 @@ use Rattle.serde_json.specs.Written.{has_float}
 use Rattle.sentry_json.specs.Line.{tree_of}
 use Rattle.sentry_tables.specs.Cell.{Cell}
 use Rattle.sentry_tables.specs.Kind.{Kind}
-use Rattle.sentry_members.specs.Reading.{Only, Shown, Refused, Reads, TextShown, TextRefused, ReadsText, ShownAt, RefusedAt, ReadsAt, TextShownAt, TextRefusedAt, ReadsTextAt}
+use Rattle.sentry_members.specs.Reading.{Only, LineShows, LineRefused, Shown, Refused, TextShown, TextRefused, ReadsText, ShownAt, RefusedAt, TextShownAt, TextRefusedAt, ReadsTextAt}
 use Rattle.sentry_members.specs.declared.error.TreeError.{TreeError}
 use Rattle.sentry_members.specs.declared.error.TreeError.TheVariants.{Misfit, Memory}
 
@@ -34,24 +35,28 @@ module _ (line : List ℕ) where
 
 -- ---- what a line shows
 
-pub no_text : (K : Kind) (line : List ℕ) (e : TreeError) → Only e (tree_of line ≡ None) → Only e (TextRefused K line)
-unfolding TextRefused
-no_text K line Misfit none = λ now c h. none-some h.0 (sym none ∙ h.1)
-no_text K line Memory none = tt
+pub line_shows : (P : Data → Type 0) (line : List ℕ) (d : Data) → tree_of line ≡ Some d → P d → LineShows P line
+unfolding LineShows
+line_shows P line d is h = (d, is, h)
 
-pub text_read : {A : Type 0} (K : Kind) (f : A → Cell) (line : List ℕ) (d : Data) (r : Result A TreeError) → tree_of line ≡ Some d → Reads K f d r → ReadsText K f line r
-unfolding TextShown TextRefused Shown Refused
-text_read K f line d (Ok v) is h = λ now. (d, is, h now)
-text_read K f line d (Err Misfit) is h = λ now c s. h now c (rw (same_Some d s.0 (sym is ∙ s.1)) s.2)
-text_read K f line d (Err Memory) is h = tt
+pub line_refused : (P : Data → Type 0) (line : List ℕ) (d : Data) (e : TreeError) → tree_of line ≡ Some d → Only e (P d) → Only e (LineRefused P line)
+unfolding LineRefused
+line_refused P line d Misfit is h = λ x s. subst P (same_Some d x (sym is ∙ s)) h
+line_refused P line d Memory is h = tt
 
-pub no_text_at : (now : Cell) (K : Kind) (line : List ℕ) (e : TreeError) → Only e (tree_of line ≡ None) → Only e (TextRefusedAt now K line)
-unfolding TextRefusedAt
-no_text_at now K line Misfit none = λ c h. none-some h.0 (sym none ∙ h.1)
-no_text_at now K line Memory none = tt
+pub no_line : (P : Data → Type 0) (line : List ℕ) (e : TreeError) → Only e (tree_of line ≡ None) → Only e (LineRefused P line)
+unfolding LineRefused
+no_line P line Misfit none = λ d s. absurd (none-some d (sym none ∙ s))
+no_line P line Memory none = tt
 
-pub text_read_at : {A : Type 0} (now : Cell) (K : Kind) (f : A → Cell) (line : List ℕ) (d : Data) (r : Result A TreeError) → tree_of line ≡ Some d → ReadsAt now K f d r → ReadsTextAt now K f line r
-unfolding TextShownAt TextRefusedAt ShownAt RefusedAt
-text_read_at now K f line d (Ok v) is h = (d, is, h)
-text_read_at now K f line d (Err Misfit) is h = λ c s. h c (rw (same_Some d s.0 (sym is ∙ s.1)) s.2)
-text_read_at now K f line d (Err Memory) is h = tt
+pub text_read_by : {A : Type 0} (K : Kind) (f : A → Cell) (line : List ℕ) (r : Result A TreeError) → IfOk r (λ v. LineShows (λ d. Shown K d (f v)) line) → IfErr r (λ e. Only e (LineRefused (Refused K) line)) → ReadsText K f line r
+unfolding LineShows LineRefused TextShown TextRefused Shown Refused
+text_read_by K f line (Ok v) ok err = λ now. (ok.0, ok.1, ok.2 now)
+text_read_by K f line (Err Misfit) ok err = λ now c s. err s.0 s.1 now c s.2
+text_read_by K f line (Err Memory) ok err = tt
+
+pub text_read_by_at : {A : Type 0} (now : Cell) (K : Kind) (f : A → Cell) (line : List ℕ) (r : Result A TreeError) → IfOk r (λ v. LineShows (λ d. ShownAt now K d (f v)) line) → IfErr r (λ e. Only e (LineRefused (RefusedAt now K) line)) → ReadsTextAt now K f line r
+unfolding LineShows LineRefused TextShownAt TextRefusedAt ShownAt RefusedAt
+text_read_by_at now K f line (Ok v) ok err = ok
+text_read_by_at now K f line (Err Misfit) ok err = λ c s. err s.0 s.1 c s.2
+text_read_by_at now K f line (Err Memory) ok err = tt

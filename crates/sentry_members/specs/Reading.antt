@@ -1,7 +1,8 @@
 -- What a reader of a tree answers.
-use Rattle.std.specs.Prelude.{ℕ, List, Result, Ok, Err}
+use Rattle.std.specs.Prelude.{◌≡◌, ℕ, List, Some, Result, Ok, Err}
 use Rattle.serde_json.specs.Data.{Data}
 use Rattle.serde_json.specs.Find.{get}
+use Rattle.sentry_json.specs.Line.{tree_of}
 use Rattle.sentry_tables.specs.Cell.{Cell}
 use Rattle.sentry_tables.specs.Kind.{Rule, Kind}
 use Rattle.sentry_tables.specs.Shows.{Shows, RowShows}
@@ -61,6 +62,14 @@ ReadsRow key r K f d (Ok v) = RowShown key r K d (f v)
 ReadsRow key r K f d (Err e) = Only e (RowRefused key r K d)
 
 -- ---- lines of text
+
+-- the line has a tree of which P holds
+unfoldable pub LineShows : (Data → Type 0) → List ℕ → Type 0
+LineShows P line = (d : Data) × (tree_of line ≡ Some d) × P d
+
+-- of the tree of the line, if it has one, P holds
+unfoldable pub LineRefused : (Data → Type 0) → List ℕ → Type 0
+LineRefused P line = (d : Data) → tree_of line ≡ Some d → P d
 
 -- at every moment the line shows the value
 unfoldable pub TextShown : Kind → List ℕ → Cell → Type 0

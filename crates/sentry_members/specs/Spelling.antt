@@ -1,5 +1,5 @@
 -- Values that stand in a tree as texts.
-use Rattle.std.specs.Prelude.{◌≡◌, ◌⊎◌, ℕ, List, false, Option, Some, None, option_map, [], Result, Ok, Err, IsUtf8, ⊤}
+use Rattle.std.specs.Prelude.{◌≡◌, ◌⊎◌, ◌≤◌, ℕ, List, length, false, Option, Some, None, option_map, [], Result, Ok, Err, IsUtf8, ⊤}
 use Rattle.serde_json.specs.Data.{string}
 use Rattle.serde_json.specs.Find.{as_str}
 use Rattle.sentry_tables.specs.Cell.{Cell, text}
@@ -38,18 +38,27 @@ spelled S = record {
 abbrev pub spelled_kind : Spelling → Kind
 spelled_kind S = scalar (spelled S)
 
+-- the room for the text of a value that keeps none of its own
+abbrev pub FitsRoom : List ℕ → Type 0
+FitsRoom s = length s ≤ 64
+
+-- a text spells at most one value
+abbrev pub SpellsOne : Spelling → Type 0
+SpellsOne S = (s : List ℕ) (c x : Cell) → S.spells s c → S.spells s x → c ≡ x
+
 -- What a spelling owes, of values that are stored.
 pub record SpellingLaws (S : Spelling) : Type 0 where
-  -- the written text spells the normal form and nothing else
+  -- the written text spells the normal form, and so nothing else, since no text spells two values
   pub back : (c : Cell) → S.stored c → S.readable c → S.spells (S.written c) (S.norm c)
-  pub only : (c x : Cell) → S.stored c → S.readable c → S.spells (S.written c) x → x ≡ S.norm c
+  pub one : SpellsOne S
   -- the normal form is its own, and is stored, and readable where the value is
   pub again : (c : Cell) → S.stored c → S.norm (S.norm c) ≡ S.norm c
   pub stored_norm : (c : Cell) → S.stored c → S.stored (S.norm c)
   pub readable_norm : (c : Cell) → S.stored c → S.readable c → S.readable (S.norm c)
   pub utf8 : (c : Cell) → S.stored c → IsUtf8 (S.written c)
-  -- what is spelled is stored, and is written as its normal form is
+  -- what is spelled is stored and readable, and is written as its normal form is
   pub spelled_stored : (s : List ℕ) (c : Cell) → IsUtf8 s → S.spells s c → S.stored c
+  pub spelled_readable : (s : List ℕ) (c : Cell) → IsUtf8 s → S.spells s c → S.readable c
   pub spelled_written : (s : List ℕ) (c : Cell) → IsUtf8 s → S.spells s c → S.written c ≡ S.written (S.norm c)
   -- some value is spelled, or none is
   pub decide : (s : List ℕ) → ((c : Cell) × S.spells s c) ⊎ ((c : Cell) → S.spells s c → ⊥)

@@ -9,6 +9,7 @@ ghost use Rattle.sentry_members.specs.Written.{WritesTree, WritesItems, WritesMe
 
 use crate::member::Member;
 use crate::tree::has_float;
+use crate::way::Way;
 use json::Writer;
 use serde_json::{Map, Number, Value};
 use std::alloc::{AllocError, Global};
@@ -28,8 +29,14 @@ impl Member for Value {
         write_value(self, out)
     }
 
-    fn copy(&self) -> Result<Value, AllocError> {
+    #[tactic(auto, using(crate::proofs::Ways::unchanged))]
+    fn remade(&self, _way: Way) -> Result<Value, AllocError> {
         self.clone()
+    }
+
+    #[tactic(auto, using(crate::proofs::Ways::tree_null))]
+    fn is_null_tree(&self) -> bool {
+        self.is_null()
     }
 
     #[tactic(auto, using(crate::proofs::SoundTrees::sound_is_stored))]

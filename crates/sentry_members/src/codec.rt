@@ -4,12 +4,15 @@ ghost use Rattle.std.specs.Prelude.{◌≡◌, ◌↔◌, IfOk, IsTrue, OnOk};
 ghost use Rattle.serde_json.specs.View.{view};
 ghost use Rattle.sentry_tables.specs.Cell.{Cell, same_cell};
 ghost use Rattle.sentry_tables.specs.Kind.{Kind};
-ghost use Rattle.sentry_tables.specs.Norm.{norm};
+ghost use Rattle.sentry_tables.specs.Norm.{norm, is_null_of};
 ghost use Rattle.sentry_tables.specs.Meets.{IsPlain, IsStored, IsOptional};
 ghost use Rattle.sentry_members.specs.Cells.{option_cell};
+ghost use Rattle.sentry_members.specs.Made.{made, row_made};
+ghost use Rattle.sentry_tables.specs.Kind.{may, may_null, may_strict};
 ghost use Rattle.sentry_members.specs.Written.{written, WritesTree};
 
 use crate::member::{Defaulted, Member};
+use crate::way::Way;
 use json::Writer;
 use serde_json::Value;
 use std::alloc::{AllocError, Global};
@@ -28,9 +31,21 @@ pub trait Codec<T> {
     fn write(value: &T, out: &mut Writer) -> Result<(), AllocError>
         ensures { OnOk result (WritesTree (written kind (cell_of value.now)) out.old out.new) };
 
-    /// A value with the same form. It fails where memory runs out.
-    fn copy(value: &T) -> Result<T, AllocError>
-        ensures { IfOk result (λ v. cell_of v ≡ cell_of value.now) };
+    /// The same value, or its normal form. It fails where memory runs out.
+    fn remade(value: &T, way: Way) -> Result<T, AllocError>
+        ensures { IfOk result (λ v. cell_of v ≡ made way kind (cell_of value.now)) };
+
+    /// Whether the value is the tree null.
+    fn is_null_tree(value: &T) -> bool
+        ensures { result ≡ is_null_of kind (cell_of value.now) };
+
+    /// The same value. It fails where memory runs out.
+    #[tactic(auto, unfolding(crate::specs::Made::made))]
+    final fn copy(value: &T) -> Result<T, AllocError>
+        ensures { IfOk result (λ v. cell_of v ≡ cell_of value.now) }
+    {
+        Self::remade(value, Way::Same)
+    }
 
     /// Whether the value's trees hold no floats, and no member that no row names clashes with a row.
     fn is_plain(value: &T) -> bool
@@ -54,8 +69,12 @@ impl<T: Member> Codec<T> for Own {
         value.write(out)
     }
 
-    fn copy(value: &T) -> Result<T, AllocError> {
-        value.copy()
+    fn remade(value: &T, way: Way) -> Result<T, AllocError> {
+        value.remade(way)
+    }
+
+    fn is_null_tree(value: &T) -> bool {
+        value.is_null_tree()
     }
 
     fn is_plain(value: &T) -> bool {
@@ -77,6 +96,40 @@ impl<T: Defaulted> DefaultedCodec<T> for Own {
 
     fn is_usual(value: &T) -> bool {
         value.is_usual()
+    }
+}
+
+/// A row that may be absent or null, made anew. It fails where memory runs out.
+#[tactic(auto, using(crate::proofs::Ways::null_made, crate::proofs::Ways::there_made, crate::proofs::Ways::absent_made))]
+pub fn remade_option_as<F: Codec<T>, T>(
+    value: &Option<T>,
+    way: Way,
+) -> Result<Option<T>, AllocError>
+    ensures { IfOk result (λ v. option_cell F.cell_of v ≡ row_made way may F.kind (option_cell F.cell_of value.now)) }
+{
+    match value {
+        Some(value) => {
+            if way == Way::Normal && F::is_null_tree(value) {
+                Ok(None)
+            } else {
+                Ok(Some(F::remade(value, way)?))
+            }
+        }
+        None => Ok(None),
+    }
+}
+
+/// A row that may be absent, but not null, made anew. It fails where memory runs out.
+#[tactic(auto, using(crate::proofs::Ways::strict_made, crate::proofs::Ways::strict_absent_made))]
+pub fn remade_strict_as<F: Codec<T>, T>(
+    value: &Option<T>,
+    way: Way,
+) -> Result<Option<T>, AllocError>
+    ensures { IfOk result (λ v. option_cell F.cell_of v ≡ row_made way may_strict F.kind (option_cell F.cell_of value.now)) }
+{
+    match value {
+        Some(value) => Ok(Some(F::remade(value, way)?)),
+        None => Ok(None),
     }
 }
 

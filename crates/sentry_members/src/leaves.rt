@@ -6,6 +6,7 @@ ghost use Rattle.sentry_members.specs.Cells.{text_cell, cow_cell, natural_cell, 
 ghost use Rattle.sentry_members.specs.Kinds.{text_kind, truth_kind, unsigned_kind, signed_kind, pair_kind};
 
 use crate::member::Member;
+use crate::way::Way;
 use json::Writer;
 use serde_json::Value;
 use std::alloc::{AllocError, Global};
@@ -26,8 +27,13 @@ impl Member for String {
         out.string(self.as_str())
     }
 
-    fn copy(&self) -> Result<String, AllocError> {
+    #[tactic(auto, using(crate::proofs::Ways::unchanged))]
+    fn remade(&self, _way: Way) -> Result<String, AllocError> {
         self.clone()
+    }
+
+    fn is_null_tree(&self) -> bool {
+        false
     }
 
     fn is_plain(&self) -> bool {
@@ -51,8 +57,13 @@ impl Member for bool {
         out.boolean(*self)
     }
 
-    fn copy(&self) -> Result<bool, AllocError> {
+    #[tactic(auto, using(crate::proofs::Ways::unchanged))]
+    fn remade(&self, _way: Way) -> Result<bool, AllocError> {
         Ok(*self)
+    }
+
+    fn is_null_tree(&self) -> bool {
+        false
     }
 
     fn is_plain(&self) -> bool {
@@ -75,8 +86,13 @@ impl Member for u8 {
         out.u64(u64::from(*self))
     }
 
-    fn copy(&self) -> Result<u8, AllocError> {
+    #[tactic(auto, using(crate::proofs::Ways::unchanged))]
+    fn remade(&self, _way: Way) -> Result<u8, AllocError> {
         Ok(*self)
+    }
+
+    fn is_null_tree(&self) -> bool {
+        false
     }
 
     fn is_plain(&self) -> bool {
@@ -100,8 +116,13 @@ impl Member for u16 {
         out.u64(u64::from(*self))
     }
 
-    fn copy(&self) -> Result<u16, AllocError> {
+    #[tactic(auto, using(crate::proofs::Ways::unchanged))]
+    fn remade(&self, _way: Way) -> Result<u16, AllocError> {
         Ok(*self)
+    }
+
+    fn is_null_tree(&self) -> bool {
+        false
     }
 
     fn is_plain(&self) -> bool {
@@ -125,8 +146,13 @@ impl Member for u32 {
         out.u64(u64::from(*self))
     }
 
-    fn copy(&self) -> Result<u32, AllocError> {
+    #[tactic(auto, using(crate::proofs::Ways::unchanged))]
+    fn remade(&self, _way: Way) -> Result<u32, AllocError> {
         Ok(*self)
+    }
+
+    fn is_null_tree(&self) -> bool {
+        false
     }
 
     fn is_plain(&self) -> bool {
@@ -150,8 +176,13 @@ impl Member for u64 {
         out.u64(*self)
     }
 
-    fn copy(&self) -> Result<u64, AllocError> {
+    #[tactic(auto, using(crate::proofs::Ways::unchanged))]
+    fn remade(&self, _way: Way) -> Result<u64, AllocError> {
         Ok(*self)
+    }
+
+    fn is_null_tree(&self) -> bool {
+        false
     }
 
     fn is_plain(&self) -> bool {
@@ -175,8 +206,13 @@ impl Member for i32 {
         out.i64(i64::from(*self))
     }
 
-    fn copy(&self) -> Result<i32, AllocError> {
+    #[tactic(auto, using(crate::proofs::Ways::unchanged))]
+    fn remade(&self, _way: Way) -> Result<i32, AllocError> {
         Ok(*self)
+    }
+
+    fn is_null_tree(&self) -> bool {
+        false
     }
 
     fn is_plain(&self) -> bool {
@@ -200,8 +236,13 @@ impl Member for i64 {
         out.i64(*self)
     }
 
-    fn copy(&self) -> Result<i64, AllocError> {
+    #[tactic(auto, using(crate::proofs::Ways::unchanged))]
+    fn remade(&self, _way: Way) -> Result<i64, AllocError> {
         Ok(*self)
+    }
+
+    fn is_null_tree(&self) -> bool {
+        false
     }
 
     fn is_plain(&self) -> bool {
@@ -231,8 +272,13 @@ impl Member for (u64, u64) {
         out.end_array()
     }
 
-    fn copy(&self) -> Result<(u64, u64), AllocError> {
+    #[tactic(auto, using(crate::proofs::Ways::unchanged))]
+    fn remade(&self, _way: Way) -> Result<(u64, u64), AllocError> {
         Ok(*self)
+    }
+
+    fn is_null_tree(&self) -> bool {
+        false
     }
 
     fn is_plain(&self) -> bool {
@@ -257,8 +303,13 @@ impl<'a> Member for CowStr<'a> {
         out.string(self.as_str())
     }
 
-    fn copy(&self) -> Result<CowStr<'a>, AllocError> {
+    #[tactic(auto, using(crate::proofs::Ways::unchanged))]
+    fn remade(&self, _way: Way) -> Result<CowStr<'a>, AllocError> {
         self.clone()
+    }
+
+    fn is_null_tree(&self) -> bool {
+        false
     }
 
     fn is_plain(&self) -> bool {

@@ -16,11 +16,13 @@ pub mod read;
 pub mod spelled;
 pub mod text;
 pub mod tree;
+pub mod way;
 
 pub use codec::{Codec, Own};
 pub use error::TreeError;
-pub use line::{read_line, read_tree, whole};
-pub use member::Member;
+pub use line::{ReadsNode, read_line, read_line_by, read_line_with, read_tree, whole};
+pub use member::{Formed, Member};
 pub use read::{FromTree, ReadCodec};
-pub use spelled::{Room, Spelled};
+pub use spelled::{AsText, Room, Spelled};
 pub use text::{text_of, write_text};
+pub use way::Way;

@@ -1,15 +1,18 @@
 //! Lines of JSON, read.
 
 ghost use Rattle.std.specs.Prelude.{◌≡◌, ◌↔◌, IsTrue, IfOk, IfErr, Some, None, false};
+ghost use Rattle.serde_json.specs.Data.{Data};
 ghost use Rattle.serde_json.specs.View.{view};
 ghost use Rattle.serde_json.specs.Written.{has_float};
 ghost use Rattle.sentry_json.specs.Line.{tree_of};
 ghost use Rattle.sentry_json.specs.Sound.{IsSound};
-ghost use Rattle.sentry_members.specs.Reading.{Only, ReadsText};
+ghost use Rattle.sentry_members.specs.Reading.{Only, LineShows, LineRefused, ReadsText, Shown, Refused};
 
 use crate::error::TreeError;
 use crate::read::FromTree;
 use crate::tree::has_float;
+use json::Scratch;
+use sentry_trees::{Line, LineError, Node};
 use serde_json::Value;
 use std::alloc::Global;
 
@@ -25,6 +28,7 @@ pub fn whole(tree: &Value) -> bool
 /// float.
 ///
 /// Fails with `Misfit` where the line has no tree, and with `Memory` where memory is refused.
+#[inline(never)]
 pub fn read_tree(alloc: Global, line: &[u8]) -> Result<Value, TreeError>
     ensures ok { IfOk result (λ tree. tree_of line.now ≡ Some (view tree)) }
     ensures sound { IfOk result (λ tree. IsSound (view tree)) }
@@ -38,13 +42,96 @@ pub fn read_tree(alloc: Global, line: &[u8]) -> Result<Value, TreeError>
     }
 }
 
-/// The value that a line shows.
+/// What reads a value of type `T` at a node of a tree.
+pub trait ReadsNode<T>: Drop {
+    ghost shown: { Self → Data → T → Type 0 };
+
+    ghost refused: { Self → Data → Type 0 };
+
+    /// The value that the tree at a node shows.
+    ///
+    /// Fails with `Misfit` where the tree shows none, and with `Memory` where memory is refused.
+    fn read<N: Node>(self, alloc: Global, node: &N) -> Result<T, TreeError>
+        ensures ok { IfOk result (λ value. shown self (N.data_of node.now) value) }
+        ensures err { IfErr result (λ e. Only e (refused self (N.data_of node.now))) };
+}
+
+/// The value that a line shows, by what reads it at a node.
+///
+/// The line is read through a tape, and through a tree of values where a tape doesn't serve: both are
+/// read by the same reader.
 ///
 /// Fails with `Misfit` where the line shows none, and with `Memory` where memory is refused.
-#[tactic(auto, using(crate::proofs::Texts::no_text, crate::proofs::Texts::text_read))]
+#[tactic(auto, using(crate::proofs::Texts::line_shows, crate::proofs::Texts::line_refused, crate::proofs::Texts::no_line))]
+pub fn read_line_by<T, R: ReadsNode<T>>(
+    alloc: Global,
+    line: &[u8],
+    scratch: &mut Scratch,
+    reader: R,
+) -> Result<T, TreeError>
+    ensures ok { IfOk result (λ value. LineShows (λ d. R.shown reader d value) line.now) }
+    ensures err { IfErr result (λ e. Only e (LineRefused (λ d. R.refused reader d) line.now)) }
+{
+    match Line::parse(line, scratch, Vec::new(alloc)) {
+        Ok(read) => {
+            let root = read.root();
+            reader.read(alloc, &root)
+        }
+        Err(LineError::Misfit) => Err(TreeError::Misfit),
+        Err(LineError::Memory) => Err(TreeError::Memory),
+        Err(LineError::Unfit) => read_as_tree(alloc, line, reader),
+    }
+}
+
+/// The value that a line shows, through a tree of values.
+#[cold]
+#[inline(never)]
+#[tactic(auto, using(crate::proofs::Texts::line_shows, crate::proofs::Texts::line_refused, crate::proofs::Texts::no_line))]
+fn read_as_tree<T, R: ReadsNode<T>>(alloc: Global, line: &[u8], reader: R) -> Result<T, TreeError>
+    ensures ok { IfOk result (λ value. LineShows (λ d. R.shown reader d value) line.now) }
+    ensures err { IfErr result (λ e. Only e (LineRefused (λ d. R.refused reader d) line.now)) }
+{
+    let tree = read_tree(alloc, line)?;
+    reader.read(alloc, &&tree)
+}
+
+/// The reader of a type whose values are shown by a tree alone.
+#[derive(Drop)]
+struct Plainly;
+
+impl<T: FromTree> ReadsNode<T> for Plainly {
+    ghost shown = { λ reader d value. Shown T.kind d (T.cell_of value) };
+
+    ghost refused = { λ reader d. Refused T.kind d };
+
+    fn read<N: Node>(self, alloc: Global, node: &N) -> Result<T, TreeError> {
+        T::from_node(alloc, node)
+    }
+}
+
+/// The value that a line shows.
+///
+/// A reader of many lines makes one `Scratch` and calls [`read_line_with`].
+///
+/// Fails with `Misfit` where the line shows none, and with `Memory` where memory is refused.
+#[inline(never)]
 pub fn read_line<T: FromTree>(alloc: Global, line: &[u8]) -> Result<T, TreeError>
     ensures { ReadsText T.kind T.cell_of line.now result }
 {
-    let tree = read_tree(alloc, line)?;
-    T::from_tree(alloc, &tree)
+    let mut scratch = Scratch::new(alloc);
+    read_line_with(alloc, line, &mut scratch)
+}
+
+/// The value that a line shows, with the memory that reading needs handed in.
+///
+/// Fails with `Misfit` where the line shows none, and with `Memory` where memory is refused.
+#[tactic(auto, using(crate::proofs::Texts::text_read_by))]
+pub fn read_line_with<T: FromTree>(
+    alloc: Global,
+    line: &[u8],
+    scratch: &mut Scratch,
+) -> Result<T, TreeError>
+    ensures { ReadsText T.kind T.cell_of line.now result }
+{
+    read_line_by(alloc, line, scratch, Plainly)
 }

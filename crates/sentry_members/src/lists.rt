@@ -4,6 +4,7 @@ ghost use Rattle.sentry_tables.specs.Kind.{list as list_kind, map as map_kind};
 ghost use Rattle.sentry_members.specs.Cells.{list_cell, map_cell};
 
 use crate::member::Member;
+use crate::way::Way;
 use json::Writer;
 use serde_json::{Map, Value, put};
 use std::alloc::{AllocError, Global};
@@ -30,12 +31,16 @@ impl<T: Member> Member for Vec<T> {
         out.end_array()
     }
 
-    fn copy(&self) -> Result<Vec<T>, AllocError> {
+    fn remade(&self, way: Way) -> Result<Vec<T>, AllocError> {
         let mut list = Vec::with_capacity(*self.allocator(), self.len())?;
         for item in self {
-            list.push(item.copy()?)?;
+            list.push(item.remade(way)?)?;
         }
         Ok(list)
+    }
+
+    fn is_null_tree(&self) -> bool {
+        false
     }
 
     fn is_plain(&self) -> bool {
@@ -70,13 +75,17 @@ impl<T: Member> Member for Map<String, T> {
         out.end_object()
     }
 
-    fn copy(&self) -> Result<Map<String, T>, AllocError> {
+    fn remade(&self, way: Way) -> Result<Map<String, T>, AllocError> {
         let mut map = Map::emptied(self)?;
         for (key, value) in self.iter() {
             let name = key.clone()?;
-            drop(map.insert(name, value.copy()?)?);
+            drop(map.insert(name, value.remade(way)?)?);
         }
         Ok(map)
+    }
+
+    fn is_null_tree(&self) -> bool {
+        false
     }
 
     fn is_plain(&self) -> bool {

@@ -2,7 +2,8 @@
 
 ghost use Rattle.std.specs.Prelude.{◌≡◌, ◌^◌, option_map, option_and_then};
 ghost use Rattle.serde_json.specs.Find.{as_number};
-ghost use Rattle.serde_json.specs.View.{view, items_view};
+ghost use Rattle.serde_json.specs.View.{view};
+ghost use Rattle.sentry_trees.specs.Nodes.{items_by};
 ghost use Rattle.sentry_tables.specs.Basic.{signed_at, pair_of};
 ghost use Rattle.sentry_tables.specs.Cell.{whole};
 ghost use Rattle.sentry_tables.specs.Kind.{values as values_kind};
@@ -11,39 +12,58 @@ ghost use Rattle.sentry_members.specs.Reading.{Reads};
 
 use crate::codec::{Codec, Own};
 use crate::error::TreeError;
-use crate::member::Member;
+use crate::member::{Formed, Member};
+use sentry_trees::Node;
 use serde_json::{Map, Value};
 use std::alloc::Global;
 use std::borrow::CowStr;
 
 /// A type whose values are shown by a tree alone.
 pub trait FromTree: Member {
+    /// The value that the tree at a node shows.
+    ///
+    /// Fails with `Misfit` where the tree shows none, and with `Memory` where memory is refused.
+    fn from_node<N: Node>(alloc: Global, node: &N) -> Result<Self, TreeError>
+        ensures { Reads Self.kind Self.cell_of (N.data_of node.now) result };
+
     /// The value that a tree shows.
     ///
     /// Fails with `Misfit` where the tree shows none, and with `Memory` where memory is refused.
-    fn from_tree(alloc: Global, tree: &Value) -> Result<Self, TreeError>
-        ensures { Reads Self.kind Self.cell_of (view tree.now) result };
+    final fn from_tree(alloc: Global, tree: &Value) -> Result<Self, TreeError>
+        ensures { Reads Self.kind Self.cell_of (view tree.now) result }
+    {
+        Self::from_node(alloc, &tree)
+    }
 }
 
 /// A form whose values are shown by a tree alone.
 pub trait ReadCodec<T>: Codec<T> {
-    /// The value that a tree shows.
+    /// The value that the tree at a node shows.
     ///
     /// Fails with `Misfit` where the tree shows none, and with `Memory` where memory is refused.
-    fn from_tree(alloc: Global, tree: &Value) -> Result<T, TreeError>
-        ensures { Reads Self.kind Self.cell_of (view tree.now) result };
+    fn from_node<N: Node>(alloc: Global, node: &N) -> Result<T, TreeError>
+        ensures { Reads Self.kind Self.cell_of (N.data_of node.now) result };
 }
 
 impl<T: FromTree> ReadCodec<T> for Own {
-    fn from_tree(alloc: Global, tree: &Value) -> Result<T, TreeError> {
-        T::from_tree(alloc, tree)
+    fn from_node<N: Node>(alloc: Global, node: &N) -> Result<T, TreeError> {
+        T::from_node(alloc, node)
+    }
+}
+
+impl<T: Formed> FromTree for T
+where
+    T::Form: ReadCodec<T>,
+{
+    fn from_node<N: Node>(alloc: Global, node: &N) -> Result<T, TreeError> {
+        <T::Form as ReadCodec<T>>::from_node(alloc, node)
     }
 }
 
 impl FromTree for String {
     #[tactic(auto, using(crate::proofs::ScalarsShown::text_refused, crate::proofs::ScalarsShown::text_shown))]
-    fn from_tree(alloc: Global, tree: &Value) -> Result<String, TreeError> {
-        match tree.as_str() {
+    fn from_node<N: Node>(alloc: Global, node: &N) -> Result<String, TreeError> {
+        match node.as_str() {
             Some(text) => Ok(String::from_str(alloc, text)?),
             None => Err(TreeError::Misfit),
         }
@@ -52,8 +72,8 @@ impl FromTree for String {
 
 impl<'a> FromTree for CowStr<'a> {
     #[tactic(auto, using(crate::proofs::ScalarsShown::text_refused, crate::proofs::ScalarsShown::text_shown))]
-    fn from_tree(alloc: Global, tree: &Value) -> Result<CowStr<'a>, TreeError> {
-        match tree.as_str() {
+    fn from_node<N: Node>(alloc: Global, node: &N) -> Result<CowStr<'a>, TreeError> {
+        match node.as_str() {
             Some(text) => Ok(CowStr::Owned(String::from_str(alloc, text)?)),
             None => Err(TreeError::Misfit),
         }
@@ -62,8 +82,8 @@ impl<'a> FromTree for CowStr<'a> {
 
 impl FromTree for bool {
     #[tactic(auto, using(crate::proofs::ScalarsShown::truth_refused, crate::proofs::ScalarsShown::truth_shown))]
-    fn from_tree(_alloc: Global, tree: &Value) -> Result<bool, TreeError> {
-        match tree.as_bool() {
+    fn from_node<N: Node>(_alloc: Global, node: &N) -> Result<bool, TreeError> {
+        match node.as_bool() {
             Some(truth) => Ok(truth),
             None => Err(TreeError::Misfit),
         }
@@ -71,8 +91,8 @@ impl FromTree for bool {
 }
 
 impl FromTree for u8 {
-    fn from_tree(_alloc: Global, tree: &Value) -> Result<u8, TreeError> {
-        match tree.as_u64() {
+    fn from_node<N: Node>(_alloc: Global, node: &N) -> Result<u8, TreeError> {
+        match node.as_u64() {
             Some(number) => match u8::try_from(number) {
                 Ok(number) => Ok(number),
                 Err(_) => Err(TreeError::Misfit),
@@ -83,8 +103,8 @@ impl FromTree for u8 {
 }
 
 impl FromTree for u16 {
-    fn from_tree(_alloc: Global, tree: &Value) -> Result<u16, TreeError> {
-        match tree.as_u64() {
+    fn from_node<N: Node>(_alloc: Global, node: &N) -> Result<u16, TreeError> {
+        match node.as_u64() {
             Some(number) => match u16::try_from(number) {
                 Ok(number) => Ok(number),
                 Err(_) => Err(TreeError::Misfit),
@@ -95,8 +115,8 @@ impl FromTree for u16 {
 }
 
 impl FromTree for u32 {
-    fn from_tree(_alloc: Global, tree: &Value) -> Result<u32, TreeError> {
-        match tree.as_u64() {
+    fn from_node<N: Node>(_alloc: Global, node: &N) -> Result<u32, TreeError> {
+        match node.as_u64() {
             Some(number) => match u32::try_from(number) {
                 Ok(number) => Ok(number),
                 Err(_) => Err(TreeError::Misfit),
@@ -107,8 +127,8 @@ impl FromTree for u32 {
 }
 
 impl FromTree for u64 {
-    fn from_tree(_alloc: Global, tree: &Value) -> Result<u64, TreeError> {
-        match tree.as_u64() {
+    fn from_node<N: Node>(_alloc: Global, node: &N) -> Result<u64, TreeError> {
+        match node.as_u64() {
             Some(natural) => Ok(natural),
             None => Err(TreeError::Misfit),
         }
@@ -116,19 +136,16 @@ impl FromTree for u64 {
 }
 
 /// The whole number of a tree, if it is one that 64 bits hold with its sign.
-fn signed(tree: &Value) -> Option<i64>
+fn signed<N: Node>(node: &N) -> Option<i64>
     ensures { option_map whole result
-        ≡ option_and_then (signed_at (2 ^ 63)) (as_number (view tree.now)) }
+        ≡ option_and_then (signed_at (2 ^ 63)) (as_number (N.data_of node.now)) }
 {
-    match tree.as_number() {
-        Some(number) => number.as_i64(),
-        None => None,
-    }
+    node.as_i64()
 }
 
 impl FromTree for i32 {
-    fn from_tree(_alloc: Global, tree: &Value) -> Result<i32, TreeError> {
-        match signed(tree) {
+    fn from_node<N: Node>(_alloc: Global, node: &N) -> Result<i32, TreeError> {
+        match signed(node) {
             Some(number) => match i32::try_from(number) {
                 Ok(number) => Ok(number),
                 Err(_) => Err(TreeError::Misfit),
@@ -139,8 +156,8 @@ impl FromTree for i32 {
 }
 
 impl FromTree for i64 {
-    fn from_tree(_alloc: Global, tree: &Value) -> Result<i64, TreeError> {
-        match signed(tree) {
+    fn from_node<N: Node>(_alloc: Global, node: &N) -> Result<i64, TreeError> {
+        match signed(node) {
             Some(number) => Ok(number),
             None => Err(TreeError::Misfit),
         }
@@ -149,14 +166,14 @@ impl FromTree for i64 {
 
 impl FromTree for Value {
     #[tactic(auto, using(crate::proofs::ScalarsShown::any_shown))]
-    fn from_tree(_alloc: Global, tree: &Value) -> Result<Value, TreeError> {
-        Ok(tree.clone()?)
+    fn from_node<N: Node>(alloc: Global, node: &N) -> Result<Value, TreeError> {
+        Ok(node.to_value(alloc)?)
     }
 }
 
 /// The whole numbers of a list of exactly two.
-fn two_numbers(items: &[Value]) -> Option<(u64, u64)>
-    ensures { option_map pair_cell result ≡ pair_of (items_view items.now) }
+fn two_numbers<N: Node>(items: &[N]) -> Option<(u64, u64)>
+    ensures { option_map pair_cell result ≡ pair_of (items_by N.data_of items.now) }
 {
     let (first, after) = items.split_first()?;
     let (second, more) = after.split_first()?;
@@ -168,9 +185,9 @@ fn two_numbers(items: &[Value]) -> Option<(u64, u64)>
 
 impl FromTree for (u64, u64) {
     #[tactic(auto, using(crate::proofs::ScalarsShown::no_pair, crate::proofs::ScalarsShown::pair_refused, crate::proofs::ScalarsShown::pair_shown))]
-    fn from_tree(_alloc: Global, tree: &Value) -> Result<(u64, u64), TreeError> {
-        match tree.as_array() {
-            Some(items) => match two_numbers(items) {
+    fn from_node<N: Node>(alloc: Global, node: &N) -> Result<(u64, u64), TreeError> {
+        match node.items(alloc)? {
+            Some(items) => match two_numbers(&items) {
                 Some(pair) => Ok(pair),
                 None => Err(TreeError::Misfit),
             },
@@ -180,29 +197,29 @@ impl FromTree for (u64, u64) {
 }
 
 impl<T: FromTree> FromTree for Vec<T> {
-    fn from_tree(alloc: Global, tree: &Value) -> Result<Vec<T>, TreeError> {
-        let items = match tree.as_array() {
+    fn from_node<N: Node>(alloc: Global, node: &N) -> Result<Vec<T>, TreeError> {
+        let items = match node.items(alloc)? {
             Some(items) => items,
             None => return Err(TreeError::Misfit),
         };
         let mut list = Vec::with_capacity(alloc, items.len())?;
-        for item in items {
-            list.push(T::from_tree(alloc, item)?)?;
+        for item in &items {
+            list.push(T::from_node(alloc, item)?)?;
         }
         Ok(list)
     }
 }
 
 impl<T: FromTree> FromTree for Map<String, T> {
-    fn from_tree(alloc: Global, tree: &Value) -> Result<Map<String, T>, TreeError> {
-        let members = match tree.as_object() {
+    fn from_node<N: Node>(alloc: Global, node: &N) -> Result<Map<String, T>, TreeError> {
+        let members = match node.members(alloc)? {
             Some(members) => members,
             None => return Err(TreeError::Misfit),
         };
         let mut map = Map::new(alloc);
         for (key, member) in members.iter() {
             let name = key.clone()?;
-            drop(map.insert(name, T::from_tree(alloc, member)?)?);
+            drop(map.insert(name, T::from_node(alloc, member)?)?);
         }
         Ok(map)
     }
@@ -212,14 +229,14 @@ impl<T: FromTree> FromTree for Map<String, T> {
 ///
 /// Fails with `Misfit` where the tree shows none, and with `Memory` where memory is refused.
 #[tactic(auto, using(crate::proofs::ValuesShown::bare_read, crate::proofs::ValuesShown::no_values))]
-pub fn read_values<T: FromTree>(alloc: Global, tree: &Value) -> Result<Vec<T>, TreeError>
-    ensures { Reads (values_kind T.kind) (λ v. list_cell T.cell_of v.items) (view tree.now) result }
+pub fn read_values<T: FromTree, N: Node>(alloc: Global, node: &N) -> Result<Vec<T>, TreeError>
+    ensures { Reads (values_kind T.kind) (λ v. list_cell T.cell_of v.items) (N.data_of node.now) result }
 {
-    if tree.is_array() {
-        return FromTree::from_tree(alloc, tree);
+    if node.is_array() {
+        return FromTree::from_node(alloc, node);
     }
-    match tree.get("values") {
-        Some(list) => FromTree::from_tree(alloc, list),
+    match node.get("values") {
+        Some(list) => FromTree::from_node(alloc, &list),
         None => Err(TreeError::Misfit),
     }
 }

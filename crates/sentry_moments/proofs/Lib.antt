@@ -5,6 +5,7 @@ pub mod Days
 pub mod DecimalReadBack
 pub mod DecimalTexts
 pub mod Fronts
+pub mod Lengths
 pub mod MomentRange
 pub mod MomentSpellings
 pub mod MomentsShown
@@ -13,7 +14,6 @@ pub mod Numerals
 pub mod Padding
 pub mod Places
 pub mod Rfc3339ReadBack
-pub mod Rfc3339Single
 pub mod Rfc3339Texts
 pub mod SamplingSpellings
 pub mod Shifts

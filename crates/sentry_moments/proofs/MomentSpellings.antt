@@ -34,9 +34,9 @@ same_moment a b m n e f = cc
 
 -- ---- RFC 3339 texts
 
-names_one : (secs nanos : ℕ) → IsMomentTime secs nanos → (x : Cell) → NamesMoment (rfc3339_text secs nanos) x → x ≡ moment secs nanos
-names_one secs nanos h x =
-    named (λ y. y ≡ moment secs nanos) (rfc3339_text secs nanos) x (λ s n k. let one = one_moment (rfc3339_text secs nanos) s n secs nanos k (reads_back secs nanos h) in same_moment s secs n nanos one.0 one.1)
+names_one : (text : List ℕ) (c x : Cell) → NamesMoment text c → NamesMoment text x → c ≡ x
+names_one text c x h k =
+    named (λ y. y ≡ x) text c (λ secs nanos own. named (λ y. moment secs nanos ≡ y) text x (λ s n other. let one = one_moment text secs nanos s n own other in same_moment secs s nanos n one.0 one.1) k) h
 
 named_stored : (text : List ℕ) (c : Cell) → NamesMoment text c → IsMoment c
 named_stored text c = named IsMoment text c (λ secs nanos h. is_moment secs nanos h.in_range)
@@ -51,12 +51,13 @@ names_decided text = named_or_none text (is_decided text)
 pub rfc3339_laws : SpellingLaws rfc3339_spelling
 rfc3339_laws = record {
   back = λ c p q. in_range (λ x. NamesMoment (moment_text x) x) reads_back c p;
-  only = λ c x p q. in_range (λ y. NamesMoment (moment_text y) x → x ≡ y) (λ secs nanos h. names_one secs nanos h x) c p;
+  one = names_one;
   again = λ c p. refl;
   stored_norm = λ c p. p;
   readable_norm = λ c p q. tt;
   utf8 = λ c p. in_range (λ x. IsUtf8 (moment_text x)) (λ secs nanos h. rfc3339_text-utf8 secs nanos) c p;
   spelled_stored = λ text c utf8 h. named_stored text c h;
+  spelled_readable = λ text c utf8 h. tt;
   spelled_written = λ text c utf8 h. refl;
   decide = names_decided;
 }
@@ -80,9 +81,10 @@ shows_back : (secs nanos : ℕ) (b : Bool) → (nanos == 0) ≡ b → IsMomentTi
 shows_back secs nanos true e h = (ap (moment secs) (eqb-true nanos 0 e), h.0)
 shows_back secs nanos false e h = reads_back secs nanos h
 
-shows_one : (secs nanos : ℕ) (b : Bool) (x : Cell) → (nanos == 0) ≡ b → IsMomentTime secs nanos → ShowsSeconds (tree_by b secs nanos) x → x ≡ moment secs nanos
-shows_one secs nanos true x e h k = k.0 ∙ ap (moment secs) (sym (eqb-true nanos 0 e))
-shows_one secs nanos false x e h k = names_one secs nanos h x k
+shows_one : (d : Data) (c x : Cell) → ShowsSeconds d c → ShowsSeconds d x → c ≡ x
+shows_one (number (unsigned n)) c x h k = h.0 ∙ sym k.0
+shows_one (string text) c x h k = names_one text c x h k
+shows_one _ c x h k = absurd h
 
 tree_sound : (secs nanos : ℕ) (b : Bool) → IsMomentTime secs nanos → IsSound (tree_by b secs nanos)
 tree_sound secs nanos true h = omega (arith, h.0)
@@ -109,7 +111,7 @@ seconds_decided _ = inr (λ c h. h)
 pub seconds_laws : ScalarLaws seconds_scalar
 seconds_laws = record {
   back = λ c p q. in_range (λ x. ShowsSeconds (seconds_tree x) x) (λ secs nanos h. shows_back secs nanos (nanos == 0) refl h) c p.0;
-  only = λ c x p q. in_range (λ y. ShowsSeconds (seconds_tree y) x → x ≡ y) (λ secs nanos h. shows_one secs nanos (nanos == 0) x refl h) c p.0;
+  single = shows_one;
   again = λ c p. refl;
   stored_norm = λ c p. p.0;
   plain_norm = λ c p. tt;
@@ -120,6 +122,7 @@ seconds_laws = record {
   sound = λ c p. in_range (λ x. IsSound (seconds_tree x)) (λ secs nanos h. tree_sound secs nanos (nanos == 0) h) c p.0;
   shown_stored = λ d c sound h. seconds_stored d c h;
   shown_plain = λ d c sound h. tt;
+  shown_readable = λ d c sound h. tt;
   shown_null = λ d c h e. absurd (false≢true e);
   shown_tree = λ d c sound h. refl;
   decide = seconds_decided;

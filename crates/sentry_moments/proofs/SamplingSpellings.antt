@@ -8,7 +8,7 @@ use Rattle.sentry_members.specs.Spelling.{SpellingLaws, spelled}
 use Rattle.sentry_members.proofs.Spellings.{spelled_laws, spelled_refuses_null}
 use Rattle.sentry_moments.specs.Decimal.{IsDecimal, IsNoDecimal, IsOutside, Worth, Billionths, BelowZero, decimal_text}
 use Rattle.sentry_moments.specs.Digits.{digits}
-use Rattle.sentry_moments.specs.SampleRand.{millionths, nearest_thousand, sample_rand_text}
+use Rattle.sentry_moments.specs.SampleRand.{millionths, nearest_thousand}
 use Rattle.sentry_moments.specs.SamplingTexts.{IsWorthBelow, billionths_in, sample_rand_spelling, sample_rand_kind, sample_rate_spelling, sample_rate_kind}
 use Rattle.sentry_moments.specs.SampleRandReading.{ReadsSampleRand}
 use Rattle.sentry_moments.specs.SampleRate.{ReadsSampleRate}
@@ -45,9 +45,9 @@ module _ (limit : ℕ) where
   worth_stored : (text : List ℕ) (c : Cell) → IsWorthBelow limit text c → IsBelow limit c
   worth_stored text c = worth_below (IsBelow limit) text c (λ n d h. h)
 
-  -- a text that is worth so many billionths spells them alone
-  worth_one : (text : List ℕ) (n : ℕ) (x : Cell) → IsDecimal text (Billionths n) → IsWorthBelow limit text x → x ≡ whole (pos n)
-  worth_one text n x d = worth_below (λ y. y ≡ whole (pos n)) text x (λ m e h. ap (λ k. whole (pos k)) (one_number text m n e d))
+  -- a text is worth one number at most
+  worth_one : (text : List ℕ) (c x : Cell) → IsWorthBelow limit text c → IsWorthBelow limit text x → c ≡ x
+  worth_one text c x h k = worth_below (λ y. y ≡ x) text c (λ m d a. worth_below (λ y. whole (pos m) ≡ y) text x (λ n e b. ap (λ j. whole (pos j)) (one_number text m n d e)) k) h
 
   worth_decided : (text : List ℕ) → ((w : Worth) × IsDecimal text w) ⊎ IsNoDecimal text → ((c : Cell) × IsWorthBelow limit text c) ⊎ ((c : Cell) → IsWorthBelow limit text c → ⊥)
   worth_decided text (inl (Billionths n, d)) =
@@ -81,12 +81,13 @@ printed_again n = let same = thousands (millionths n) in omega arith
 pub sample_rand_laws : SpellingLaws sample_rand_spelling
 sample_rand_laws = record {
   back = λ c p q. (sample_rand_reads (billionths_in c), printed_small (billionths_in c));
-  only = λ c x p q h. worth_one (10 ^ 9) (sample_rand_text (billionths_in c)) (1000 * millionths (billionths_in c)) x (sample_rand_reads (billionths_in c)) h;
+  one = worth_one (10 ^ 9);
   again = λ c p. ap (λ k. whole (pos (1000 * k))) (printed_again (billionths_in c));
   stored_norm = λ c p. printed_small (billionths_in c);
   readable_norm = λ c p q. tt;
   utf8 = λ c p. sample_rand_text-utf8 (billionths_in c);
   spelled_stored = λ text c utf8 h. worth_stored (10 ^ 9) text c h;
+  spelled_readable = λ text c utf8 h. tt;
   spelled_written = λ text c utf8 h. ap (λ m. 48 ∷ 46 ∷ digits 6 m) (sym (printed_again (billionths_in c)));
   decide = λ text. worth_decided (10 ^ 9) text (is_decided text);
 }
@@ -109,12 +110,13 @@ rate_text c = decimal_text (billionths_in c / 10 ^ 9) (billionths_in c % 10 ^ 9)
 pub sample_rate_laws : SpellingLaws sample_rate_spelling
 sample_rate_laws = record {
   back = λ c p q. below (2 ^ 64) (λ x. IsWorthBelow (2 ^ 64) (rate_text x) x) (λ n h. (rate_reads_back n h, h)) c p;
-  only = λ c x p q. below (2 ^ 64) (λ y. IsWorthBelow (2 ^ 64) (rate_text y) x → x ≡ y) (λ n h. worth_one (2 ^ 64) (rate_text (whole (pos n))) n x (rate_reads_back n h)) c p;
+  one = worth_one (2 ^ 64);
   again = λ c p. refl;
   stored_norm = λ c p. p;
   readable_norm = λ c p q. tt;
   utf8 = λ c p. below (2 ^ 64) (λ x. IsUtf8 (rate_text x)) (λ n h. decimal_text-utf8 (n / 10 ^ 9) (n % 10 ^ 9) (omega (arith, h))) c p;
   spelled_stored = λ text c utf8 h. worth_stored (2 ^ 64) text c h;
+  spelled_readable = λ text c utf8 h. tt;
   spelled_written = λ text c utf8 h. refl;
   decide = λ text. worth_decided (2 ^ 64) text (is_decided text);
 }

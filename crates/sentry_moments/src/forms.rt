@@ -7,7 +7,8 @@ ghost use Rattle.sentry_moments.specs.MomentForms.{moment_text, rfc3339_kind, se
 use crate::moment::Moment;
 use json::Writer;
 use sentry_members::spelled::{Room, printed};
-use sentry_members::{Codec, ReadCodec, TreeError};
+use sentry_members::{Codec, ReadCodec, TreeError, Way};
+use sentry_trees::Node;
 use serde_json::Value;
 use std::alloc::{AllocError, Global};
 
@@ -26,6 +27,7 @@ pub struct Rfc3339;
 pub struct Seconds;
 
 // The RFC 3339 text of a moment.
+#[tactic(auto, using(crate::proofs::Lengths::rfc3339_fits))]
 fn text<'a>(moment: &Moment, room: &'a mut Room) -> Result<&'a str, AllocError>
     ensures { IfOk result (λ s. s.now ≡ moment_text (moment_cell moment.now)) }
 {
@@ -49,8 +51,13 @@ impl Codec<Moment> for Rfc3339 {
         out.string(text(value, &mut room)?)
     }
 
-    fn copy(value: &Moment) -> Result<Moment, AllocError> {
+    #[tactic(auto, using(sentry_members::proofs::Ways::unchanged))]
+    fn remade(value: &Moment, _way: Way) -> Result<Moment, AllocError> {
         Ok(*value)
+    }
+
+    fn is_null_tree(_value: &Moment) -> bool {
+        false
     }
 
     #[tactic(auto, using(crate::proofs::MomentRange::moment_in_range))]
@@ -61,8 +68,8 @@ impl Codec<Moment> for Rfc3339 {
 
 impl ReadCodec<Moment> for Rfc3339 {
     #[tactic(auto, using(crate::proofs::MomentsShown::named_shown, crate::proofs::MomentsShown::not_named, sentry_members::proofs::Spellings::not_text))]
-    fn from_tree(_alloc: Global, tree: &Value) -> Result<Moment, TreeError> {
-        match tree.as_str() {
+    fn from_node<N: Node>(_alloc: Global, node: &N) -> Result<Moment, TreeError> {
+        match node.as_str() {
             Some(text) => match Moment::from_rfc3339(text) {
                 Some(moment) => Ok(moment),
                 None => Err(TreeError::Misfit),
@@ -95,8 +102,13 @@ impl Codec<Moment> for Seconds {
         }
     }
 
-    fn copy(value: &Moment) -> Result<Moment, AllocError> {
+    #[tactic(auto, using(sentry_members::proofs::Ways::unchanged))]
+    fn remade(value: &Moment, _way: Way) -> Result<Moment, AllocError> {
         Rfc3339::copy(value)
+    }
+
+    fn is_null_tree(_value: &Moment) -> bool {
+        false
     }
 
     fn is_plain(value: &Moment) -> bool {
@@ -106,13 +118,13 @@ impl Codec<Moment> for Seconds {
 
 impl ReadCodec<Moment> for Seconds {
     #[tactic(auto, using(crate::proofs::MomentsShown::seconds_shown, crate::proofs::MomentsShown::past_the_range, crate::proofs::MomentsShown::without_number))]
-    fn from_tree(alloc: Global, tree: &Value) -> Result<Moment, TreeError> {
-        match tree.as_u64() {
+    fn from_node<N: Node>(alloc: Global, node: &N) -> Result<Moment, TreeError> {
+        match node.as_u64() {
             Some(secs) => match Moment::new(secs, 0) {
                 Some(moment) => Ok(moment),
                 None => Err(TreeError::Misfit),
             },
-            None => Rfc3339::from_tree(alloc, tree),
+            None => Rfc3339::from_node(alloc, node),
         }
     }
 }

@@ -5,7 +5,7 @@ ghost use Rattle.sentry_moments.specs.SampleRand.{millionths as millionths_of, s
 
 use crate::decimal::{self, DecimalError};
 use sentry_members::spelled::printed;
-use sentry_members::{Room, Spelled, TreeError};
+use sentry_members::{AsText, Formed, Room, Spelled, TreeError, Way};
 use std::alloc::{AllocError, Global};
 use std::fmt;
 use std::str::FromStr;
@@ -114,6 +114,10 @@ impl fmt::Display for SampleRand {
     }
 }
 
+impl Formed for SampleRand {
+    type Form = AsText;
+}
+
 impl Spelled for SampleRand {
     ghost use Rattle.sentry_moments.specs.SamplingTexts.{sample_rand_cell, sample_rand_spelling};
 
@@ -129,12 +133,19 @@ impl Spelled for SampleRand {
         }
     }
 
+    #[tactic(auto, using(crate::proofs::Lengths::sample_rand_fits))]
     fn text<'a>(&'a self, room: &'a mut Room) -> Result<&'a str, AllocError> {
         printed(self, room)
     }
 
-    fn copied(&self) -> Result<SampleRand, AllocError> {
-        Ok(*self)
+    #[tactic(auto, using(sentry_members::proofs::Ways::made_same, sentry_members::proofs::Ways::made_normal))]
+    fn copied(&self, way: Way) -> Result<SampleRand, AllocError> {
+        match way {
+            Way::Same => Ok(*self),
+            Way::Normal => Ok(SampleRand {
+                billionths: 1_000 * millionths(self.billionths),
+            }),
+        }
     }
 
     fn hold(&self) {}

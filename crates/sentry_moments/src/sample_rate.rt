@@ -6,7 +6,7 @@ ghost use Rattle.sentry_moments.specs.SampleRate.{ReadsSampleRate};
 
 use crate::decimal::{self, Decimal, DecimalError};
 use sentry_members::spelled::printed;
-use sentry_members::{Room, Spelled, TreeError};
+use sentry_members::{AsText, Formed, Room, Spelled, TreeError, Way};
 use std::alloc::{AllocError, Global};
 use std::fmt;
 use std::str::FromStr;
@@ -47,6 +47,10 @@ impl fmt::Display for SampleRate {
     }
 }
 
+impl Formed for SampleRate {
+    type Form = AsText;
+}
+
 impl Spelled for SampleRate {
     ghost use Rattle.sentry_moments.specs.SamplingTexts.{sample_rate_cell, sample_rate_spelling};
 
@@ -62,11 +66,14 @@ impl Spelled for SampleRate {
         }
     }
 
+    #[tactic(auto, using(crate::proofs::Lengths::rate_fits))]
     fn text<'a>(&'a self, room: &'a mut Room) -> Result<&'a str, AllocError> {
+        let _billionths = self.0;
         printed(self, room)
     }
 
-    fn copied(&self) -> Result<SampleRate, AllocError> {
+    #[tactic(auto, using(sentry_members::proofs::Ways::unchanged))]
+    fn copied(&self, _way: Way) -> Result<SampleRate, AllocError> {
         Ok(*self)
     }
 

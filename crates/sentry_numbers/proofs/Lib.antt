@@ -1,4 +1,5 @@
 pub mod Bounds
+pub mod Lengths
 pub mod NumberTexts
 pub mod ProjectTrees
 pub mod SeverityLaws

@@ -10,14 +10,15 @@ ghost use Rattle.sentry_tables.specs.Lawful.{IsNormal, RefusesNull};
 ghost use Rattle.sentry_tables.specs.Laws.{HasLaws};
 ghost use Rattle.sentry_members.specs.Cells.{natural_cell};
 ghost use Rattle.sentry_numbers.specs.Number.{IsNumber, number_of};
-ghost use Rattle.sentry_numbers.specs.ProjectId.{project_text, organization_value};
+ghost use Rattle.sentry_numbers.specs.ProjectId.{project_text, organization_value, error_index};
 ghost use Rattle.sentry_numbers.specs.ProjectTree.{project_kind, organization_kind, organization_text_kind};
 ghost use Rattle.sentry_numbers.specs.Severity.{IsSeverity, severity_kind};
 ghost use Rattle.sentry_numbers.specs.declared.log_severity_number.LogSeverityNumber.{LogSeverityNumber as LogSeverityNumbers};
 ghost use Rattle.sentry_numbers.specs.declared.project_id.ProjectId.{ProjectId as ProjectIds};
 ghost use Rattle.sentry_numbers.specs.declared.project_id.OrganizationId.{OrganizationId as OrganizationIds};
+ghost use Rattle.sentry_numbers.specs.declared.project_id.ParseProjectIdError.{ParseProjectIdError as ParseProjectIdErrors};
 
-use crate::{LogSeverityNumber, OrganizationId, ProjectId};
+use crate::{LogSeverityNumber, OrganizationId, ParseProjectIdError, ProjectId};
 
 /// Whole numbers in base 10, as ids of organizations are.
 pub fn numbers()
@@ -61,4 +62,14 @@ pub fn equal_ids()
 /// Ids of projects are ordered as their texts, by bytes.
 pub fn ordered_projects()
     ensures { (a b : ProjectIds) → ⟦<ProjectId as Ord>⟧.cmp a b ≡ slice_cmp nat_cmp (project_text a) (project_text b) }
+{}
+
+/// Two errors are equal exactly where they are the same variant.
+pub fn equal_errors()
+    ensures { (a b : ParseProjectIdErrors) → ⟦<ParseProjectIdError as PartialEq>⟧.eq a b ≡ true ↔ (a ≡ b) }
+{}
+
+/// Errors are ordered as their variants stand.
+pub fn ordered_errors()
+    ensures { (a b : ParseProjectIdErrors) → ⟦<ParseProjectIdError as Ord>⟧.cmp a b ≡ nat_cmp (error_index a) (error_index b) }
 {}

@@ -5,7 +5,8 @@ ghost use Rattle.sentry_members.specs.Cells.{natural_cell};
 ghost use Rattle.sentry_numbers.specs.Severity.{IsSeverity, severity_kind};
 
 use json::Writer;
-use sentry_members::{FromTree, Member, TreeError};
+use sentry_members::{FromTree, Member, TreeError, Way};
+use sentry_trees::Node;
 use serde_json::Value;
 use std::alloc::{AllocError, Global};
 use std::marker::Model;
@@ -83,8 +84,13 @@ impl Member for LogSeverityNumber {
         out.u64(u64::from(self.value()))
     }
 
-    fn copy(&self) -> Result<LogSeverityNumber, AllocError> {
+    #[tactic(auto, using(sentry_members::proofs::Ways::unchanged))]
+    fn remade(&self, _way: Way) -> Result<LogSeverityNumber, AllocError> {
         Ok(*self)
+    }
+
+    fn is_null_tree(&self) -> bool {
+        false
     }
 
     fn is_plain(&self) -> bool {
@@ -95,8 +101,8 @@ impl Member for LogSeverityNumber {
 
 impl FromTree for LogSeverityNumber {
     #[tactic(auto, using(crate::proofs::SeverityLaws::not_whole, crate::proofs::SeverityLaws::whole_outside, crate::proofs::SeverityLaws::severity_shown))]
-    fn from_tree(_alloc: Global, tree: &Value) -> Result<LogSeverityNumber, TreeError> {
-        match tree.as_u64() {
+    fn from_node<N: Node>(_alloc: Global, node: &N) -> Result<LogSeverityNumber, TreeError> {
+        match node.as_u64() {
             Some(number) => match u8::try_from(number) {
                 Ok(number) => match LogSeverityNumber::try_from(number) {
                     Ok(severity) => Ok(severity),

@@ -8,7 +8,10 @@ ghost use Rattle.sentry_members.specs.Spelling.{ReadsSpelling};
 use crate::number::{ParseNumberError, parse_number};
 use json::Writer;
 use sentry_members::spelled::printed;
-use sentry_members::{Codec, FromTree, Member, ReadCodec, Room, Spelled, TreeError};
+use sentry_members::{
+    AsText, Codec, Formed, FromTree, Member, ReadCodec, Room, Spelled, TreeError, Way,
+};
+use sentry_trees::Node;
 use serde_json::Value;
 use std::alloc::{AllocError, Global};
 use std::fmt;
@@ -106,6 +109,10 @@ impl fmt::Display for ProjectId {
 }
 
 /// In a tree the empty text is an id too.
+impl Formed for ProjectId {
+    type Form = AsText;
+}
+
 impl Spelled for ProjectId {
     ghost use Rattle.sentry_numbers.specs.ProjectTree.{project_cell};
 
@@ -121,7 +128,8 @@ impl Spelled for ProjectId {
         Ok(self.value())
     }
 
-    fn copied(&self) -> Result<ProjectId, AllocError> {
+    #[tactic(auto, using(sentry_members::proofs::Ways::unchanged))]
+    fn copied(&self, _way: Way) -> Result<ProjectId, AllocError> {
         self.clone()
     }
 
@@ -201,8 +209,13 @@ impl Member for OrganizationId {
         self.value().write(out)
     }
 
-    fn copy(&self) -> Result<OrganizationId, AllocError> {
+    #[tactic(auto, using(sentry_members::proofs::Ways::unchanged))]
+    fn remade(&self, _way: Way) -> Result<OrganizationId, AllocError> {
         Ok(*self)
+    }
+
+    fn is_null_tree(&self) -> bool {
+        false
     }
 
     fn is_plain(&self) -> bool {
@@ -211,8 +224,8 @@ impl Member for OrganizationId {
 }
 
 impl FromTree for OrganizationId {
-    fn from_tree(alloc: Global, tree: &Value) -> Result<OrganizationId, TreeError> {
-        Ok(OrganizationId(u64::from_tree(alloc, tree)?))
+    fn from_node<N: Node>(alloc: Global, node: &N) -> Result<OrganizationId, TreeError> {
+        Ok(OrganizationId(u64::from_node(alloc, node)?))
     }
 }
 
@@ -236,9 +249,11 @@ impl OrganizationId {
     }
 
     // The text of the id, in `room`.
+    #[tactic(auto, using(crate::proofs::Lengths::decimal_size))]
     fn text<'a>(&self, room: &'a mut Room) -> Result<&'a str, AllocError>
         ensures { IfOk result (λ s. s.now ≡ decimal (organization_value self.now)) }
     {
+        let _number = self.0;
         printed(self, room)
     }
 }
@@ -262,8 +277,13 @@ impl Codec<OrganizationId> for OrganizationText {
         out.string(id.text(&mut room)?)
     }
 
-    fn copy(id: &OrganizationId) -> Result<OrganizationId, AllocError> {
+    #[tactic(auto, using(sentry_members::proofs::Ways::unchanged))]
+    fn remade(id: &OrganizationId, _way: Way) -> Result<OrganizationId, AllocError> {
         Ok(*id)
+    }
+
+    fn is_null_tree(_id: &OrganizationId) -> bool {
+        false
     }
 
     fn is_plain(id: &OrganizationId) -> bool {
@@ -274,8 +294,8 @@ impl Codec<OrganizationId> for OrganizationText {
 
 impl ReadCodec<OrganizationId> for OrganizationText {
     #[tactic(auto, using(sentry_members::proofs::Spellings::text_read, sentry_members::proofs::Spellings::not_text))]
-    fn from_tree(_alloc: Global, tree: &Value) -> Result<OrganizationId, TreeError> {
-        match tree.as_str() {
+    fn from_node<N: Node>(_alloc: Global, node: &N) -> Result<OrganizationId, TreeError> {
+        match node.as_str() {
             Some(text) => OrganizationId::of_text(text),
             None => Err(TreeError::Misfit),
         }

@@ -1,3 +1,2 @@
 pub mod ClientSdkLaws
-pub mod ClientSdkSingle
 pub mod Equal

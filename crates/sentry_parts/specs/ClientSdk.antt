@@ -1,4 +1,4 @@
--- The tables of the software that sends messages.
+-- The tables of the software that sends messages. Members of other keys are ignored.
 use Rattle.std.specs.Prelude.{◌≡◌, List, [], ◌∷◌, codes, true, refl}
 use Rattle.sentry_tables.specs.Cell.{Cell}
 use Rattle.sentry_tables.specs.Fields.{Field, field, rows_of, table_of, fields_by}
@@ -11,25 +11,25 @@ use Rattle.sentry_parts.specs.declared.client_sdk_package.ClientSdkPackage.{Clie
 
 -- ---- a package
 
-abbrev pub package_fields : List (Field ClientSdkPackage)
+unfoldable pub package_fields : List (Field ClientSdkPackage)
 package_fields =
     field (codes "name") must text_kind (λ p. text_cell p.name)
     ∷ field (codes "version") must text_kind (λ p. text_cell p.version)
     ∷ []
 
--- members of other keys are ignored
-unfoldable pub package_kind : Kind
+abbrev pub package_kind : Kind
 package_kind = table_of package_fields
 
 abbrev pub package_cell : ClientSdkPackage → Cell
 package_cell p = fields_by package_fields p
 
 pub package_in_order : in_order (keys (rows_of package_fields)) ≡ true
+unfolding package_fields
 package_in_order = refl
 
 -- ---- the software
 
-abbrev pub sdk_fields : List (Field ClientSdkInfo)
+unfoldable pub sdk_fields : List (Field ClientSdkInfo)
 sdk_fields =
     field (codes "integrations") (default empty_list) (list text_kind) (λ s. list_cell text_cell s.integrations.items)
     ∷ field (codes "name") must text_kind (λ s. text_cell s.name)
@@ -37,12 +37,12 @@ sdk_fields =
     ∷ field (codes "version") must text_kind (λ s. text_cell s.version)
     ∷ []
 
--- members of other keys are ignored
-unfoldable pub sdk_kind : Kind
+abbrev pub sdk_kind : Kind
 sdk_kind = table_of sdk_fields
 
 abbrev pub sdk_cell : ClientSdkInfo → Cell
 sdk_cell s = fields_by sdk_fields s
 
 pub sdk_in_order : in_order (keys (rows_of sdk_fields)) ≡ true
+unfolding sdk_fields
 sdk_in_order = refl

@@ -1,15 +1,12 @@
 //! The software that sends messages.
 
-ghost use Rattle.sentry_parts.specs.ClientSdk.{sdk_fields, sdk_in_order, sdk_kind, sdk_cell};
+ghost use Rattle.sentry_parts.specs.ClientSdk.{sdk_fields, sdk_in_order};
 
 use crate::client_sdk_package::ClientSdkPackage;
-use json::Writer;
-use sentry_members::{FromTree, Member, TreeError};
-use sentry_rows::rows::{list, object, required};
-use sentry_rows::table::{table_tree, write_table};
-use sentry_rows::{Sink, Table};
-use serde_json::Value;
-use std::alloc::{AllocError, Global};
+use sentry_members::{Formed, Member};
+use sentry_rows::{AsTable, Copier, CopyTable, Giver, ReadTable, Reader, Sink, Table};
+use sentry_trees::Node;
+use std::alloc::AllocError;
 
 /// The software that sends messages.
 ///
@@ -38,62 +35,44 @@ impl ClientSdkInfo {
     }
 }
 
+impl Formed for ClientSdkInfo {
+    type Form = AsTable;
+}
+
+#[tactic(auto, unfolding(crate::specs::ClientSdk::sdk_fields))]
 impl Table for ClientSdkInfo {
     ghost lines = { sdk_fields };
 
-    fn rows<S: Sink>(&self, sink: &mut S) -> Result<(), AllocError> {
-        sink.list("integrations", &self.integrations)?;
-        sink.required("name", &self.name)?;
-        sink.list("packages", &self.packages)?;
-        sink.required("version", &self.version)?;
-        Ok(())
+    fn rows<S: Sink>(&self, to: &mut Giver<'_, S>) {
+        to.list("integrations", &self.integrations);
+        to.required("name", &self.name);
+        to.list("packages", &self.packages);
+        to.required("version", &self.version);
     }
 
     ghost ordered = { sdk_in_order };
 }
 
-impl Member for ClientSdkInfo {
-    ghost kind = { sdk_kind };
-
-    ghost cell_of = { sdk_cell };
-
-    #[tactic(auto, unfolding(crate::specs::ClientSdk::sdk_kind))]
-    fn to_tree(&self, alloc: Global) -> Result<Value, AllocError> {
-        table_tree(self, alloc)
-    }
-
-    #[tactic(auto, unfolding(crate::specs::ClientSdk::sdk_kind))]
-    fn write(&self, out: &mut Writer) -> Result<(), AllocError> {
-        write_table(self, out)
-    }
-
-    fn copy(&self) -> Result<ClientSdkInfo, AllocError> {
-        Ok(ClientSdkInfo {
-            name: self.name.copy()?,
-            version: self.version.copy()?,
-            integrations: self.integrations.copy()?,
-            packages: self.packages.copy()?,
-        })
-    }
-
-    fn is_plain(&self) -> bool {
-        let mut plain = self.integrations.is_plain();
-        plain &= self.name.is_plain();
-        plain &= self.packages.is_plain();
-        plain &= self.version.is_plain();
-        plain
+#[tactic(auto, unfolding(crate::specs::ClientSdk::sdk_fields))]
+impl ReadTable for ClientSdkInfo {
+    fn read<N: Node>(from: &mut Reader<'_, N>) -> ClientSdkInfo {
+        ClientSdkInfo {
+            integrations: from.list("integrations"),
+            name: from.text("name"),
+            packages: from.list("packages"),
+            version: from.text("version"),
+        }
     }
 }
 
-impl FromTree for ClientSdkInfo {
-    #[tactic(auto, using(sentry_rows::proofs::Answering::table_fails, sentry_rows::proofs::Answering::not_object), unfolding(crate::specs::ClientSdk::sdk_kind))]
-    fn from_tree(alloc: Global, tree: &Value) -> Result<ClientSdkInfo, TreeError> {
-        object(tree)?;
+#[tactic(auto, unfolding(crate::specs::ClientSdk::sdk_fields))]
+impl CopyTable for ClientSdkInfo {
+    fn copied(&self, copies: &mut Copier) -> Result<ClientSdkInfo, AllocError> {
         Ok(ClientSdkInfo {
-            integrations: list(alloc, tree, "integrations")?,
-            name: required(alloc, tree, "name")?,
-            packages: list(alloc, tree, "packages")?,
-            version: required(alloc, tree, "version")?,
+            integrations: copies.list(&self.integrations),
+            name: copies.text(&self.name),
+            packages: copies.list(&self.packages),
+            version: copies.text(&self.version),
         })
     }
 }

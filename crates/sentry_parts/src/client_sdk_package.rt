@@ -1,14 +1,11 @@
 //! The packages of the software that sends messages.
 
-ghost use Rattle.sentry_parts.specs.ClientSdk.{package_fields, package_in_order, package_kind, package_cell};
+ghost use Rattle.sentry_parts.specs.ClientSdk.{package_fields, package_in_order};
 
-use json::Writer;
-use sentry_members::{FromTree, Member, TreeError};
-use sentry_rows::rows::{object, required};
-use sentry_rows::table::{table_tree, write_table};
-use sentry_rows::{Sink, Table};
-use serde_json::Value;
-use std::alloc::{AllocError, Global};
+use sentry_members::{Formed, Member};
+use sentry_rows::{AsTable, Copier, CopyTable, Giver, ReadTable, Reader, Sink, Table};
+use sentry_trees::Node;
+use std::alloc::AllocError;
 
 /// A package of the software that sends messages.
 ///
@@ -33,54 +30,38 @@ impl ClientSdkPackage {
     }
 }
 
+impl Formed for ClientSdkPackage {
+    type Form = AsTable;
+}
+
+#[tactic(auto, unfolding(crate::specs::ClientSdk::package_fields))]
 impl Table for ClientSdkPackage {
     ghost lines = { package_fields };
 
-    fn rows<S: Sink>(&self, sink: &mut S) -> Result<(), AllocError> {
-        sink.required("name", &self.name)?;
-        sink.required("version", &self.version)?;
-        Ok(())
+    fn rows<S: Sink>(&self, to: &mut Giver<'_, S>) {
+        to.required("name", &self.name);
+        to.required("version", &self.version);
     }
 
     ghost ordered = { package_in_order };
 }
 
-impl Member for ClientSdkPackage {
-    ghost kind = { package_kind };
-
-    ghost cell_of = { package_cell };
-
-    #[tactic(auto, unfolding(crate::specs::ClientSdk::package_kind))]
-    fn to_tree(&self, alloc: Global) -> Result<Value, AllocError> {
-        table_tree(self, alloc)
-    }
-
-    #[tactic(auto, unfolding(crate::specs::ClientSdk::package_kind))]
-    fn write(&self, out: &mut Writer) -> Result<(), AllocError> {
-        write_table(self, out)
-    }
-
-    fn copy(&self) -> Result<ClientSdkPackage, AllocError> {
-        Ok(ClientSdkPackage {
-            name: self.name.copy()?,
-            version: self.version.copy()?,
-        })
-    }
-
-    fn is_plain(&self) -> bool {
-        let mut plain = self.name.is_plain();
-        plain &= self.version.is_plain();
-        plain
+#[tactic(auto, unfolding(crate::specs::ClientSdk::package_fields))]
+impl ReadTable for ClientSdkPackage {
+    fn read<N: Node>(from: &mut Reader<'_, N>) -> ClientSdkPackage {
+        ClientSdkPackage {
+            name: from.text("name"),
+            version: from.text("version"),
+        }
     }
 }
 
-impl FromTree for ClientSdkPackage {
-    #[tactic(auto, using(sentry_rows::proofs::Answering::table_fails, sentry_rows::proofs::Answering::not_object), unfolding(crate::specs::ClientSdk::package_kind))]
-    fn from_tree(alloc: Global, tree: &Value) -> Result<ClientSdkPackage, TreeError> {
-        object(tree)?;
+#[tactic(auto, unfolding(crate::specs::ClientSdk::package_fields))]
+impl CopyTable for ClientSdkPackage {
+    fn copied(&self, copies: &mut Copier) -> Result<ClientSdkPackage, AllocError> {
         Ok(ClientSdkPackage {
-            name: required(alloc, tree, "name")?,
-            version: required(alloc, tree, "version")?,
+            name: copies.text(&self.name),
+            version: copies.text(&self.version),
         })
     }
 }

@@ -9,18 +9,16 @@ ghost use Rattle.sentry_parts.specs.declared.client_sdk_package.ClientSdkPackage
 
 use crate::{ClientSdkInfo, ClientSdkPackage};
 
-/// The laws of packages.
-pub fn packages()
-    ensures { HasLaws package_kind }
+/// The laws of each table.
+#[tactic(auto, using(crate::proofs::ClientSdkLaws::package_laws, crate::proofs::ClientSdkLaws::sdk_laws))]
+pub fn tables()
+    ensures packages { HasLaws package_kind }
+    ensures software { HasLaws sdk_kind }
 {}
 
-/// The laws of the software that sends messages.
-pub fn software()
-    ensures { HasLaws sdk_kind }
-{}
-
-/// Two packages, and two values of software, are equal exactly where their fields are the same.
-pub fn equal_software()
+/// Two values of a table without trees are equal exactly where their fields are the same.
+#[tactic(auto, using(crate::proofs::Equal::packages_decide, crate::proofs::Equal::software_decides))]
+pub fn equal_tables()
     ensures packages { (a b : Packages) → ⟦<ClientSdkPackage as PartialEq>⟧.eq a b ≡ true ↔ (package_cell a ≡ package_cell b) }
     ensures software { (a b : Software) → ⟦<ClientSdkInfo as PartialEq>⟧.eq a b ≡ true ↔ (sdk_cell a ≡ sdk_cell b) }
 {}

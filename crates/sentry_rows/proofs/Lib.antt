@@ -1,9 +1,5 @@
-pub mod Answering
-pub mod Joining
-pub mod Merging
-pub mod OfTables
-pub mod Others
-pub mod RowByRow
-pub mod RowLemmas
-pub mod RowsGiven
+pub mod CaseMaps
+pub mod CasesGiven
+pub mod CasesRead
+pub mod Copying
 pub mod TagsShown

@@ -75,14 +75,14 @@ module _ (now : Cell) (word : List ℕ) (d : Data) where
           let t = same_case (suc m) n these more q p e in
           rw (← t.0) (rest m (is ∙ rw (t.1, t.2) refl))
 
-  case_shows : (cases : Cases) (n : ℕ) (rows : Rows) (o : Other) (c : Cell) → case_at word cases ≡ at_case n rows o → ShowsFields now rows o d c → CaseShows cases now (Some word) d n c
+  pub case_shows : (cases : Cases) (n : ℕ) (rows : Rows) (o : Other) (c : Cell) → case_at word cases ≡ at_case n rows o → ShowsFields now rows o d c → CaseShows cases now (Some word) d n c
   case_shows no_cases n rows o c at h = absurd (no_such n rows o at)
   case_shows (case w these q cases) n rows o c at h = case_shown_at _ w these q cases n rows o c refl at (λ m later. case_shows cases m rows o c later h) h
 
   equal_words : (w : List ℕ) → Some word ≡ Some w → bytes_eq word w ≡ true
   equal_words w e = (bytes_eq-Decides word w).1 (same_Some word w e)
 
-  other_words : (cases : Cases) (m : ℕ) (c : Cell) → has_key word (words cases) ≡ false → CaseShows cases now (Some word) d m c → ⊥
+  pub other_words : (cases : Cases) (m : ℕ) (c : Cell) → has_key word (words cases) ≡ false → CaseShows cases now (Some word) d m c → ⊥
   other_words no_cases m c none s = s
   other_words (case w rows o cases) zero c none s = absurd (true≢false (sym (equal_words w s.0) ∙ (or_parts (bytes_eq word w) _ none).0))
   other_words (case w rows o cases) (suc m) c none s = other_words cases m c (or_parts (bytes_eq word w) _ none).1 s
@@ -107,16 +107,16 @@ module _ (now : Cell) (word : List ℕ) (d : Data) where
           let t = same_case (suc k) n more rows p o e in
           rest once k (is ∙ rw (t.1, t.2) refl) m s
 
-  case_refused : (cases : Cases) (n : ℕ) (rows : Rows) (o : Other) (m : ℕ) (c : Cell) → stands_once word cases ≡ true → case_at word cases ≡ at_case n rows o → ((x : Cell) → ShowsFields now rows o d x → ⊥) → CaseShows cases now (Some word) d m c → ⊥
+  pub case_refused : (cases : Cases) (n : ℕ) (rows : Rows) (o : Other) (m : ℕ) (c : Cell) → stands_once word cases ≡ true → case_at word cases ≡ at_case n rows o → ((x : Cell) → ShowsFields now rows o d x → ⊥) → CaseShows cases now (Some word) d m c → ⊥
   case_refused no_cases n rows o m c once at refused s = s
   case_refused (case w these q cases) n rows o m c once at refused s =
       case_refused_at _ w these q cases n rows o m c refl once at refused (λ once k later j. case_refused cases k rows o j c once later refused) s
 
-choice_refused : (P : ℕ → Cell → Type 0) (c : Cell) → ((n : ℕ) (x : Cell) → P n x → ⊥) → IsChoice P c → ⊥
+pub choice_refused : (P : ℕ → Cell → Type 0) (c : Cell) → ((n : ℕ) (x : Cell) → P n x → ⊥) → IsChoice P c → ⊥
 choice_refused P (choice n x) f h = f n x h
 choice_refused P _ f h = h
 
-no_case_shows : (cases : Cases) (d : Data) (now : Cell) (n : ℕ) (c : Cell) → CaseShows cases now None d n c → ⊥
+pub no_case_shows : (cases : Cases) (d : Data) (now : Cell) (n : ℕ) (c : Cell) → CaseShows cases now None d n c → ⊥
 no_case_shows no_cases d now n c s = s
 no_case_shows (case w rows o cases) d now zero c s = absurd cc
 no_case_shows (case w rows o cases) d now (suc n) c s = no_case_shows cases d now n c s

@@ -1,4 +1,4 @@
-pub mod Given
-pub mod Joined
-pub mod Merged
-pub mod Sinks
+pub mod Cased
+pub mod Copied
+pub mod NoRows
+pub mod Taken

@@ -13,13 +13,15 @@ use Rattle.sentry_tables.specs.Norm.{norm}
 use Rattle.sentry_tables.specs.Written.{tree}
 use Rattle.sentry_tables.specs.Meets.{IsReadable, IsProper}
 use Rattle.sentry_tables.specs.Lawful.{IsLawful}
-use Rattle.sentry_tables.specs.Laws.{ReadsBack, IsStable, HasOneForm, IsRewritten, IsDecided, IsTimeless, IsWritten, TextShows, ReadsBackText, HasOneText, IsRewrittenText, IsDecidedText, IsTimelessText, HasLaws}
+use Rattle.sentry_tables.specs.Drawn.{NothingDrawn}
+use Rattle.sentry_tables.specs.Laws.{ReadsBack, IsStable, HasOneForm, IsRewritten, IsDecided, IsTimeless, IsWritten, ShowsOne, WrittenDrawsNothing, ShownReadable, TextShows, ReadsBackText, HasOneText, IsRewrittenText, IsDecidedText, IsTimelessText, TextShowsOne, TextDrawsNothing, TextShownReadable, HasLaws}
 use Rattle.sentry_tables.proofs.Proper.{proper, proper_stored, proper_plain}
 use Rattle.sentry_tables.proofs.Back.{back}
-use Rattle.sentry_tables.proofs.Only.{only}
+use Rattle.sentry_tables.proofs.Single.{single}
+use Rattle.sentry_tables.proofs.DrawnWritten.{written_drawn}
 use Rattle.sentry_tables.proofs.Normal.{again, proper_norm, readable_norm}
 use Rattle.sentry_tables.proofs.Depth.{depth_norm}
-use Rattle.sentry_tables.proofs.Shown.{shown_proper}
+use Rattle.sentry_tables.proofs.Shown.{shown_proper, shown_readable}
 use Rattle.sentry_tables.proofs.Sound.{sound_tree}
 use Rattle.sentry_tables.proofs.Rewritten.{rewritten}
 use Rattle.sentry_tables.proofs.Decide.{decided}
@@ -27,8 +29,12 @@ use Rattle.sentry_tables.proofs.Timeless.{timeless}
 
 -- ---- of trees
 
+-- nothing is drawn of what is written, so that it shows the normal form alone
+only : (K : Kind) → IsLawful K → (now c x : Cell) → IsProper K c → IsReadable K c → Shows K now (tree K c) x → x ≡ norm K c
+only K laws now c x own r h = single now K laws (tree K c) x (norm K c) (written_drawn K laws c own) h (back now K laws c own r)
+
 pub reads_back : (K : Kind) → IsLawful K → ReadsBack K
-reads_back K laws c now s p r = let own = proper K c s p in (back now K laws c own r, λ x h. only now K laws c x own r h)
+reads_back K laws c now s p r = let own = proper K c s p in (back now K laws c own r, λ x h. only K laws now c x own r h)
 
 pub is_stable : (K : Kind) → IsLawful K → IsStable K
 is_stable K laws c s p =
@@ -43,7 +49,7 @@ alike K laws a b p q r s e =
     let m = norm K a in
     let n = norm K b in
     let shown : Shows K now (tree K m) (norm K m) = back now K laws m (proper_norm K laws a p) (readable_norm K laws a p q) in
-    let same : norm K m ≡ norm K n = only now K laws n (norm K m) (proper_norm K laws b r) (readable_norm K laws b r s) (subst (λ d. Shows K now d (norm K m)) e shown) in
+    let same : norm K m ≡ norm K n = only K laws now n (norm K m) (proper_norm K laws b r) (readable_norm K laws b r s) (subst (λ d. Shows K now d (norm K m)) e shown) in
     sym (again K laws a p) ∙ same ∙ again K laws b r
 
 pub has_one_form : (K : Kind) → IsLawful K → HasOneForm K
@@ -60,6 +66,15 @@ is_timeless K d now later c h = timeless now later K d c h
 
 pub is_written : (K : Kind) → IsLawful K → IsWritten K
 is_written K laws c s p = sound_tree K laws c (proper K c s p)
+
+pub shows_one : (K : Kind) → IsLawful K → ShowsOne K
+shows_one K laws now = single now K laws
+
+pub written_draws_nothing : (K : Kind) → IsLawful K → WrittenDrawsNothing K
+written_draws_nothing K laws c s p = written_drawn K laws c (proper K c s p)
+
+pub is_shown_readable : (K : Kind) → IsLawful K → ShownReadable K
+is_shown_readable K laws d c now sound real h = shown_readable now real K laws d c sound h
 
 -- ---- of lines of text
 
@@ -96,6 +111,17 @@ is_decided_text K laws line now = found_or_none K now line (tree_of line) refl (
 pub is_timeless_text : (K : Kind) → IsTimelessText K
 is_timeless_text K line now later c h = let one = is_timeless K h.0 now later c h.2 in (one.0, (h.0, h.1, one.1))
 
+pub text_shows_one : (K : Kind) → IsLawful K → TextShowsOne K
+text_shows_one K laws now line c x q (d, tree, h) (e, other, k) = single now K laws d c x (q d tree) h (subst (λ t. Shows K now t x) (same_Some e d (sym other ∙ tree)) k)
+
+pub text_draws_nothing : (K : Kind) → IsLawful K → TextDrawsNothing K
+text_draws_nothing K laws c s p shallow d read =
+    let written = tree_of_written (tree K c) (is_written K laws c s p) shallow in
+    subst (NothingDrawn K) (same_Some (tree K c) d (sym written ∙ read)) (written_draws_nothing K laws c s p)
+
+pub is_text_shown_readable : (K : Kind) → IsLawful K → TextShownReadable K
+is_text_shown_readable K laws line c now real h = is_shown_readable K laws h.0 c now (tree_of_sound line h.0 h.1) real h.2
+
 -- ---- all of them
 
 pub has_laws : (K : Kind) → IsLawful K → HasLaws K
@@ -107,9 +133,15 @@ has_laws K laws = record {
   decided = is_decided K laws;
   timeless = is_timeless K;
   written = is_written K laws;
+  single = shows_one K laws;
+  undrawn = written_draws_nothing K laws;
+  shown_readable = is_shown_readable K laws;
   text_back = reads_back_text K laws;
   one_text = has_one_text K laws;
   text_rewritten = is_rewritten_text K laws;
   text_decided = is_decided_text K laws;
   text_timeless = is_timeless_text K;
+  text_single = text_shows_one K laws;
+  text_undrawn = text_draws_nothing K laws;
+  text_shown_readable = is_text_shown_readable K laws;
 }

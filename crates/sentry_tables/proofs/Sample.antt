@@ -165,7 +165,7 @@ sample_cases =
 sample_cases_lawful : CasesLawful sample_cases
 sample_cases_lawful = (refl, refl, tt, (refl, tt, text_laws, tt, refl), (refl, refl, refl, tt, tt, refl), refl)
 
-abbrev Coin : Cell → Type 0
+abbrev pub Coin : Cell → Type 0
 Coin c = (b : Bool) × (c ≡ truth b)
 
 abbrev sample_rows : Rows
@@ -187,7 +187,7 @@ sample_kind = table sample_rows (kept (codes "secret" ∷ []))
 sample_in_order : in_order (keys sample_rows) ≡ true
 sample_in_order = refl
 
-coin_normal : (c : Cell) → Coin c → IsNormal (scalar truth_scalar) c
+pub coin_normal : (c : Cell) → Coin c → IsNormal (scalar truth_scalar) c
 coin_normal c h = subst (IsNormal (scalar truth_scalar)) (sym h.1) (tt, tt, tt, refl)
 
 sample_lawful : IsLawful sample_kind

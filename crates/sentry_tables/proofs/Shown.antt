@@ -1,14 +1,14 @@
--- What a sound tree shows is stored and plain.
+-- What a sound tree shows is stored, plain and readable.
 use Rattle.std.proofs.Common.{◌≡◌, ℕ, zero, suc, List, [], ◌∷◌, ◌++◌, Bool, true, false, cond, Option, Some, None, option_and_then, refl, sym, ap₂, subst}
 use Rattle.std.proofs.lemmas.Bool.{false≢true}
 use Rattle.std.specs.Prelude.{⊤}
 use Rattle.serde_json.specs.Data.{Data, null, boolean, number, string, array, object, Items, no_items, item, Members, no_members, member}
 use Rattle.serde_json.specs.Find.{get_member, as_array, as_object}
 use Rattle.sentry_tables.specs.Cell.{Cell, present, sequence, mapping, fields, choice, Cells, no_cells, cell, Entries, no_entries, entry}
-use Rattle.sentry_tables.specs.Kind.{Rule, must, may, may_null, may_strict, default, always, draw, at_once, Other, ignored, kept, Kind, scalar, list, map, values, table, tagged, tagged_map, Rows, no_rows, row, Cases, no_cases, case, keys, words, has_key, without, others}
+use Rattle.sentry_tables.specs.Kind.{Scalar, Rule, must, may, may_null, may_strict, default, always, draw, at_once, Other, ignored, kept, Kind, scalar, list, map, values, table, tagged, tagged_map, Rows, no_rows, row, Cases, no_cases, case, keys, words, has_key, without, others}
 use Rattle.sentry_tables.specs.Shows.{is_object, members_in, ObjectShows, IsPresent, IsSequence, IsMapping, AreFields, IsChoice, ItemsShow, MembersShow, ArrayShows, ShowsOption, RowShows, OrElse, word_at, word_of, Shows, RowsShow, CaseShows}
-use Rattle.sentry_tables.specs.Meets.{AllCells, AllEntries, IsKept, IsOptional, RowMeets, proper_demand, entry_keys, RowsMeet, CaseMeets, AreOrderedTexts, AllLater, IsProper}
-use Rattle.sentry_tables.specs.Lawful.{IsNormal, IsMoment, RuleLaws, IsLawful, RowsLawful, CasesLawful}
+use Rattle.sentry_tables.specs.Meets.{AllCells, AllEntries, IsKept, IsOptional, RowMeets, Demand, proper_demand, readable_demand, entry_keys, Meets, RowsMeet, CaseMeets, AreOrderedTexts, AllLater, IsProper, IsReadable}
+use Rattle.sentry_tables.specs.Lawful.{ScalarLaws, IsNormal, IsMoment, RuleLaws, IsLawful, RowsLawful, CasesLawful}
 use Rattle.std.specs.Ordering.{match_ordering}
 use Rattle.std.proofs.Common.{Ordering, Less, Equal, Greater, nat_cmp, IsUtf8}
 use Rattle.std.specs.Cmp.Lexicographic.{slice_cmp}
@@ -195,20 +195,6 @@ ordered_keys : (ms : Members) → IsOrdered ms → MembersAreSound ms → AreOrd
 ordered_keys no_members h s = tt
 ordered_keys (member k d ms) h s = (s.0, later_keys k ms h.0, ordered_keys ms h.1 s.2)
 
-normal_proper : (K : Kind) (c : Cell) → IsNormal K c → IsProper K c
-normal_proper K c h = proper K c h.0 h.1
-
--- what stands for what is missing is proper
-missing_proper : (r : Rule) (K : Kind) → RuleLaws r K → (now : Cell) → IsMoment now → (c : Cell) → Missing r now c → IsProper K c
-missing_proper must K laws now real c h = absurd h
-missing_proper may K laws now real c h = absurd h
-missing_proper may_null K laws now real c h = absurd h
-missing_proper may_strict K laws now real c h = absurd h
-missing_proper (default D) K laws now real c h = subst (IsProper K) (sym h) (normal_proper K D laws.1)
-missing_proper (always D) K laws now real c h = subst (IsProper K) (sym h) (normal_proper K D laws.1)
-missing_proper (draw Drawn) K laws now real c h = normal_proper K c (laws.1 c h)
-missing_proper at_once K laws now real c h = subst (IsProper K) (sym h) (normal_proper K now (laws.1 now real))
-
 -- what is kept beside the rows of a sound tree may stand there
 others_kept : (o : Other) (ks : List (List ℕ)) (ms : Members) → IsSound (object ms) → IsSound (object (others o ks ms))
 others_kept ignored ks ms h = (tt, tt)
@@ -223,50 +209,93 @@ others_stand o ks ms h = let good = others_kept o ks ms h in (others_fit o ks ms
 
 -- ---- what is shown
 
-module _ (now : Cell) (real : IsMoment now) where
-  pub row_met : (r : Rule) (K : Kind) → RuleLaws r K → ((d : Data) (c : Cell) → IsSound d → Shows K now d c → IsProper K c) → (o : Option Data) (c : Cell) → SoundIf o → RowShows r (Shows K now) now o c
-      → RowMeets r (IsProper K) c
-  row_met must K laws point o c s h = else_meets (Shows K now) (IsProper K) point (λ x. ⊥) (λ x e. absurd e) o c s h
-  row_met may K laws point o c s h = option_meets (Shows K now) (IsProper K) point _ c (not_null_sound o s) h
-  row_met may_null K laws point o c s h = option_meets (Shows K now) (IsProper K) point _ c (not_null_sound o s) h
-  row_met may_strict K laws point o c s h = option_meets (Shows K now) (IsProper K) point o c s h
-  row_met (default D) K laws point o c s h = else_meets (Shows K now) (IsProper K) point (λ x. x ≡ D) (missing_proper (default D) K laws now real) o c s h
-  row_met (always D) K laws point o c s h = else_meets (Shows K now) (IsProper K) point (λ x. x ≡ D) (missing_proper (always D) K laws now real) o c s h
-  row_met (draw Drawn) K laws point o c s h = else_meets (Shows K now) (IsProper K) point Drawn (missing_proper (draw Drawn) K laws now real) o c s h
-  row_met at_once K laws point o c s h = else_meets (Shows K now) (IsProper K) point (λ x. x ≡ now) (missing_proper at_once K laws now real) o c s h
+-- what a demand asks, so that all that is shown meets it
+record IsMetByShown (G : Demand) : Type 1 where
+  -- of each scalar that is lawful
+  scalar : (s : Scalar) → ScalarLaws s → (d : Data) (c : Cell) → IsSound d → s.shows d c → G.scalar s c
+  -- of keys in order, of members that may stand beside rows, of normal values
+  keys : (ks : List (List ℕ)) → AreOrderedTexts ks → G.keys ks
+  other : (o : Other) (ks : List (List ℕ)) (ms : Members) → MayStand o ks ms → G.other o ks ms
+  normal : (K : Kind) (c : Cell) → IsNormal K c → Meets G K c
+
+module _ (G : Demand) (own : IsMetByShown G) (now : Cell) (real : IsMoment now) where
+  -- what stands for what is missing
+  missing_meets : (r : Rule) (K : Kind) → RuleLaws r K → (c : Cell) → Missing r now c → Meets G K c
+  missing_meets must K laws c h = absurd h
+  missing_meets may K laws c h = absurd h
+  missing_meets may_null K laws c h = absurd h
+  missing_meets may_strict K laws c h = absurd h
+  missing_meets (default D) K laws c h = subst (Meets G K) (sym h) (own.normal K D laws.1)
+  missing_meets (always D) K laws c h = subst (Meets G K) (sym h) (own.normal K D laws.1)
+  missing_meets (draw Drawn) K laws c h = own.normal K c (laws.1 c h)
+  missing_meets at_once K laws c h = subst (Meets G K) (sym h) (own.normal K now (laws.1 now real))
+
+  row_meets : (r : Rule) (K : Kind) → RuleLaws r K → ((d : Data) (c : Cell) → IsSound d → Shows K now d c → Meets G K c) → (o : Option Data) (c : Cell) → SoundIf o → RowShows r (Shows K now) now o c → RowMeets r (Meets G K) c
+  row_meets must K laws point o c s h = else_meets (Shows K now) (Meets G K) point (λ x. ⊥) (λ x e. absurd e) o c s h
+  row_meets may K laws point o c s h = option_meets (Shows K now) (Meets G K) point _ c (not_null_sound o s) h
+  row_meets may_null K laws point o c s h = option_meets (Shows K now) (Meets G K) point _ c (not_null_sound o s) h
+  row_meets may_strict K laws point o c s h = option_meets (Shows K now) (Meets G K) point o c s h
+  row_meets (default D) K laws point o c s h = else_meets (Shows K now) (Meets G K) point (λ x. x ≡ D) (missing_meets (default D) K laws) o c s h
+  row_meets (always D) K laws point o c s h = else_meets (Shows K now) (Meets G K) point (λ x. x ≡ D) (missing_meets (always D) K laws) o c s h
+  row_meets (draw Drawn) K laws point o c s h = else_meets (Shows K now) (Meets G K) point Drawn (missing_meets (draw Drawn) K laws) o c s h
+  row_meets at_once K laws point o c s h = else_meets (Shows K now) (Meets G K) point (λ x. x ≡ now) (missing_meets at_once K laws) o c s h
+
+  keys_meet : (ms : Members) → IsOrdered ms → MembersAreSound ms → G.keys (member_keys ms)
+  keys_meet ms order sound = own.keys (member_keys ms) (ordered_keys ms order sound)
+
+  others_meet : (o : Other) (ks : List (List ℕ)) (ms other : Members) → IsSound (object ms) → other ≡ others o ks ms → G.other o ks other
+  others_meet o ks ms other sound is = subst (G.other o ks) (sym is) (own.other o ks (others o ks ms) (others_stand o ks ms sound))
 
   mutual
-    pub shown_proper : (K : Kind) → IsLawful K → (d : Data) (c : Cell) → IsSound d → Shows K now d c → IsProper K c
-    shown_proper (scalar s) laws d c sound h = (laws.shown_stored d c sound h, laws.shown_plain d c sound h)
-    shown_proper (list K) laws d c sound h = array_meets (Shows K now) (IsProper K) (shown_proper K laws) (as_array d) c (array_sound d sound) h
-    shown_proper (map K) laws d c sound h = object_meets (λ k. Shows K now) (IsProper K) (λ k. shown_proper K laws) AreOrderedTexts ordered_keys (as_object d) c (object_sound d sound) h
-    shown_proper (values K) laws d c sound h = array_meets (Shows K now) (IsProper K) (shown_proper K laws) (values_in d) c (values_sound d sound) h
-    shown_proper (table rows o) laws d c sound h =
-        object_holds (λ e. AreFields (λ cs other. RowsShow rows now e cs × (other ≡ others o (keys rows) (members_in e))) c) d (IsProper (table rows o) c)
-        (λ ms is shown. let good = subst IsSound is sound in fields_meet _ _ (λ cs other both. (
-          rows_meet rows laws ms cs good.1 both.0,
-          subst (MayStand o (keys rows)) (sym both.1) (others_stand o (keys rows) ms good),
-        )) c shown) h.0 h.1
-    shown_proper (tagged cases) laws d c sound h =
-        object_holds (λ e. IsChoice (CaseShows cases now (word_of None e) e) c) d (IsProper (tagged cases) c)
+    shown_meets : (K : Kind) → IsLawful K → (d : Data) (c : Cell) → IsSound d → Shows K now d c → Meets G K c
+    shown_meets (scalar s) laws d c sound h = own.scalar s laws d c sound h
+    shown_meets (list K) laws d c sound h = array_meets (Shows K now) (Meets G K) (shown_meets K laws) (as_array d) c (array_sound d sound) h
+    shown_meets (map K) laws d c sound h = object_meets (λ k. Shows K now) (Meets G K) (λ k. shown_meets K laws) G.keys keys_meet (as_object d) c (object_sound d sound) h
+    shown_meets (values K) laws d c sound h = array_meets (Shows K now) (Meets G K) (shown_meets K laws) (values_in d) c (values_sound d sound) h
+    shown_meets (table rows o) laws d c sound h =
+        object_holds (λ e. AreFields (λ cs other. RowsShow rows now e cs × (other ≡ others o (keys rows) (members_in e))) c) d (Meets G (table rows o) c)
+        (λ ms is shown. let good = subst IsSound is sound in fields_meet _ _ (λ cs other both. (rows_meet rows laws ms cs good.1 both.0, others_meet o (keys rows) ms other good both.1)) c shown) h.0 h.1
+    shown_meets (tagged cases) laws d c sound h =
+        object_holds (λ e. IsChoice (CaseShows cases now (word_of None e) e) c) d (Meets G (tagged cases) c)
         (λ ms is shown. choice_meets _ _ (λ n x. case_meets cases laws (word_of None (object ms)) ms n x (subst IsSound is sound)) c shown) h.0 h.1
-    shown_proper (tagged_map cases fallback) laws d c sound h =
-        object_meets (λ k e x. (is_object e ≡ true) × IsChoice (CaseShows cases now (word_of (Some (word_at k (words cases) fallback)) e) e) x) (IsChoice (CaseMeets proper_demand cases))
-        (λ k e x whole one. object_holds (λ f. IsChoice (CaseShows cases now (word_of (Some (word_at k (words cases) fallback)) f) f) x) e (IsChoice (CaseMeets proper_demand cases) x)
+    shown_meets (tagged_map cases fallback) laws d c sound h =
+        object_meets (λ k e x. (is_object e ≡ true) × IsChoice (CaseShows cases now (word_of (Some (word_at k (words cases) fallback)) e) e) x) (IsChoice (CaseMeets G cases))
+        (λ k e x whole one. object_holds (λ f. IsChoice (CaseShows cases now (word_of (Some (word_at k (words cases) fallback)) f) f) x) e (IsChoice (CaseMeets G cases) x)
         (λ ms same each. choice_meets _ _ (λ n y. case_meets cases laws (word_of (Some (word_at k (words cases) fallback)) (object ms)) ms n y (subst IsSound same whole)) x each) one.0 one.1)
-        AreOrderedTexts ordered_keys (as_object d) c (object_sound d sound) h
+        G.keys keys_meet (as_object d) c (object_sound d sound) h
 
-    rows_meet : (rows : Rows) → RowsLawful rows → (ms : Members) (cs : Cells) → MembersAreSound ms → RowsShow rows now (object ms) cs → RowsMeet proper_demand rows cs
+    rows_meet : (rows : Rows) → RowsLawful rows → (ms : Members) (cs : Cells) → MembersAreSound ms → RowsShow rows now (object ms) cs → RowsMeet G rows cs
     rows_meet no_rows laws ms no_cells sound h = tt
     rows_meet no_rows laws ms (cell c cs) sound h = absurd h
     rows_meet (row k r K rows) laws ms no_cells sound h = absurd h
-    rows_meet (row k r K rows) laws ms (cell c cs) sound h = (row_met r K laws.1 (shown_proper K laws.2) (get_member k ms) c (found_sound k ms sound) h.0, rows_meet rows laws.3 ms cs sound h.1)
+    rows_meet (row k r K rows) laws ms (cell c cs) sound h = (row_meets r K laws.1 (shown_meets K laws.2) (get_member k ms) c (found_sound k ms sound) h.0, rows_meet rows laws.3 ms cs sound h.1)
 
-    case_meets : (cases : Cases) → CasesLawful cases → (word : Option (List ℕ)) (ms : Members) (n : ℕ) (c : Cell) → IsSound (object ms) → CaseShows cases now word (object ms) n c → CaseMeets proper_demand cases n c
+    case_meets : (cases : Cases) → CasesLawful cases → (word : Option (List ℕ)) (ms : Members) (n : ℕ) (c : Cell) → IsSound (object ms) → CaseShows cases now word (object ms) n c → CaseMeets G cases n c
     case_meets no_cases laws word ms n c sound h = absurd h
     case_meets (case w rows o cases) laws word ms zero c sound h =
-        fields_meet _ _ (λ cs other both. (
-          rows_meet rows laws.3 ms cs sound.1 both.0,
-          subst (MayStand o (keys rows)) (sym both.1) (others_stand o (keys rows) ms sound),
-        )) c h.1
+        fields_meet _ _ (λ cs other both. (rows_meet rows laws.3 ms cs sound.1 both.0, others_meet o (keys rows) ms other sound both.1)) c h.1
     case_meets (case w rows o cases) laws word ms (suc n) c sound h = case_meets cases laws.4 word ms n c sound h
+
+-- ---- stored and plain, and readable
+
+proper_is_met : IsMetByShown proper_demand
+proper_is_met = record {
+  scalar = λ s laws d c sound h. (laws.shown_stored d c sound h, laws.shown_plain d c sound h);
+  keys = λ ks h. h;
+  other = λ o ks ms h. h;
+  normal = λ K c h. proper K c h.0 h.1;
+}
+
+readable_is_met : IsMetByShown readable_demand
+readable_is_met = record { scalar = λ s laws. laws.shown_readable; keys = λ ks h. tt; other = λ o ks ms h. tt; normal = λ K c h. h.2 }
+
+module _ (now : Cell) (real : IsMoment now) where
+  pub row_met : (r : Rule) (K : Kind) → RuleLaws r K → ((d : Data) (c : Cell) → IsSound d → Shows K now d c → IsProper K c) → (o : Option Data) (c : Cell) → SoundIf o → RowShows r (Shows K now) now o c
+      → RowMeets r (IsProper K) c
+  row_met = row_meets proper_demand proper_is_met now real
+
+  pub shown_proper : (K : Kind) → IsLawful K → (d : Data) (c : Cell) → IsSound d → Shows K now d c → IsProper K c
+  shown_proper = shown_meets proper_demand proper_is_met now real
+
+  pub shown_readable : (K : Kind) → IsLawful K → (d : Data) (c : Cell) → IsSound d → Shows K now d c → IsReadable K c
+  shown_readable = shown_meets readable_demand readable_is_met now real

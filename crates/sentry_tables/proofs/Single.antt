@@ -1,91 +1,87 @@
--- At each moment a tree shows at most one value of a kind that draws nothing.
+-- At each moment a tree in which nothing is drawn shows at most one value.
 use Rattle.std.proofs.Common.{◌≡◌, ℕ, zero, suc, List, ◌∷◌, true, Option, Some, None, refl, sym, ap, ap₂, ◌∙◌, subst}
 use Rattle.std.proofs.lemmas.Bool.{false≢true}
 use Rattle.serde_json.specs.Data.{Data, Items, no_items, item, Members, no_members, member}
 use Rattle.serde_json.specs.Find.{get, as_array, as_object}
-use Rattle.sentry_json.specs.Line.{tree_of}
-use Rattle.sentry_tables.specs.Basic.{read_by}
 use Rattle.sentry_tables.specs.Cell.{Cell, present, sequence, mapping, fields, choice, Cells, no_cells, cell, Entries, no_entries, entry}
 use Rattle.sentry_tables.specs.Kind.{Rule, must, may, may_null, may_strict, default, always, draw, at_once, Kind, scalar, list, map, values, table, tagged, tagged_map, Rows, no_rows, row, Cases, no_cases, case, keys, words, has_key, others}
 use Rattle.sentry_tables.specs.Shows.{is_object, members_in, ObjectShows, IsPresent, IsSequence, IsMapping, AreFields, IsChoice, ItemsShow, MembersShow, ArrayShows, values_in, unless_null, ShowsOption, RowShows, OrElse, word_at, word_of, Shows, RowsShow, CaseShows}
-use Rattle.sentry_tables.specs.Single.{IsFunctional, IsSettled, IsSingle, RowsAreSingle, CasesAreSingle, ShowsOne, TextShowsOne}
+use Rattle.sentry_tables.specs.Lawful.{IsLawful, RowsLawful, CasesLawful}
+use Rattle.sentry_tables.specs.Drawn.{IfGiven, IsGiven, EachItem, EachMember, InArray, InObject, RowHolds, NothingDrawn, RowsDrawNothing, CasesDrawNothing}
 use Rattle.sentry_tables.proofs.Members.{has_key_here, has_key_later}
-
--- ---- scalars that are read by a function
-
-same_cell : (o : Option Cell) (c x : Cell) → o ≡ Some c → o ≡ Some x → c ≡ x
-same_cell o c x h k = cc
-
-pub read_functional : (reads : Data → Option Cell) (writes : Cell → Data) (Stored : Cell → Type 0) → IsFunctional (read_by reads writes Stored)
-read_functional reads writes Stored d c x h k = same_cell (reads d) c x h k
 
 -- ---- one level
 
-module _ (P : Data → Cell → Type 0) (point : (d : Data) (c x : Cell) → P d c → P d x → c ≡ x) where
-  items_single : (ds : Items) (cs xs : Cells) → ItemsShow P ds cs → ItemsShow P ds xs → cs ≡ xs
-  items_single no_items no_cells no_cells h k = refl
-  items_single no_items no_cells (cell x xs) h k = absurd k
-  items_single no_items (cell c cs) xs h k = absurd h
-  items_single (item d ds) no_cells xs h k = absurd h
-  items_single (item d ds) (cell c cs) no_cells h k = absurd k
-  items_single (item d ds) (cell c cs) (cell x xs) h k = ap₂ cell (point d c x h.0 k.0) (items_single ds cs xs h.1 k.1)
+module _ (Q : Data → Type 0) (P : Data → Cell → Type 0) (point : (d : Data) (c x : Cell) → Q d → P d c → P d x → c ≡ x) where
+  items_single : (ds : Items) (cs xs : Cells) → EachItem Q ds → ItemsShow P ds cs → ItemsShow P ds xs → cs ≡ xs
+  items_single no_items no_cells no_cells q h k = refl
+  items_single no_items no_cells (cell x xs) q h k = absurd k
+  items_single no_items (cell c cs) xs q h k = absurd h
+  items_single (item d ds) no_cells xs q h k = absurd h
+  items_single (item d ds) (cell c cs) no_cells q h k = absurd k
+  items_single (item d ds) (cell c cs) (cell x xs) q h k = ap₂ cell (point d c x q.0 h.0 k.0) (items_single ds cs xs q.1 h.1 k.1)
 
-  sequence_single : (ds : Items) (c x : Cell) → IsSequence (ItemsShow P ds) c → IsSequence (ItemsShow P ds) x → c ≡ x
-  sequence_single ds (sequence cs) (sequence xs) h k = ap sequence (items_single ds cs xs h k)
-  sequence_single ds (sequence cs) _ h k = absurd k
-  sequence_single ds _ x h k = absurd h
+  sequence_single : (ds : Items) (c x : Cell) → EachItem Q ds → IsSequence (ItemsShow P ds) c → IsSequence (ItemsShow P ds) x → c ≡ x
+  sequence_single ds (sequence cs) (sequence xs) q h k = ap sequence (items_single ds cs xs q h k)
+  sequence_single ds (sequence cs) _ q h k = absurd k
+  sequence_single ds _ x q h k = absurd h
 
-  array_single : (o : Option Items) (c x : Cell) → ArrayShows P o c → ArrayShows P o x → c ≡ x
-  array_single None c x h k = absurd h
-  array_single (Some ds) c x h k = sequence_single ds c x h k
+  array_single : (o : Option Items) (c x : Cell) → InArray Q o → ArrayShows P o c → ArrayShows P o x → c ≡ x
+  array_single None c x q h k = absurd h
+  array_single (Some ds) c x q h k = sequence_single ds c x q h k
 
-  present_single : (d : Data) (c x : Cell) → IsPresent (P d) c → IsPresent (P d) x → c ≡ x
-  present_single d (present c) (present x) h k = ap present (point d c x h k)
-  present_single d (present c) _ h k = absurd k
-  present_single d _ x h k = absurd h
+  present_single : (d : Data) (c x : Cell) → Q d → IsPresent (P d) c → IsPresent (P d) x → c ≡ x
+  present_single d (present c) (present x) q h k = ap present (point d c x q h k)
+  present_single d (present c) _ q h k = absurd k
+  present_single d _ x q h k = absurd h
 
-  option_single : (o : Option Data) (c x : Cell) → ShowsOption P o c → ShowsOption P o x → c ≡ x
-  option_single None c x h k = h ∙ sym k
-  option_single (Some d) c x h k = present_single d c x h k
+  option_single : (o : Option Data) (c x : Cell) → IfGiven Q o → ShowsOption P o c → ShowsOption P o x → c ≡ x
+  option_single None c x q h k = h ∙ sym k
+  option_single (Some d) c x q h k = present_single d c x q h k
 
-  else_single : (Else : Cell → Type 0) → ((c x : Cell) → Else c → Else x → c ≡ x) → (o : Option Data) (c x : Cell) → OrElse Else P o c → OrElse Else P o x → c ≡ x
-  else_single Else other None c x h k = other c x h k
-  else_single Else other (Some d) c x h k = point d c x h k
+  else_single : (Else : Cell → Type 0) → ((c x : Cell) → Else c → Else x → c ≡ x) → (o : Option Data) (c x : Cell) → IfGiven Q o → OrElse Else P o c → OrElse Else P o x → c ≡ x
+  else_single Else other None c x q h k = other c x h k
+  else_single Else other (Some d) c x q h k = point d c x q h k
 
   -- where one value stands for what is absent
-  else_one : (D : Cell) (o : Option Data) (c x : Cell) → OrElse (λ y. y ≡ D) P o c → OrElse (λ y. y ≡ D) P o x → c ≡ x
+  else_one : (D : Cell) (o : Option Data) (c x : Cell) → IfGiven Q o → OrElse (λ y. y ≡ D) P o c → OrElse (λ y. y ≡ D) P o x → c ≡ x
   else_one D = else_single (λ y. y ≡ D) (λ c x h k. h ∙ sym k)
 
-  row_single : (r : Rule) → IsSettled r → (now : Cell) (o : Option Data) (c x : Cell) → RowShows r P now o c → RowShows r P now o x → c ≡ x
-  row_single must settled now o c x h k = else_single (λ y. ⊥) (λ c x h k. absurd h) o c x h k
-  row_single may settled now o c x h k = option_single (unless_null o) c x h k
-  row_single may_null settled now o c x h k = option_single (unless_null o) c x h k
-  row_single may_strict settled now o c x h k = option_single o c x h k
-  row_single (default D) settled now o c x h k = else_one D o c x h k
-  row_single (always D) settled now o c x h k = else_one D o c x h k
-  row_single (draw Drawn) settled now o c x h k = absurd settled
-  row_single at_once settled now o c x h k = else_one now o c x h k
+  -- where something is given
+  given_single : (Else : Cell → Type 0) (o : Option Data) (c x : Cell) → IsGiven Q o → OrElse Else P o c → OrElse Else P o x → c ≡ x
+  given_single Else None c x q h k = absurd q
+  given_single Else (Some d) c x q h k = point d c x q h k
 
-module _ (P : List ℕ → Data → Cell → Type 0) (point : (k : List ℕ) (d : Data) (c x : Cell) → P k d c → P k d x → c ≡ x) where
+  row_single : (r : Rule) (now : Cell) (o : Option Data) (c x : Cell) → RowHolds r Q o → RowShows r P now o c → RowShows r P now o x → c ≡ x
+  row_single must now o c x q h k = else_single (λ y. ⊥) (λ c x h k. absurd h) o c x q h k
+  row_single may now o c x q h k = option_single (unless_null o) c x q h k
+  row_single may_null now o c x q h k = option_single (unless_null o) c x q h k
+  row_single may_strict now o c x q h k = option_single o c x q h k
+  row_single (default D) now o c x q h k = else_one D o c x q h k
+  row_single (always D) now o c x q h k = else_one D o c x q h k
+  row_single (draw Drawn) now o c x q h k = given_single Drawn o c x q h k
+  row_single at_once now o c x q h k = else_one now o c x q h k
+
+module _ (Q : List ℕ → Data → Type 0) (P : List ℕ → Data → Cell → Type 0) (point : (k : List ℕ) (d : Data) (c x : Cell) → Q k d → P k d c → P k d x → c ≡ x) where
   entry_same : (k l m : List ℕ) (c x : Cell) (es xs : Entries) → k ≡ l → k ≡ m → c ≡ x → es ≡ xs → entry l c es ≡ entry m x xs
   entry_same k l m c x es xs e f g h = cc
 
-  members_single : (ms : Members) (es xs : Entries) → MembersShow P ms es → MembersShow P ms xs → es ≡ xs
-  members_single no_members no_entries no_entries h k = refl
-  members_single no_members no_entries (entry m x xs) h k = absurd k
-  members_single no_members (entry l c es) xs h k = absurd h
-  members_single (member key d ms) no_entries xs h k = absurd h
-  members_single (member key d ms) (entry l c es) no_entries h k = absurd k
-  members_single (member key d ms) (entry l c es) (entry m x xs) h k = entry_same key l m c x es xs h.0 k.0 (point key d c x h.1 k.1) (members_single ms es xs h.2 k.2)
+  members_single : (ms : Members) (es xs : Entries) → EachMember Q ms → MembersShow P ms es → MembersShow P ms xs → es ≡ xs
+  members_single no_members no_entries no_entries q h k = refl
+  members_single no_members no_entries (entry m x xs) q h k = absurd k
+  members_single no_members (entry l c es) xs q h k = absurd h
+  members_single (member key d ms) no_entries xs q h k = absurd h
+  members_single (member key d ms) (entry l c es) no_entries q h k = absurd k
+  members_single (member key d ms) (entry l c es) (entry m x xs) q h k = entry_same key l m c x es xs h.0 k.0 (point key d c x q.0 h.1 k.1) (members_single ms es xs q.1 h.2 k.2)
 
-  mapping_single : (ms : Members) (c x : Cell) → IsMapping (MembersShow P ms) c → IsMapping (MembersShow P ms) x → c ≡ x
-  mapping_single ms (mapping es) (mapping xs) h k = ap mapping (members_single ms es xs h k)
-  mapping_single ms (mapping es) _ h k = absurd k
-  mapping_single ms _ x h k = absurd h
+  mapping_single : (ms : Members) (c x : Cell) → EachMember Q ms → IsMapping (MembersShow P ms) c → IsMapping (MembersShow P ms) x → c ≡ x
+  mapping_single ms (mapping es) (mapping xs) q h k = ap mapping (members_single ms es xs q h k)
+  mapping_single ms (mapping es) _ q h k = absurd k
+  mapping_single ms _ x q h k = absurd h
 
-  object_single : (o : Option Members) (c x : Cell) → ObjectShows P o c → ObjectShows P o x → c ≡ x
-  object_single None c x h k = absurd h
-  object_single (Some ms) c x h k = mapping_single ms c x h k
+  object_single : (o : Option Members) (c x : Cell) → InObject Q o → ObjectShows P o c → ObjectShows P o x → c ≡ x
+  object_single None c x q h k = absurd h
+  object_single (Some ms) c x q h k = mapping_single ms c x q h k
 
 -- rows that show one list of cells, and the members beside them
 fields_single : (P : Cells → Type 0) (ms : Members) → ((cs xs : Cells) → P cs → P xs → cs ≡ xs)
@@ -109,41 +105,33 @@ word_shown (case v rows o cases) now word w d (suc n) c e h = has_key_later w v 
 
 module _ (now : Cell) where
   mutual
-    pub single : (K : Kind) → IsSingle K → (d : Data) (c x : Cell) → Shows K now d c → Shows K now d x → c ≡ x
-    single (scalar s) one d c x h k = one d c x h k
-    single (list K) one d c x h k = array_single (Shows K now) (single K one) (as_array d) c x h k
-    single (map K) one d c x h k = object_single (λ l. Shows K now) (λ l. single K one) (as_object d) c x h k
-    single (values K) one d c x h k = array_single (Shows K now) (single K one) (values_in d) c x h k
-    single (table rows o) one d c x h k = fields_single (RowsShow rows now d) (others o (keys rows) (members_in d)) (rows_single rows one d) c x h.1 k.1
-    single (tagged cases) one d c x h k = choice_single (CaseShows cases now (word_of None d) d) (case_single cases one (word_of None d) d) c x h.1 k.1
-    single (tagged_map cases fallback) one d c x h k =
-        object_single (λ l e y. (is_object e ≡ true) × IsChoice (CaseShows cases now (word_of (Some (word_at l (words cases) fallback)) e) e) y)
-        (λ l e y z p q. choice_single (CaseShows cases now (word_of (Some (word_at l (words cases) fallback)) e) e) (case_single cases one (word_of (Some (word_at l (words cases) fallback)) e) e) y z p.1 q.1)
-        (as_object d) c x h k
+    pub single : (K : Kind) → IsLawful K → (d : Data) (c x : Cell) → NothingDrawn K d → Shows K now d c → Shows K now d x → c ≡ x
+    single (scalar s) laws d c x q h k = laws.single d c x h k
+    single (list K) laws d c x q h k = array_single (NothingDrawn K) (Shows K now) (single K laws) (as_array d) c x q h k
+    single (map K) laws d c x q h k = object_single (λ l. NothingDrawn K) (λ l. Shows K now) (λ l. single K laws) (as_object d) c x q h k
+    single (values K) laws d c x q h k = array_single (NothingDrawn K) (Shows K now) (single K laws) (values_in d) c x q h k
+    single (table rows o) laws d c x q h k = fields_single (RowsShow rows now d) (others o (keys rows) (members_in d)) (λ cs xs. rows_single rows laws d cs xs q) c x h.1 k.1
+    single (tagged cases) laws d c x q h k = choice_single (CaseShows cases now (word_of None d) d) (λ n m y z. case_single cases laws (word_of None d) d n m y z q) c x h.1 k.1
+    single (tagged_map cases fallback) laws d c x q h k =
+        object_single (λ l e. CasesDrawNothing cases (word_of (Some (word_at l (words cases) fallback)) e) e)
+        (λ l e y. (is_object e ≡ true) × IsChoice (CaseShows cases now (word_of (Some (word_at l (words cases) fallback)) e) e) y)
+        (λ l e y z p a b. choice_single (CaseShows cases now (word_of (Some (word_at l (words cases) fallback)) e) e) (λ n m v w. case_single cases laws (word_of (Some (word_at l (words cases) fallback)) e) e n m v w p) y z a.1 b.1)
+        (as_object d) c x q h k
 
-    rows_single : (rows : Rows) → RowsAreSingle rows → (d : Data) (cs xs : Cells) → RowsShow rows now d cs → RowsShow rows now d xs → cs ≡ xs
-    rows_single no_rows one d no_cells no_cells h k = refl
-    rows_single no_rows one d no_cells (cell x xs) h k = absurd k
-    rows_single no_rows one d (cell c cs) xs h k = absurd h
-    rows_single (row l r K rows) one d no_cells xs h k = absurd h
-    rows_single (row l r K rows) one d (cell c cs) no_cells h k = absurd k
-    rows_single (row l r K rows) one d (cell c cs) (cell x xs) h k =
-        ap₂ cell (row_single (Shows K now) (single K one.1) r one.0 now (get l d) c x h.0 k.0) (rows_single rows one.2 d cs xs h.1 k.1)
+    rows_single : (rows : Rows) → RowsLawful rows → (d : Data) (cs xs : Cells) → RowsDrawNothing rows d → RowsShow rows now d cs → RowsShow rows now d xs → cs ≡ xs
+    rows_single no_rows laws d no_cells no_cells q h k = refl
+    rows_single no_rows laws d no_cells (cell x xs) q h k = absurd k
+    rows_single no_rows laws d (cell c cs) xs q h k = absurd h
+    rows_single (row l r K rows) laws d no_cells xs q h k = absurd h
+    rows_single (row l r K rows) laws d (cell c cs) no_cells q h k = absurd k
+    rows_single (row l r K rows) laws d (cell c cs) (cell x xs) q h k =
+        ap₂ cell (row_single (NothingDrawn K) (Shows K now) (single K laws.2) r now (get l d) c x q.0 h.0 k.0) (rows_single rows laws.3 d cs xs q.1 h.1 k.1)
 
-    case_single : (cases : Cases) → CasesAreSingle cases → (word : Option (List ℕ)) (d : Data) (n m : ℕ) (c x : Cell) → CaseShows cases now word d n c → CaseShows cases now word d m x → (n ≡ m) × (c ≡ x)
-    case_single no_cases one word d n m c x h k = absurd h
-    case_single (case w rows o cases) one word d zero zero c x h k = (refl, fields_single (RowsShow rows now d) (others o (keys rows) (members_in d)) (rows_single rows one.1 d) c x h.1 k.1)
-    case_single (case w rows o cases) one word d zero (suc m) c x h k = absurd (false≢true (sym one.0 ∙ word_shown cases now word w d m x h.0 k))
-    case_single (case w rows o cases) one word d (suc n) zero c x h k = absurd (false≢true (sym one.0 ∙ word_shown cases now word w d n c k.0 h))
-    case_single (case w rows o cases) one word d (suc n) (suc m) c x h k = let both = case_single cases one.2 word d n m c x h k in (ap suc both.0, both.1)
-
--- ---- laws
-
-pub shows_one : (K : Kind) → IsSingle K → ShowsOne K
-shows_one K one now = single now K one
-
-same_tree : (o : Option Data) (d e : Data) → o ≡ Some d → o ≡ Some e → d ≡ e
-same_tree o d e h k = cc
-
-pub text_shows_one : (K : Kind) → IsSingle K → TextShowsOne K
-text_shows_one K one now line c x (d, tree, h) (e, other, k) = single now K one d c x h (subst (λ t. Shows K now t x) (same_tree (tree_of line) e d other tree) k)
+    case_single : (cases : Cases) → CasesLawful cases → (word : Option (List ℕ)) (d : Data) (n m : ℕ) (c x : Cell) → CasesDrawNothing cases word d
+        → CaseShows cases now word d n c → CaseShows cases now word d m x → (n ≡ m) × (c ≡ x)
+    case_single no_cases laws word d n m c x q h k = absurd h
+    case_single (case w rows o cases) laws word d zero zero c x q h k =
+        (refl, fields_single (RowsShow rows now d) (others o (keys rows) (members_in d)) (λ cs xs. rows_single rows laws.3 d cs xs (q.0 h.0)) c x h.1 k.1)
+    case_single (case w rows o cases) laws word d zero (suc m) c x q h k = absurd (false≢true (sym laws.0 ∙ word_shown cases now word w d m x h.0 k))
+    case_single (case w rows o cases) laws word d (suc n) zero c x q h k = absurd (false≢true (sym laws.0 ∙ word_shown cases now word w d n c k.0 h))
+    case_single (case w rows o cases) laws word d (suc n) (suc m) c x q h k = let both = case_single cases laws.4 word d n m c x q.1 h k in (ap suc both.0, both.1)

@@ -10,11 +10,15 @@ use Rattle.sentry_tables.specs.Norm.{norm}
 use Rattle.sentry_tables.specs.Written.{is_null}
 use Rattle.sentry_tables.specs.Meets.{IsPlain, IsReadable, IsStored}
 
+-- each tree shows at most one value
+abbrev pub IsFunctional : Scalar → Type 0
+IsFunctional s = (d : Data) (c x : Cell) → s.shows d c → s.shows d x → c ≡ x
+
 -- What a scalar owes, of values that are stored and plain.
 pub record ScalarLaws (s : Scalar) : Type 0 where
-  -- what is written shows the normal form and nothing else
+  -- what is written shows the normal form, and so nothing else, since no tree shows two values
   pub back : (c : Cell) → s.stored c × s.plain c → s.readable c → s.shows (s.tree c) (s.norm c)
-  pub only : (c x : Cell) → s.stored c × s.plain c → s.readable c → s.shows (s.tree c) x → x ≡ s.norm c
+  pub single : IsFunctional s
   -- the normal form is its own, and is stored, plain, and readable where the value is
   pub again : (c : Cell) → s.stored c × s.plain c → s.norm (s.norm c) ≡ s.norm c
   pub stored_norm : (c : Cell) → s.stored c × s.plain c → s.stored (s.norm c)
@@ -27,9 +31,10 @@ pub record ScalarLaws (s : Scalar) : Type 0 where
   pub null_norm : (c : Cell) → s.stored c × s.plain c → s.is_null (s.norm c) ≡ s.is_null c
   -- what is written can be printed and read
   pub sound : (c : Cell) → s.stored c × s.plain c → IsSound (s.tree c)
-  -- what is shown is stored and plain, is null of null alone, and is written as its normal form is
+  -- what is shown is stored, plain and readable, is null of null alone, and is written as its normal form is
   pub shown_stored : (d : Data) (c : Cell) → IsSound d → s.shows d c → s.stored c
   pub shown_plain : (d : Data) (c : Cell) → IsSound d → s.shows d c → s.plain c
+  pub shown_readable : (d : Data) (c : Cell) → IsSound d → s.shows d c → s.readable c
   pub shown_null : (d : Data) (c : Cell) → s.shows d c → s.is_null c ≡ true → is_null d ≡ true
   pub shown_tree : (d : Data) (c : Cell) → IsSound d → s.shows d c → s.tree c ≡ s.tree (s.norm c)
   -- some value is shown, or none is

@@ -11,6 +11,7 @@ use Rattle.sentry_tables.specs.Norm.{norm}
 use Rattle.sentry_tables.specs.Written.{tree}
 use Rattle.sentry_tables.specs.Meets.{IsPlain, IsReadable, IsStored}
 use Rattle.sentry_tables.specs.Lawful.{IsMoment}
+use Rattle.sentry_tables.specs.Drawn.{NothingDrawn, NothingDrawnInText}
 
 -- ---- of trees
 
@@ -51,6 +52,18 @@ IsTimeless K = (d : Data) (now later c : Cell) → Shows K now d c → (x : Cell
 abbrev pub IsWritten : Kind → Type 0
 IsWritten K = (c : Cell) → IsStored K c → IsPlain K c → IsSound (tree K c)
 
+-- At each moment a tree in which nothing is drawn shows at most one value.
+abbrev pub ShowsOne : Kind → Type 0
+ShowsOne K = (now : Cell) (d : Data) (c x : Cell) → NothingDrawn K d → Shows K now d c → Shows K now d x → c ≡ x
+
+-- Nothing is drawn of the written tree of a stored, plain value.
+abbrev pub WrittenDrawsNothing : Kind → Type 0
+WrittenDrawsNothing K = (c : Cell) → IsStored K c → IsPlain K c → NothingDrawn K (tree K c)
+
+-- What any tree shows is readable.
+abbrev pub ShownReadable : Kind → Type 0
+ShownReadable K = (d : Data) (c now : Cell) → IsSound d → IsMoment now → Shows K now d c → IsReadable K c
+
 -- ---- of lines of text
 
 -- the line is a tree that shows the value
@@ -79,6 +92,18 @@ IsDecidedText K = (line : List ℕ) (now : Cell) → ((c : Cell) × TextShows K 
 abbrev pub IsTimelessText : Kind → Type 0
 IsTimelessText K = (line : List ℕ) (now later c : Cell) → TextShows K now line c → (x : Cell) × TextShows K later line x
 
+-- At each moment a line in which nothing is drawn shows at most one value.
+abbrev pub TextShowsOne : Kind → Type 0
+TextShowsOne K = (now : Cell) (line : List ℕ) (c x : Cell) → NothingDrawnInText K line → TextShows K now line c → TextShows K now line x → c ≡ x
+
+-- Nothing is drawn of the written text of a stored, plain value, where its tree isn't too deep to be read.
+abbrev pub TextDrawsNothing : Kind → Type 0
+TextDrawsNothing K = (c : Cell) → IsStored K c → IsPlain K c → depth (tree K c) ≤ 127 → NothingDrawnInText K (compact_text (tree K c))
+
+-- What a line shows is readable.
+abbrev pub TextShownReadable : Kind → Type 0
+TextShownReadable K = (line : List ℕ) (c now : Cell) → IsMoment now → TextShows K now line c → IsReadable K c
+
 -- ---- all of them
 
 -- What each lawful kind has.
@@ -90,8 +115,14 @@ pub record HasLaws (K : Kind) : Type 0 where
   pub decided : IsDecided K
   pub timeless : IsTimeless K
   pub written : IsWritten K
+  pub single : ShowsOne K
+  pub undrawn : WrittenDrawsNothing K
+  pub shown_readable : ShownReadable K
   pub text_back : ReadsBackText K
   pub one_text : HasOneText K
   pub text_rewritten : IsRewrittenText K
   pub text_decided : IsDecidedText K
   pub text_timeless : IsTimelessText K
+  pub text_single : TextShowsOne K
+  pub text_undrawn : TextDrawsNothing K
+  pub text_shown_readable : TextShownReadable K

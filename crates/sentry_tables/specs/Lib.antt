@@ -1,5 +1,7 @@
 pub mod Basic
 pub mod Cell
+pub mod Defaults
+pub mod Drawn
 pub mod Fields
 pub mod Kind
 pub mod Lawful
@@ -7,5 +9,5 @@ pub mod Laws
 pub mod Meets
 pub mod Norm
 pub mod Shows
-pub mod Single
 pub mod Written
+pub mod WrittenAs

@@ -1,8 +1,6 @@
-// Worked rows.
-mod beginnings;
-mod headers;
+// Envelopes: their memory, their files, and writers that fail.
+mod files;
 mod memory;
-mod reading;
 mod values;
 mod writing;
 
@@ -12,7 +10,7 @@ use sentry_types::protocol::v7::{
 };
 use std::alloc::{AllocError, Global};
 
-/// An envelope of 80 bytes: a header line of 47, an item's header of 21, each with a newline after it, and `helloworld`.
+/// An envelope of an attachment of `helloworld`.
 const BYTES: &[u8] =
     b"{\"event_id\":\"9ec79c33ec9942ab8353589fcb2e04dc\"}\n{\"type\":\"attachment\"}\nhelloworld";
 
@@ -34,38 +32,6 @@ fn read(alloc: Global, bytes: &[u8]) -> Result<Envelope, EnvelopeError> {
 fn is_written(alloc: Global, envelope: &Envelope, text: &str) -> bool {
     let mut out = Vec::new(alloc);
     envelope.to_writer(alloc, &mut out).is_ok() && out.as_slice() == text.as_bytes()
-}
-
-/// Whether the envelope that bytes spell is written as this text.
-fn is_rewritten(alloc: Global, bytes: &str, text: &str) -> bool {
-    match read(alloc, bytes.as_bytes()) {
-        Ok(envelope) => is_written(alloc, &envelope, text),
-        Err(_) => false,
-    }
-}
-
-/// Whether bytes spell an envelope of attachments alone, of these bytes in order.
-fn has_attachments(alloc: Global, bytes: &[u8], buffers: &[&str]) -> bool {
-    let Ok(envelope) = read(alloc, bytes) else {
-        return false;
-    };
-    let mut items = envelope.items();
-    for buffer in buffers {
-        if !is_attachment(items.next(), buffer) {
-            return false;
-        }
-    }
-    items.next().is_none()
-}
-
-/// Whether there is an item, an attachment of these bytes.
-fn is_attachment(item: Option<&EnvelopeItem>, buffer: &str) -> bool {
-    match item {
-        Some(EnvelopeItem::Attachment(attachment)) => {
-            attachment.buffer.as_slice() == buffer.as_bytes()
-        }
-        _ => false,
-    }
 }
 
 /// An attachment of `helloworld`.

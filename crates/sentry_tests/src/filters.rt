@@ -113,46 +113,57 @@ fn is_a_recording(envelope: Envelope) -> bool {
         && envelope.uuid().is_none()
 }
 
-#[test]
-fn orphans_are_handed_over_last(rt: HostRuntime) -> Result<(), Fail> {
-    let envelope = envelope_of(rt.alloc(), &["A", "B"])?;
-    let calls = "ask A, ask B, hand B, hand A, ";
-    assert!(rt; left_by(rt.alloc(), envelope, &[true, false], false, calls)?.is_none());
-    Ok(())
-}
+/// An envelope of these names, what is answered, whether the fields of the header stay, the calls, and whether a
+/// recording is left.
+type Row = (
+    &'static [&'static str],
+    &'static [bool],
+    bool,
+    &'static str,
+    bool,
+);
+
+const ROWS: &[Row] = &[
+    (&[], &[], false, "", false),
+    (&[], &[], true, "", false),
+    // Attachments that may not stay alone are handed over last.
+    (
+        &["A", "B"],
+        &[true, false],
+        false,
+        "ask A, ask B, hand B, hand A, ",
+        false,
+    ),
+    (
+        &["A", "B", "C", "D"],
+        &[true, false, true, false],
+        false,
+        "ask A, ask B, hand B, ask C, ask D, hand D, hand A, hand C, ",
+        false,
+    ),
+    (
+        &["recording", "A", "B", "C"],
+        &[true, false, true, false],
+        false,
+        "ask recording, ask A, hand A, ask B, ask C, hand C, hand B, ",
+        true,
+    ),
+    // The id goes where no event is left.
+    (
+        &["recording", "A"],
+        &[true, true],
+        true,
+        "ask recording, ask A, hand A, ",
+        true,
+    ),
+];
 
 #[test]
-fn each_refused_attachment_goes_at_once(rt: HostRuntime) -> Result<(), Fail> {
-    let envelope = envelope_of(rt.alloc(), &["A", "B", "C", "D"])?;
-    let answers = [true, false, true, false];
-    let calls = "ask A, ask B, hand B, ask C, ask D, hand D, hand A, hand C, ";
-    assert!(rt; left_by(rt.alloc(), envelope, &answers, false, calls)?.is_none());
-    Ok(())
-}
-
-#[test]
-fn a_recording_stays_where_attachments_go(rt: HostRuntime) -> Result<(), Fail> {
-    let envelope = envelope_of(rt.alloc(), &["recording", "A", "B", "C"])?;
-    let answers = [true, false, true, false];
-    let calls = "ask recording, ask A, hand A, ask B, ask C, hand C, hand B, ";
-    assert!(rt; left_by(rt.alloc(), envelope, &answers, false, calls)?.is_some_and(is_a_recording));
-    Ok(())
-}
-
-#[test]
-fn the_id_goes_with_its_event(rt: HostRuntime) -> Result<(), Fail> {
-    let envelope = envelope_of(rt.alloc(), &["recording", "A"])?;
-    let calls = "ask recording, ask A, hand A, ";
-    assert!(rt;
-        left_by(rt.alloc(), envelope, &[true, true], true, calls)?.is_some_and(is_a_recording)
-    );
-    Ok(())
-}
-
-#[test]
-fn no_item_is_no_call(rt: HostRuntime) -> Result<(), Fail> {
-    for keep in [false, true] {
-        assert!(rt; left_by(rt.alloc(), envelope_of(rt.alloc(), &[])?, &[], keep, "")?.is_none());
+fn each_item_is_asked_about_once(rt: HostRuntime) -> Result<(), Fail> {
+    let alloc = rt.alloc();
+    for (names, answers, keep, calls, stays) in ROWS {
+        let left = left_by(alloc, envelope_of(alloc, names)?, answers, *keep, calls)?;
+        assert!(rt; left.is_some_and(is_a_recording) == *stays, "{calls}");
     }
     Ok(())
 }
@@ -222,9 +233,8 @@ fn closures_count(rt: HostRuntime) -> Result<(), Fail> {
     let alloc = rt.alloc();
     let names = ["recording", "A", "B"];
     let asked = without_attachments(alloc, envelope_of(alloc, &names)?);
-    assert!(rt; counts(asked) == Some((3, 1)));
     let dropped = count_dropped(alloc, envelope_of(alloc, &names)?);
-    assert!(rt; counts(dropped) == Some((2, 1)));
+    assert!(rt; counts(asked) == Some((3, 1)) && counts(dropped) == Some((2, 1)));
     Ok(())
 }
 
@@ -245,10 +255,7 @@ fn collected(alloc: Global, envelope: Envelope) -> (Option<Option<Envelope>>, Ve
 fn callbacks_collect_what_goes(rt: HostRuntime) -> Result<(), Fail> {
     let alloc = rt.alloc();
     let (left, dropped) = collected(alloc, envelope_of(alloc, &["A", "recording"])?);
-    assert!(rt; matches!(left, Some(None)));
-    let mut dropped = dropped.into_iter();
-    assert!(rt; dropped.next() == Some(recording(alloc)));
-    assert!(rt; dropped.next() == Some(item(alloc, "A")?));
-    assert!(rt; dropped.next().is_none());
+    let both = dropped.as_slice() == [recording(alloc), item(alloc, "A")?].as_slice();
+    assert!(rt; both && matches!(left, Some(None)));
     Ok(())
 }

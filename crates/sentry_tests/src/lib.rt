@@ -1,15 +1,22 @@
-//! Tests of envelopes, filters, keys and software by the names of `sentry_types`. This crate has no code of its own.
+//! Tests of what no line of text can ask, by public names: drawn ids, orders, memory and writers that fail, filters
+//! with a state. This crate has no code of its own.
 #![tactic(auto)]
 
 #[cfg(test)]
-mod auths;
-#[cfg(test)]
-mod dsns;
+mod drawn;
 #[cfg(test)]
 mod envelopes;
 #[cfg(test)]
+mod errors;
+#[cfg(test)]
 mod filters;
+#[cfg(test)]
+mod indexed;
 #[cfg(test)]
 mod main_path;
 #[cfg(test)]
-mod software;
+mod rows;
+#[cfg(test)]
+mod urls;
+#[cfg(test)]
+mod values;

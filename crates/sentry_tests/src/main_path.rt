@@ -1,4 +1,10 @@
 // What a user of envelopes does, by the names of `sentry_types` alone.
+ghost use Rattle.std.specs.Prelude.{◌≡◌, IfOk};
+ghost use Rattle.sentry_envelope.specs.Envelope.{Envelope as Model, Spells, IsEnvelopeReadable};
+ghost use Rattle.sentry_envelope.specs.SentryProfile.{profile};
+ghost use Rattle.sentry_moments.specs.Moments.{moment_cell};
+
+use rand_core::Rng;
 use rand_pcg::Pcg32;
 use sentry_types::protocol::latest::client_report::LossSource;
 use sentry_types::protocol::latest::{Envelope, EnvelopeItem, Moment};
@@ -26,12 +32,41 @@ fn read_filtered_and_written(rt: HostRuntime) -> Result<(), Fail> {
     let alloc = rt.alloc();
     let left = without_attachments(alloc, TWO_ITEMS.as_bytes())?.ok_or("nothing is left")?;
     let mut losses = left.losses();
-    assert!(rt; losses.next().is_some());
-    assert!(rt; losses.next().is_none());
+    assert!(rt; losses.next().is_some() && losses.next().is_none());
     let mut out = Vec::new(alloc);
     left.to_writer(alloc, &mut out)?;
     let text = "{}\n{\"length\":3,\"type\":\"replay_recording\"}\nabc\n";
     assert_eq!(rt; out.as_slice(), text.as_bytes());
+    Ok(())
+}
+
+/// The text of the envelope that bytes spell at one moment, and the text of what that text spells at another: one text,
+/// where what the bytes spell is readable.
+fn written_twice<R: Rng>(
+    alloc: Global,
+    bytes: &[u8],
+    now: Moment,
+    later: Moment,
+    ids: &mut R,
+) -> Result<(Vec<u8>, Vec<u8>), Fail>
+    ensures { IfOk result (λ texts. ((e : Model) → Spells profile bytes.now (moment_cell now) e → IsEnvelopeReadable profile e) → texts.0.items ≡ texts.1.items) }
+{
+    let envelope = Envelope::from_slice(alloc, bytes, now, ids)?;
+    let mut text = Vec::new(alloc);
+    envelope.to_writer(alloc, &mut text)?;
+    let again = Envelope::from_slice(alloc, &text, later, ids)?;
+    let mut same = Vec::new(alloc);
+    again.to_writer(alloc, &mut same)?;
+    Ok((text, same))
+}
+
+#[test]
+fn written_twice_as_once(rt: HostRuntime) -> Result<(), Fail> {
+    let now = Moment::new(0, 0).ok_or("no moment")?;
+    let later = Moment::new(1, 0).ok_or("no moment")?;
+    let mut ids = Pcg32::new(42, 54);
+    let (text, same) = written_twice(rt.alloc(), TWO_ITEMS.as_bytes(), now, later, &mut ids)?;
+    assert_eq!(rt; text.as_slice(), same.as_slice());
     Ok(())
 }
 
@@ -40,7 +75,6 @@ fn a_dsn_authenticates_at_the_latest_version(rt: HostRuntime) -> Result<(), Fail
     let alloc = rt.alloc();
     let dsn = Dsn::from_str(alloc, "https://username@domain/42")?;
     let auth = dsn.to_auth(alloc, Moment::new(0, 0).ok_or("no moment")?, None)?;
-    assert_eq!(rt; auth.version(), protocol::LATEST);
-    assert_eq!(rt; auth.public_key(), "username");
+    assert!(rt; auth.version() == protocol::LATEST && auth.public_key() == "username");
     Ok(())
 }

@@ -20,11 +20,10 @@ pub use sentry_numbers::{
     ProjectId, SeverityOutOfRange,
 };
 pub use sentry_rows::draw::or_drawn_as;
-pub use sentry_rows::{Drawn, rows, tagged};
+pub use sentry_rows::{Drawn, FromTreeAt, rows, tagged};
 pub use sentry_units::Unit;
 pub use sentry_words::{
     IndexedEnum, Level, LogLevel, MetricType, MonitorCheckInStatus, MonitorIntervalUnit,
     Orientation, ParseLevelError, ParseSessionStatusError, ParseStatusError, ParseWordError,
     Sampled, SessionStatus, SpanStatus,
 };
-pub use timed::FromTreeAt;

@@ -15,4 +15,4 @@ pub use sentry_text::{
     CodeId, DebugId, FromHexError, IndexedEnum, ParseDebugIdError, ParseNumberError,
     ParseProjectIdError, ParseWordError, ProjectId, random_uuid,
 };
-pub use uuid::{Uuid, Variant as UuidVariant, Version as UuidVersion};
+pub use uuid::Uuid;

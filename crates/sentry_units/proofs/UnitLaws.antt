@@ -1,5 +1,5 @@
 -- Units: the table by its parts, and what their spelling owes.
-use Rattle.std.proofs.Common.{◌≡◌, ℕ, zero, suc, Bool, true, false, ◌||◌, cond, List, [], ◌∷◌, ◌++◌, Option, Some, None, unwrap_or, bytes_eq, codes, refl, ap, subst, IsUtf8}
+use Rattle.std.proofs.Common.{◌≡◌, ℕ, zero, suc, Bool, true, false, ◌||◌, cond, List, [], ◌∷◌, ◌++◌, Option, Some, None, unwrap_or, bytes_eq, codes, refl, sym, ap, subst, ◌∙◌, option_map, IsUtf8}
 use Rattle.std.specs.Prelude.{⊤}
 use Rattle.std.proofs.lemmas.Option.{same_Some}
 use Rattle.std.specs.List.{list_any, AllByRecursion, IsDistinct}
@@ -7,10 +7,13 @@ use Rattle.sentry_tables.specs.Cell.{Cell, text, choice}
 use Rattle.sentry_tables.specs.Lawful.{is_ascii}
 use Rattle.sentry_tables.specs.Norm.{norm}
 use Rattle.sentry_tables.specs.Laws.{HasLaws}
-use Rattle.sentry_tables.proofs.Laws.{has_laws}
 use Rattle.sentry_tables.proofs.Sound.{ascii_text}
-use Rattle.sentry_members.specs.Spelling.{SpellingLaws}
-use Rattle.sentry_members.proofs.Spellings.{ReadLaws, read_to_laws, spelled_laws}
+use Rattle.sentry_members.specs.Spelling.{SpellingLaws, spelled_kind}
+use Rattle.sentry_members.specs.Made.{made}
+use Rattle.sentry_members.specs.declared.way.Way.{Way}
+use Rattle.sentry_members.specs.declared.way.Way.TheVariants.{Normal}
+use Rattle.sentry_members.proofs.Ways.{made_normal}
+use Rattle.sentry_members.proofs.Spellings.{ReadLaws, read_to_laws, spelled_has_laws}
 use Rattle.sentry_units.specs.Units.{Row, times, sizes, binary_sizes, shares, units, spellings, known, other, unit_cell, found, unit_of, unit_text, IsUnit, unit_norm, unit_spelling, unit_kind}
 use Rattle.sentry_units.specs.declared.unit.Unit.{Unit}
 use Rattle.sentry_units.specs.declared.unit.Unit.TheVariants
@@ -101,7 +104,7 @@ pub unit_laws : SpellingLaws unit_spelling
 unit_laws = read_to_laws (λ word. Some (unit_of word)) unit_text unit_norm IsUnit unit_reads
 
 pub unit_has_laws : HasLaws unit_kind
-unit_has_laws = has_laws unit_kind (spelled_laws unit_spelling unit_laws)
+unit_has_laws = spelled_has_laws unit_spelling unit_laws
 
 pub symbol_read : norm unit_kind (other (codes "ms")) ≡ known (codes "millisecond")
 unfolding times
@@ -163,3 +166,42 @@ unit_stored TheVariants.Exbibyte utf8 = refl
 unit_stored TheVariants.Ratio utf8 = refl
 unit_stored TheVariants.Percent utf8 = refl
 unit_stored (TheVariants.Other word) utf8 = utf8
+
+-- ---- the normal form of a unit
+
+normal_is : (unit : Unit) → unit_norm (unit_cell unit) ≡ unwrap_or (found units (unit_text (unit_cell unit))) (unit_cell unit)
+unfolding times sizes binary_sizes shares
+normal_is TheVariants.Nanosecond = refl
+normal_is TheVariants.Microsecond = refl
+normal_is TheVariants.Millisecond = refl
+normal_is TheVariants.Second = refl
+normal_is TheVariants.Minute = refl
+normal_is TheVariants.Hour = refl
+normal_is TheVariants.Day = refl
+normal_is TheVariants.Week = refl
+normal_is TheVariants.Bit = refl
+normal_is TheVariants.Byte = refl
+normal_is TheVariants.Kilobyte = refl
+normal_is TheVariants.Kibibyte = refl
+normal_is TheVariants.Megabyte = refl
+normal_is TheVariants.Mebibyte = refl
+normal_is TheVariants.Gigabyte = refl
+normal_is TheVariants.Gibibyte = refl
+normal_is TheVariants.Terabyte = refl
+normal_is TheVariants.Tebibyte = refl
+normal_is TheVariants.Petabyte = refl
+normal_is TheVariants.Pebibyte = refl
+normal_is TheVariants.Exabyte = refl
+normal_is TheVariants.Exbibyte = refl
+normal_is TheVariants.Ratio = refl
+normal_is TheVariants.Percent = refl
+normal_is (TheVariants.Other word) = refl
+
+normal_by : (unit : Unit) (s : List ℕ) (o : Option Unit) → s ≡ unit_text (unit_cell unit) → option_map unit_cell o ≡ found units s → unit_norm (unit_cell unit) ≡ unwrap_or (option_map unit_cell o) (unit_cell unit)
+normal_by unit s o is known = normal_is unit ∙ ap (λ x. unwrap_or (found units x) (unit_cell unit)) (sym is) ∙ ap (λ x. unwrap_or x (unit_cell unit)) (sym known)
+
+pub known_normal : (way : Way) (unit v : Unit) (s : List ℕ) (o : Option Unit) → way ≡ Normal → o ≡ Some v → option_map unit_cell o ≡ found units s → s ≡ unit_text (unit_cell unit) → unit_cell v ≡ made way (spelled_kind unit_spelling) (unit_cell unit)
+known_normal way unit v s o normal there known is = made_normal way unit_kind (unit_cell unit) (unit_cell v) normal (sym (normal_by unit s o is known ∙ ap (λ x. unwrap_or (option_map unit_cell x) (unit_cell unit)) there))
+
+pub other_normal : (way : Way) (unit v : Unit) (s : List ℕ) (o : Option Unit) → way ≡ Normal → o ≡ None → option_map unit_cell o ≡ found units s → s ≡ unit_text (unit_cell unit) → unit_cell v ≡ unit_cell unit → unit_cell v ≡ made way (spelled_kind unit_spelling) (unit_cell unit)
+other_normal way unit v s o normal none known is same = made_normal way unit_kind (unit_cell unit) (unit_cell v) normal (same ∙ sym (normal_by unit s o is known ∙ ap (λ x. unwrap_or (option_map unit_cell x) (unit_cell unit)) none))

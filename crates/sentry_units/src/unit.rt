@@ -4,7 +4,7 @@ ghost use Rattle.std.specs.Prelude.{◌≡◌, IfOk, option_map, string_bytes};
 ghost use Rattle.std.specs.Cow.{cow_str_bytes};
 ghost use Rattle.sentry_units.specs.Units.{times, sizes, binary_sizes, shares, units, found, unit_cell, unit_of, unit_text, unit_spelling};
 
-use sentry_members::{Room, Spelled, TreeError};
+use sentry_members::{AsText, Formed, Room, Spelled, TreeError, Way};
 use std::alloc::{AllocError, Global};
 use std::borrow::CowStr;
 
@@ -232,6 +232,10 @@ impl From<String> for Unit {
     }
 }
 
+impl Formed for Unit {
+    type Form = AsText;
+}
+
 impl Spelled for Unit {
     ghost spelling = { unit_spelling };
 
@@ -248,8 +252,15 @@ impl Spelled for Unit {
         Ok(self.as_str())
     }
 
-    fn copied(&self) -> Result<Unit, AllocError> {
-        self.clone()
+    #[tactic(auto, using(sentry_members::proofs::Ways::made_same, crate::proofs::UnitLaws::known_normal, crate::proofs::UnitLaws::other_normal))]
+    fn copied(&self, way: Way) -> Result<Unit, AllocError> {
+        match way {
+            Way::Same => self.clone(),
+            Way::Normal => match Unit::known(self.as_str()) {
+                Some(unit) => Ok(unit),
+                None => self.clone(),
+            },
+        }
     }
 
     #[tactic(auto, using(crate::proofs::UnitLaws::unit_stored))]

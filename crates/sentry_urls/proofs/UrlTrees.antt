@@ -21,13 +21,10 @@ use Rattle.sentry_tables.specs.Lawful.{RefusesNull, IsNormal}
 use Rattle.sentry_tables.specs.Laws.{HasLaws}
 use Rattle.sentry_tables.specs.Meets.{IsStored, IsReadable}
 use Rattle.sentry_tables.specs.Shows.{Shows}
-use Rattle.sentry_tables.specs.Single.{IsSingle}
-use Rattle.sentry_tables.proofs.Laws.{has_laws}
 use Rattle.sentry_members.specs.Cells.{natural_cell, option_cell, cells}
 use Rattle.sentry_members.specs.Spelling.{SpellingLaws}
 use Rattle.sentry_members.specs.Written.{written, WritesTree}
-use Rattle.sentry_members.proofs.Single.{spelled_functional}
-use Rattle.sentry_members.proofs.Spellings.{spelled_laws, shown_readable, spelled_refuses_null, text_tree, spelling_wrote}
+use Rattle.sentry_members.proofs.Spellings.{spelled_laws, spelled_has_laws, spelled_refuses_null, text_tree, spelling_wrote}
 use Rattle.sentry_urls.specs.UrlTree.{host_cell, url_cell, text_of, natural_of, naturals_of, host_of, option_of, url_of, UrlReadsBack, url_spelling, url_kind}
 use Rattle.sentry_urls.proofs.ParsedUrls.{parsed_valid}
 use Rattle.sentry_urls.proofs.Utf8Bytes.{utf8_bytes}
@@ -71,36 +68,39 @@ cell_written c url is = ap (λ x. serialize (url_of x)) (sym is) ∙ url_written
 same_url : (a b : Parts) (r : Parsed Parts) → r ≡ Ok a → r ≡ Ok b → a ≡ b
 same_url a b r one two = let both = sym one ∙ two in cc
 
-spelled_only : (c x : Cell) (a b : Parts) → url_cell a ≡ c → UrlReadsBack a → url_cell b ≡ x → parse_url None (serialize (url_of c)) ≡ Ok b → x ≡ c
-spelled_only c x a b is own was other =
-    let same = same_url a b (parse_url None (serialize a)) own (ap (parse_url None) (sym (cell_written c a is)) ∙ other) in
-    sym was ∙ ap url_cell (sym same) ∙ is
+one_spelled : (s : List ℕ) (c x : Cell) → url_spelling.spells s c → url_spelling.spells s x → c ≡ x
+one_spelled s c x (url, is, parsed) (other, also, again) = sym is ∙ ap url_cell (same_url url other (parse_url None s) parsed again) ∙ also
 
 some_spelled : (s : List ℕ) (r : Parsed Parts) → parse_url None s ≡ r → ((c : Cell) × url_spelling.spells s c) ⊎ ((c : Cell) → url_spelling.spells s c → ⊥)
 some_spelled s (Ok url) is = inl (url_cell url, (url, refl, is))
 some_spelled s (Err error) is = inr (λ c h. let both = sym is ∙ h.2 in cc)
 
+-- the URL of a text of UTF-8 is valid, and is read back from its own text
+pub named_valid : (s : List ℕ) (url : Parts) → IsUtf8 s → parse_url None s ≡ Ok url → IsValid url
+named_valid s url utf8 parsed = parsed_valid s url (utf8_bytes s utf8) parsed
+
+pub named_reads_back : (s : List ℕ) (url : Parts) → IsUtf8 s → parse_url None s ≡ Ok url → UrlReadsBack url
+named_reads_back s url utf8 parsed = parse_url_idempotent None None s url tt (named_valid s url utf8 parsed) parsed
+
 pub url_laws : SpellingLaws url_spelling
 url_laws = record {
   back = λ c p q. (q.0, q.1, ap (parse_url None) (cell_written c q.0 q.1) ∙ q.2);
-  only = λ c x p q h. spelled_only c x q.0 h.0 q.1 q.2 h.1 h.2;
+  one = one_spelled;
   again = λ c p. refl;
   stored_norm = λ c p. p;
   readable_norm = λ c p q. q;
   utf8 = λ c p. subst IsUtf8 (sym (cell_written c p.0 p.1)) (IsUtf8-from_ascii (serialize p.0) (IsAscii-serialize p.0 p.2));
-  spelled_stored = λ s c utf8 h. (h.0, h.1, parsed_valid s h.0 (utf8_bytes s utf8) h.2);
+  spelled_stored = λ s c utf8 h. (h.0, h.1, named_valid s h.0 utf8 h.2);
+  spelled_readable = λ s c utf8 h. (h.0, h.1, named_reads_back s h.0 utf8 h.2);
   spelled_written = λ s c utf8 h. refl;
   decide = λ s. some_spelled s (parse_url None s) refl;
 }
 
 pub url_has_laws : HasLaws url_kind
-url_has_laws = has_laws url_kind (spelled_laws url_spelling url_laws)
+url_has_laws = spelled_has_laws url_spelling url_laws
 
-one_spelled : (s : List ℕ) (c x : Cell) → url_spelling.spells s c → url_spelling.spells s x → c ≡ x
-one_spelled s c x (url, is, parsed) (other, also, again) = sym is ∙ ap url_cell (same_url url other (parse_url None s) parsed again) ∙ also
-
-pub url_single : IsSingle url_kind
-url_single = spelled_functional url_spelling one_spelled
+pub url_shown_readable : (now : Cell) (d : Data) (c : Cell) → IsSound d → Shows url_kind now d c → IsReadable url_kind c
+url_shown_readable now = (spelled_laws url_spelling url_laws).shown_readable
 
 pub url_refuses_null : RefusesNull url_kind
 url_refuses_null = spelled_refuses_null url_spelling
@@ -110,14 +110,7 @@ url_normal c stored readable = (stored, tt, readable, refl)
 
 -- ---- which URLs are read back
 
--- the URL of a text of UTF-8 is valid, and is read back from its own text
-pub named_valid : (s : List ℕ) (url : Parts) → IsUtf8 s → parse_url None s ≡ Ok url → IsValid url
-named_valid s url utf8 parsed = parsed_valid s url (utf8_bytes s utf8) parsed
-
-pub named_reads_back : (s : List ℕ) (url : Parts) → IsUtf8 s → parse_url None s ≡ Ok url → UrlReadsBack url
-named_reads_back s url utf8 parsed = parse_url_idempotent None None s url tt (named_valid s url utf8 parsed) parsed
-
--- and so is each canonical URL
+-- each canonical URL is, too
 pub canonical_reads_back : (url : Parts) → IsValid url → IsCanonical url → UrlReadsBack url
 canonical_reads_back url valid canonical = parse_url-serialize url None valid canonical
 
@@ -129,10 +122,6 @@ pub urls_decide : (a b : Parts) → UrlReadsBack a → UrlReadsBack b → bytes_
 urls_decide a b own other =
     let decides = bytes_eq-Decides (serialize a) (serialize b) in
     (λ equal. one_text a b own other (decides.0 equal), λ same. decides.1 (ap serialize same))
-
--- what a tree shows is readable
-pub url_shown_readable : (now : Cell) (d : Data) (c : Cell) → IsSound d → Shows url_kind now d c → IsReadable url_kind c
-url_shown_readable now d c sound h = shown_readable url_spelling (λ s c utf8 e. (e.0, e.1, named_reads_back s e.0 utf8 e.2)) d c sound h
 
 -- ---- what is written
 

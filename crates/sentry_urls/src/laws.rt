@@ -12,7 +12,6 @@ ghost use Rattle.sentry_tables.specs.Laws.{HasLaws};
 ghost use Rattle.sentry_tables.specs.Lawful.{IsNormal, RefusesNull};
 ghost use Rattle.sentry_tables.specs.Meets.{IsReadable, IsStored};
 ghost use Rattle.sentry_tables.specs.Shows.{Shows};
-ghost use Rattle.sentry_tables.specs.Single.{IsSingle};
 ghost use Rattle.sentry_urls.specs.UrlTree.{url_cell, url_kind, UrlReadsBack};
 
 use url::Url;
@@ -25,11 +24,10 @@ pub fn parsed_urls()
 {}
 
 /// URLs in trees. Each is its own normal form, and is written as its text. Equal cells are those of
-/// equal URLs; a tree shows at most one, and what it shows is readable.
+/// equal URLs; what a tree shows is readable.
 pub fn url_trees()
     ensures laws { HasLaws url_kind }
     ensures no_null { RefusesNull url_kind }
-    ensures single { IsSingle url_kind }
     ensures cells { (a b : Parts) → url_cell a ≡ url_cell b → a ≡ b }
     ensures stored { (url : Parts) → IsValid url → IsStored url_kind (url_cell url) }
     ensures shown { (now : Cell) (tree : Data) (c : Cell) → IsSound tree → Shows url_kind now tree c →

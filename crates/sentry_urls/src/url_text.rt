@@ -7,7 +7,8 @@ ghost use Rattle.sentry_urls.specs.UrlTree as spec;
 ghost use Rattle.sentry_urls.specs.UrlTree.{url_cell, url_kind, url_spelling};
 
 use json::Writer;
-use sentry_members::{Codec, ReadCodec, TreeError};
+use sentry_members::{Codec, ReadCodec, TreeError, Way};
+use sentry_trees::Node;
 use serde_json::Value;
 use std::alloc::{AllocError, Global};
 use url::{ParseError, Url};
@@ -37,8 +38,13 @@ impl Codec<Url> for UrlText {
         out.string(value.as_str())
     }
 
-    fn copy(value: &Url) -> Result<Url, AllocError> {
+    #[tactic(auto, using(sentry_members::proofs::Ways::unchanged))]
+    fn remade(value: &Url, _way: Way) -> Result<Url, AllocError> {
         value.clone()
+    }
+
+    fn is_null_tree(_value: &Url) -> bool {
+        false
     }
 
     fn is_plain(value: &Url) -> bool {
@@ -49,8 +55,8 @@ impl Codec<Url> for UrlText {
 
 impl ReadCodec<Url> for UrlText {
     #[tactic(auto, using(sentry_members::proofs::Spellings::text_read, sentry_members::proofs::Spellings::not_text))]
-    fn from_tree(alloc: Global, tree: &Value) -> Result<Url, TreeError> {
-        match tree.as_str() {
+    fn from_node<N: Node>(alloc: Global, node: &N) -> Result<Url, TreeError> {
+        match node.as_str() {
             Some(text) => read_url(alloc, text),
             None => Err(TreeError::Misfit),
         }

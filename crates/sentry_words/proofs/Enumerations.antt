@@ -2,10 +2,9 @@
 use Rattle.std.proofs.Common.{◌≡◌, ℕ, List, Option, Some, true, refl}
 use Rattle.sentry_tables.specs.Lawful.{is_ascii}
 use Rattle.sentry_tables.specs.Laws.{HasLaws}
-use Rattle.sentry_tables.proofs.Laws.{has_laws}
 use Rattle.sentry_tables.proofs.Sound.{ascii_text}
-use Rattle.sentry_members.specs.Spelling.{Spelling, SpellingLaws, enumeration, spelled_kind}
-use Rattle.sentry_members.proofs.Spellings.{enumeration_laws, spelled_laws}
+use Rattle.sentry_members.specs.Spelling.{SpellingLaws, enumeration}
+use Rattle.sentry_members.proofs.Spellings.{enumeration_laws, spelled_has_laws}
 use Rattle.sentry_words.specs.Level.{level_word, level_of, level_spelling, level_kind}
 use Rattle.sentry_words.specs.SpanStatus.{span_status_word, span_status_of, span_status_spelling, span_status_kind}
 use Rattle.sentry_words.specs.SessionStatus.{session_status_word, session_status_of, session_status_spelling, session_status_kind}
@@ -29,9 +28,6 @@ ReadsItsWords {V} of_text word = (v : V) → (of_text (word v) ≡ Some v) × (i
 
 pub words_laws : {V : Type 0} (of_text : List ℕ → Option V) (word : V → List ℕ) → ReadsItsWords of_text word → SpellingLaws (enumeration of_text word)
 words_laws of_text word own = enumeration_laws of_text word (λ v. (own v).0) (λ v. ascii_text (word v) (own v).1)
-
-pub spelled_has_laws : (S : Spelling) → SpellingLaws S → HasLaws (spelled_kind S)
-spelled_has_laws S own = has_laws (spelled_kind S) (spelled_laws S own)
 
 level_words_read : ReadsItsWords level_of level_word
 level_words_read level.Debug = (refl, refl)

@@ -1,10 +1,9 @@
 -- Truth values as texts read back.
 use Rattle.std.proofs.Common.{◌≡◌, codes, Bool, true, false, Some, refl, IsUtf8}
 use Rattle.sentry_tables.specs.Laws.{HasLaws}
-use Rattle.sentry_tables.proofs.Laws.{has_laws}
 use Rattle.sentry_tables.proofs.Sound.{ascii_text}
 use Rattle.sentry_members.specs.Spelling.{SpellingLaws, IsWord}
-use Rattle.sentry_members.proofs.Spellings.{enumeration_laws, spelled_laws}
+use Rattle.sentry_members.proofs.Spellings.{enumeration_laws, spelled_has_laws}
 use Rattle.sentry_words.specs.Sampled.{sampled_word, sampled_of, sampled_spelling, sampled_kind, sampled_cell}
 
 pub sampled_stored : (truth : Bool) → IsWord sampled_word (sampled_cell truth)
@@ -22,4 +21,4 @@ pub sampled_laws : SpellingLaws sampled_spelling
 sampled_laws = enumeration_laws sampled_of sampled_word sampled_back utf8
 
 pub sampled_has_laws : HasLaws sampled_kind
-sampled_has_laws = has_laws sampled_kind (spelled_laws sampled_spelling sampled_laws)
+sampled_has_laws = spelled_has_laws sampled_spelling sampled_laws

@@ -33,6 +33,7 @@ use crate::orientation::Orientation;
 use crate::session_status::SessionStatus;
 use crate::span_status::SpanStatus;
 use std::fmt::Display;
+use std::hash::Hash;
 
 /// Truth values as texts.
 pub fn sampled_texts_read_back()
@@ -123,4 +124,10 @@ pub fn equal_words()
 pub fn ordered_words()
     ensures levels { (a b : Levels) → ⟦<Level as Ord>⟧.cmp a b ≡ nat_cmp (level_index a) (level_index b) }
     ensures session_statuses { (a b : SessionStatuses) → ⟦<SessionStatus as Ord>⟧.cmp a b ≡ nat_cmp (session_status_index a) (session_status_index b) }
+{}
+
+/// Equal values hash alike: they make the same writes into any hasher. So says std of each type that is hashed, and
+/// each impl proves it.
+pub fn equal_values_hash_alike<T: Hash>()
+    ensures { (a b : T) → T.eq a b ≡ true → T.hash_input a ≡ T.hash_input b }
 {}

@@ -5,7 +5,7 @@ ghost use Rattle.std.specs.Result.{result_ok};
 ghost use Rattle.sentry_members.specs.Spelling.{word_cell};
 
 use sentry_members::member::Usual;
-use sentry_members::{Room, Spelled, TreeError};
+use sentry_members::{AsText, Formed, Room, Spelled, TreeError, Way};
 use std::alloc::{AllocError, Global};
 use std::fmt;
 use std::str::FromStr;
@@ -122,6 +122,10 @@ impl FromStr for Level {
     }
 }
 
+impl Formed for Level {
+    type Form = AsText;
+}
+
 impl Spelled for Level {
     ghost use Rattle.sentry_words.specs.Level.{level_word, level_spelling};
 
@@ -140,7 +144,8 @@ impl Spelled for Level {
         Ok(self.as_str())
     }
 
-    fn copied(&self) -> Result<Level, AllocError> {
+    #[tactic(auto, using(sentry_members::proofs::Ways::unchanged))]
+    fn copied(&self, _way: Way) -> Result<Level, AllocError> {
         Ok(*self)
     }
 

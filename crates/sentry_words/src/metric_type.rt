@@ -5,7 +5,7 @@ ghost use Rattle.std.specs.Result.{result_ok};
 ghost use Rattle.sentry_members.specs.Spelling.{word_cell};
 
 use crate::parse_word_error::ParseWordError;
-use sentry_members::{Room, Spelled, TreeError};
+use sentry_members::{AsText, Formed, Room, Spelled, TreeError, Way};
 use std::alloc::{AllocError, Global};
 use std::str::FromStr;
 
@@ -59,6 +59,10 @@ impl FromStr for MetricType {
     }
 }
 
+impl Formed for MetricType {
+    type Form = AsText;
+}
+
 impl Spelled for MetricType {
     ghost use Rattle.sentry_words.specs.MetricType.{metric_type_word, metric_type_spelling};
 
@@ -77,7 +81,8 @@ impl Spelled for MetricType {
         Ok(self.as_str())
     }
 
-    fn copied(&self) -> Result<MetricType, AllocError> {
+    #[tactic(auto, using(sentry_members::proofs::Ways::unchanged))]
+    fn copied(&self, _way: Way) -> Result<MetricType, AllocError> {
         Ok(*self)
     }
 

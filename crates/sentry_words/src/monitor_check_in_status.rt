@@ -3,7 +3,7 @@
 ghost use Rattle.std.specs.Prelude.{◌≡◌};
 ghost use Rattle.sentry_members.specs.Spelling.{word_cell};
 
-use sentry_members::{Room, Spelled, TreeError};
+use sentry_members::{AsText, Formed, Room, Spelled, TreeError, Way};
 use std::alloc::{AllocError, Global};
 
 /// How a check-in of a monitor went.
@@ -53,6 +53,10 @@ impl MonitorCheckInStatus {
     }
 }
 
+impl Formed for MonitorCheckInStatus {
+    type Form = AsText;
+}
+
 impl Spelled for MonitorCheckInStatus {
     ghost use Rattle.sentry_words.specs.MonitorCheckInStatus.{check_in_status_word, check_in_status_spelling};
 
@@ -68,7 +72,8 @@ impl Spelled for MonitorCheckInStatus {
         Ok(self.as_str())
     }
 
-    fn copied(&self) -> Result<MonitorCheckInStatus, AllocError> {
+    #[tactic(auto, using(sentry_members::proofs::Ways::unchanged))]
+    fn copied(&self, _way: Way) -> Result<MonitorCheckInStatus, AllocError> {
         Ok(*self)
     }
 

@@ -5,7 +5,7 @@ ghost use Rattle.std.specs.Result.{result_ok};
 ghost use Rattle.sentry_members.specs.Spelling.{word_cell};
 
 use crate::parse_word_error::ParseWordError;
-use sentry_members::{Room, Spelled, TreeError};
+use sentry_members::{AsText, Formed, Room, Spelled, TreeError, Way};
 use std::alloc::{AllocError, Global};
 use std::str::FromStr;
 
@@ -71,6 +71,10 @@ impl FromStr for MonitorIntervalUnit {
     }
 }
 
+impl Formed for MonitorIntervalUnit {
+    type Form = AsText;
+}
+
 impl Spelled for MonitorIntervalUnit {
     ghost use Rattle.sentry_words.specs.MonitorIntervalUnit.{interval_unit_word, interval_unit_spelling};
 
@@ -89,7 +93,8 @@ impl Spelled for MonitorIntervalUnit {
         Ok(self.as_str())
     }
 
-    fn copied(&self) -> Result<MonitorIntervalUnit, AllocError> {
+    #[tactic(auto, using(sentry_members::proofs::Ways::unchanged))]
+    fn copied(&self, _way: Way) -> Result<MonitorIntervalUnit, AllocError> {
         Ok(*self)
     }
 

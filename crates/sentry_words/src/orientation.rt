@@ -5,7 +5,7 @@ ghost use Rattle.std.specs.Result.{result_ok};
 ghost use Rattle.sentry_members.specs.Spelling.{word_cell};
 
 use crate::parse_word_error::ParseWordError;
-use sentry_members::{Room, Spelled, TreeError};
+use sentry_members::{AsText, Formed, Room, Spelled, TreeError, Way};
 use std::alloc::{AllocError, Global};
 use std::str::FromStr;
 
@@ -55,6 +55,10 @@ impl FromStr for Orientation {
     }
 }
 
+impl Formed for Orientation {
+    type Form = AsText;
+}
+
 impl Spelled for Orientation {
     ghost use Rattle.sentry_words.specs.Orientation.{orientation_word, orientation_spelling};
 
@@ -73,7 +77,8 @@ impl Spelled for Orientation {
         Ok(self.as_str())
     }
 
-    fn copied(&self) -> Result<Orientation, AllocError> {
+    #[tactic(auto, using(sentry_members::proofs::Ways::unchanged))]
+    fn copied(&self, _way: Way) -> Result<Orientation, AllocError> {
         self.clone()
     }
 

@@ -5,7 +5,8 @@ ghost use Rattle.sentry_members.specs.Spelling.{ReadsSpelling};
 ghost use Rattle.sentry_words.specs.Sampled.{sampled_word, sampled_kind, sampled_spelling, sampled_cell};
 
 use json::Writer;
-use sentry_members::{Codec, ReadCodec, TreeError};
+use sentry_members::{Codec, ReadCodec, TreeError, Way};
+use sentry_trees::Node;
 use serde_json::Value;
 use std::alloc::{AllocError, Global};
 
@@ -48,8 +49,13 @@ impl Codec<bool> for Sampled {
         out.string(word(*value))
     }
 
-    fn copy(value: &bool) -> Result<bool, AllocError> {
+    #[tactic(auto, using(sentry_members::proofs::Ways::unchanged))]
+    fn remade(value: &bool, _way: Way) -> Result<bool, AllocError> {
         Ok(*value)
+    }
+
+    fn is_null_tree(_value: &bool) -> bool {
+        false
     }
 
     #[tactic(auto, using(crate::proofs::SampledLaws::sampled_stored))]
@@ -60,8 +66,8 @@ impl Codec<bool> for Sampled {
 
 impl ReadCodec<bool> for Sampled {
     #[tactic(auto, using(sentry_members::proofs::Spellings::text_read, sentry_members::proofs::Spellings::not_text))]
-    fn from_tree(_alloc: Global, tree: &Value) -> Result<bool, TreeError> {
-        match tree.as_str() {
+    fn from_node<N: Node>(_alloc: Global, node: &N) -> Result<bool, TreeError> {
+        match node.as_str() {
             Some(text) => truth_of(text),
             None => Err(TreeError::Misfit),
         }

@@ -5,7 +5,7 @@ ghost use Rattle.std.specs.Result.{result_ok};
 ghost use Rattle.sentry_members.specs.Spelling.{word_cell};
 
 use sentry_members::member::Usual;
-use sentry_members::{Room, Spelled, TreeError};
+use sentry_members::{AsText, Formed, Room, Spelled, TreeError, Way};
 use std::alloc::{AllocError, Global};
 use std::fmt;
 use std::str::FromStr;
@@ -83,6 +83,10 @@ impl FromStr for SessionStatus {
     }
 }
 
+impl Formed for SessionStatus {
+    type Form = AsText;
+}
+
 impl Spelled for SessionStatus {
     ghost use Rattle.sentry_words.specs.SessionStatus.{session_status_word, session_status_spelling};
 
@@ -101,7 +105,8 @@ impl Spelled for SessionStatus {
         Ok(self.as_str())
     }
 
-    fn copied(&self) -> Result<SessionStatus, AllocError> {
+    #[tactic(auto, using(sentry_members::proofs::Ways::unchanged))]
+    fn copied(&self, _way: Way) -> Result<SessionStatus, AllocError> {
         Ok(*self)
     }
 

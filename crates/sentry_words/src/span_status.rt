@@ -4,7 +4,7 @@ ghost use Rattle.std.specs.Prelude.{◌≡◌, Some};
 ghost use Rattle.std.specs.Result.{result_ok};
 ghost use Rattle.sentry_members.specs.Spelling.{word_cell};
 
-use sentry_members::{Room, Spelled, TreeError};
+use sentry_members::{AsText, Formed, Room, Spelled, TreeError, Way};
 use std::alloc::{AllocError, Global};
 use std::fmt;
 use std::str::FromStr;
@@ -131,6 +131,10 @@ impl FromStr for SpanStatus {
     }
 }
 
+impl Formed for SpanStatus {
+    type Form = AsText;
+}
+
 impl Spelled for SpanStatus {
     ghost use Rattle.sentry_words.specs.SpanStatus.{span_status_word, span_status_spelling};
 
@@ -149,7 +153,8 @@ impl Spelled for SpanStatus {
         Ok(self.as_str())
     }
 
-    fn copied(&self) -> Result<SpanStatus, AllocError> {
+    #[tactic(auto, using(sentry_members::proofs::Ways::unchanged))]
+    fn copied(&self, _way: Way) -> Result<SpanStatus, AllocError> {
         Ok(*self)
     }
 

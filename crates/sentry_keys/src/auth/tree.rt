@@ -7,10 +7,11 @@ ghost use Rattle.sentry_keys.specs.AuthFields.{auth_table, rows_cell};
 
 use crate::auth::Auth;
 use json::Writer;
-use sentry_members::{FromTree, Member, TreeError};
+use sentry_members::{FromTree, Member, TreeError, Way};
 use sentry_rows::rows::{object, optional_or_null, required};
 use sentry_rows::table::{table_tree, write_table};
-use sentry_rows::{Sink, Table};
+use sentry_rows::{Giver, Sink, Table};
+use sentry_trees::Node;
 use serde_json::Value;
 use std::alloc::{AllocError, Global};
 
@@ -19,12 +20,11 @@ impl Table for Auth {
 
     ghost lines = { auth_fields };
 
-    fn rows<S: Sink>(&self, sink: &mut S) -> Result<(), AllocError> {
-        sink.optional_or_null("sentry_client", &self.client)?;
-        sink.required("sentry_key", &self.key)?;
-        sink.optional_or_null("sentry_secret", &self.secret)?;
-        sink.required("sentry_version", &self.version)?;
-        Ok(())
+    fn rows<S: Sink>(&self, to: &mut Giver<'_, S>) {
+        to.optional_or_null("sentry_client", &self.client);
+        to.required("sentry_key", &self.key);
+        to.optional_or_null("sentry_secret", &self.secret);
+        to.required("sentry_version", &self.version);
     }
 
     ghost ordered = { auth_in_order };
@@ -47,9 +47,21 @@ impl Member for Auth {
         write_table(self, out)
     }
 
-    #[tactic(auto, using(crate::proofs::AuthTrees::same_cells))]
-    fn copy(&self) -> Result<Auth, AllocError> {
-        self.clone()
+    #[tactic(auto, using(crate::proofs::AuthMade::copy_made, crate::proofs::AuthMade::normal_made))]
+    fn remade(&self, way: Way) -> Result<Auth, AllocError> {
+        let mut copy = self.clone()?;
+        match way {
+            Way::Same => Ok(copy),
+            Way::Normal => {
+                copy.timestamp = None;
+                Ok(copy)
+            }
+        }
+    }
+
+    #[tactic(auto, unfolding(crate::specs::AuthFields::auth_kind))]
+    fn is_null_tree(&self) -> bool {
+        false
     }
 
     fn is_plain(&self) -> bool {
@@ -58,24 +70,24 @@ impl Member for Auth {
 }
 
 // What the rows of a tree show, without a moment.
-#[tactic(auto, using(sentry_rows::proofs::Answering::table_fails, sentry_rows::proofs::Answering::not_object), unfolding(crate::specs::AuthFields::auth_table))]
-fn read_rows(alloc: Global, tree: &Value) -> Result<Auth, TreeError>
-    ensures rows { Reads auth_table rows_cell (view tree.now) result }
+#[tactic(auto, using(sentry_readers::proofs::Answering::table_fails, sentry_readers::proofs::Answering::not_object), unfolding(crate::specs::AuthFields::auth_table))]
+fn read_rows<N: Node>(alloc: Global, node: &N) -> Result<Auth, TreeError>
+    ensures rows { Reads auth_table rows_cell (N.data_of node.now) result }
     ensures untimed { IfOk result (λ auth. auth.timestamp ≡ None) }
 {
-    object(tree)?;
+    object(node)?;
     Ok(Auth {
         timestamp: None,
-        client: optional_or_null(alloc, tree, "sentry_client")?,
-        key: required(alloc, tree, "sentry_key")?,
-        secret: optional_or_null(alloc, tree, "sentry_secret")?,
-        version: required(alloc, tree, "sentry_version")?,
+        client: optional_or_null(alloc, node, "sentry_client")?,
+        key: required(alloc, node, "sentry_key")?,
+        secret: optional_or_null(alloc, node, "sentry_secret")?,
+        version: required(alloc, node, "sentry_version")?,
     })
 }
 
 impl FromTree for Auth {
     #[tactic(auto, using(crate::proofs::AuthTrees::auth_read))]
-    fn from_tree(alloc: Global, tree: &Value) -> Result<Auth, TreeError> {
-        read_rows(alloc, tree)
+    fn from_node<N: Node>(alloc: Global, node: &N) -> Result<Auth, TreeError> {
+        read_rows(alloc, node)
     }
 }

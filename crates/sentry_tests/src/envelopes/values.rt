@@ -1,19 +1,43 @@
 // Envelopes that are put together.
-use super::{HELLO, ID_LINE, hello, is_written, read, recording};
-use sentry_types::Uuid;
+use super::{HELLO, ID_LINE, hello, is_written, recording};
 use sentry_types::protocol::v7::client_report::{ItemLoss, LossSource};
-use sentry_types::protocol::v7::{AddRefused, Envelope, EnvelopeHeaders, EnvelopeItem};
-use std::alloc::Global;
+use sentry_types::protocol::v7::{
+    AddRefused, Attachment, AttachmentType, ClientSdkInfo, Envelope, EnvelopeHeaders, EnvelopeItem,
+    Moment,
+};
+use sentry_types::{Dsn, Uuid};
+use std::alloc::{AllocError, Global};
 use std::test::Fail;
 
 #[test]
 fn empty(rt: HostRuntime) {
     let alloc = rt.alloc();
     let envelope = Envelope::new(alloc);
-    assert!(rt; is_written(alloc, &envelope, "{}\n"));
-    assert!(rt; envelope.is_plain());
-    assert!(rt; envelope.uuid().is_none());
-    assert!(rt; envelope == Envelope::default_in(alloc));
+    assert!(rt; is_written(alloc, &envelope, "{}\n") && envelope.is_plain());
+    assert!(rt; envelope == Envelope::default_in(alloc) && envelope.uuid().is_none());
+}
+
+fn software(alloc: Global) -> Result<ClientSdkInfo, AllocError> {
+    Ok(ClientSdkInfo {
+        name: String::from_str(alloc, "a")?,
+        version: String::from_str(alloc, "1")?,
+        integrations: Vec::new(alloc),
+        packages: Vec::new(alloc),
+    })
+}
+
+#[test]
+fn headers(rt: HostRuntime) -> Result<(), Fail> {
+    let alloc = rt.alloc();
+    let headers = EnvelopeHeaders::new()
+        .with_dsn(Dsn::from_str(alloc, "https://username@domain/42")?)
+        .with_sdk(software(alloc)?)
+        .with_sent_at(Moment::new(1_581_084_960, 0).ok_or("no moment")?);
+    let envelope = Envelope::new(alloc).with_headers(headers);
+    let text =
+        "{\"dsn\":\"https://username:@domain/42\",\"sdk\":{\"name\":\"a\",\"version\":\"1\"},\"sent_at\":\"2020-02-07T14:16:00Z\"}\n";
+    assert!(rt; is_written(alloc, &envelope, text) && is_written(alloc, &envelope.clone()?, text));
+    Ok(())
 }
 
 /// An envelope of the attachment of `helloworld`, raw bytes and a recording, with an id in its header.
@@ -39,9 +63,8 @@ fn is_of_three_items(envelope: &Envelope) -> bool {
 fn items(rt: HostRuntime) -> Result<(), Fail> {
     let id = Uuid::parse_str("9ec79c33ec9942ab8353589fcb2e04dc")?;
     let envelope = three_items(rt.alloc(), id)?;
-    assert_eq!(rt; envelope.uuid().copied(), Some(id));
-    assert!(rt; *envelope.headers() == EnvelopeHeaders::new().with_event_id(id));
-    assert!(rt; is_of_three_items(&envelope));
+    let same = *envelope.headers() == EnvelopeHeaders::new().with_event_id(id);
+    assert!(rt; same && envelope.uuid().copied() == Some(id) && is_of_three_items(&envelope));
     Ok(())
 }
 
@@ -53,7 +76,6 @@ fn raw_items_are_not_written(rt: HostRuntime) -> Result<(), Fail> {
     )?;
     let envelope = three_items(alloc, Uuid::parse_str("9ec79c33ec9942ab8353589fcb2e04dc")?)?;
     assert!(rt; is_written(alloc, &envelope, text.as_str()));
-    assert_eq!(rt; read(alloc, text.as_bytes())?.items().count(), 2);
     Ok(())
 }
 
@@ -61,10 +83,60 @@ fn raw_items_are_not_written(rt: HostRuntime) -> Result<(), Fail> {
 fn copies(rt: HostRuntime) -> Result<(), Fail> {
     let envelope = three_items(rt.alloc(), Uuid::nil())?;
     let copy = envelope.clone()?;
-    assert!(rt; copy == envelope);
-    assert!(rt; is_of_three_items(&copy));
-    assert_eq!(rt; copy.items().clone()?.count(), 3);
-    assert_eq!(rt; copy.into_items().count(), 3);
+    assert!(rt; copy == envelope && is_of_three_items(&copy));
+    assert!(rt; copy.items().clone()?.count() == 3 && copy.into_items().count() == 3);
+    Ok(())
+}
+
+/// Whether an item is an attachment of this type and content type.
+fn is_attachment(item: Option<&EnvelopeItem>, ty: &AttachmentType, content_type: &str) -> bool {
+    match item {
+        Some(
+            EnvelopeItem::Attachment(
+                Attachment {
+                    ty: Some(found),
+                    content_type: Some(text),
+                    ..
+                },
+            ),
+        ) => found == ty && text.as_str() == content_type,
+        _ => false,
+    }
+}
+
+#[test]
+fn normal_forms(rt: HostRuntime) -> Result<(), Fail> {
+    let alloc = rt.alloc();
+    let id = Uuid::parse_str("9ec79c33ec9942ab8353589fcb2e04dc")?;
+    let normal = three_items(alloc, id)?.normalized()?;
+    let mut items = normal.items();
+    let filled = is_attachment(
+        items.next(),
+        &AttachmentType::Attachment,
+        "application/octet-stream",
+    );
+    let recorded = matches!(items.next(), Some(EnvelopeItem::ReplayRecording(_)));
+    assert!(rt; filled && recorded && items.next().is_none() && normal.uuid().copied() == Some(id));
+    Ok(())
+}
+
+#[test]
+fn normal_forms_of_types(rt: HostRuntime) -> Result<(), Fail> {
+    let alloc = rt.alloc();
+    let mut attachment = Attachment::default_in(alloc);
+    attachment.ty = Some(AttachmentType::Custom(String::from_str(alloc, "event.minidump")?));
+    attachment.content_type = Some(String::from_str(alloc, "text/plain")?);
+    let envelope = Envelope::from_item(alloc, EnvelopeItem::Attachment(attachment))?;
+    let normal = envelope.normalized()?;
+    assert!(rt;
+        is_attachment(
+            normal.items().next(),
+            &AttachmentType::Minidump,
+            "text/plain"
+        )
+    );
+    let raw = Envelope::from_bytes_raw(b"oh stahp!".to_vec(alloc)?)?;
+    assert!(rt; raw.normalized()? == raw);
     Ok(())
 }
 
@@ -80,22 +152,7 @@ fn is_refused(alloc: Global, envelope: &mut Envelope) -> Result<bool, Fail> {
 fn raw_envelopes_take_no_items(rt: HostRuntime) -> Result<(), Fail> {
     let mut envelope = Envelope::from_bytes_raw(b"oh stahp!\0\x01\x02".to_vec(rt.alloc())?)?;
     assert!(rt; envelope.add_item(EnvelopeItem::Raw).is_ok());
-    assert!(rt; is_refused(rt.alloc(), &mut envelope)?);
-    assert_eq!(rt; envelope.into_items().count(), 0);
-    Ok(())
-}
-
-#[test]
-fn raw_bytes(rt: HostRuntime) -> Result<(), Fail> {
-    let alloc = rt.alloc();
-    let text = "oh stahp!\0\x01\x02";
-    let envelope = Envelope::from_bytes_raw(text.as_bytes().to_vec(alloc)?)?.with_headers(
-        EnvelopeHeaders::default_in(alloc),
-    );
-    assert!(rt; is_written(alloc, &envelope, text));
-    assert!(rt; !envelope.is_plain());
-    assert!(rt; envelope == envelope.clone()?);
-    assert!(rt; envelope.items().next().is_none());
+    assert!(rt; is_refused(rt.alloc(), &mut envelope)? && envelope.into_items().count() == 0);
     Ok(())
 }
 
@@ -112,17 +169,7 @@ fn is_loss(loss: Option<ItemLoss>, word: &str, quantity: u64) -> bool {
 fn losses(rt: HostRuntime) -> Result<(), Fail> {
     let envelope = three_items(rt.alloc(), Uuid::nil())?;
     let mut losses = envelope.losses();
-    assert!(rt; is_loss(losses.next(), "attachment", 10));
-    assert!(rt; is_loss(losses.next(), "replay", 1));
-    assert!(rt; losses.next().is_none());
-    Ok(())
-}
-
-#[test]
-fn nothing_to_lose(rt: HostRuntime) -> Result<(), Fail> {
-    let alloc = rt.alloc();
-    assert!(rt; Envelope::new(alloc).losses().next().is_none());
-    let raw = Envelope::from_bytes_raw(b"oh stahp!\0\x01\x02".to_vec(alloc)?)?;
-    assert!(rt; raw.losses().next().is_none());
+    let both = is_loss(losses.next(), "attachment", 10) && is_loss(losses.next(), "replay", 1);
+    assert!(rt; both && losses.next().is_none());
     Ok(())
 }

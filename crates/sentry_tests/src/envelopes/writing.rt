@@ -1,5 +1,5 @@
 // Writers that fail.
-use super::{HELLO, ID_LINE, is_written, read};
+use super::{HELLO, ID_LINE, read};
 use sentry_types::protocol::v7::{CountedWriter, Envelope, EnvelopeWriteError};
 use std::alloc::Global;
 use std::io;
@@ -64,9 +64,11 @@ fn a_failed_write_ends_it(rt: HostRuntime) -> Result<(), Fail> {
     for by_error in [false, true] {
         for room in 0..text.len() {
             let mut out = Full::new(alloc, room, by_error);
-            let answer = envelope.to_writer(alloc, &mut out);
-            assert!(rt; matches!(answer, Err(EnvelopeWriteError::Io)));
-            assert!(rt; out.holds(text.as_bytes(), room));
+            let failed = matches!(
+                envelope.to_writer(alloc, &mut out),
+                Err(EnvelopeWriteError::Io)
+            );
+            assert!(rt; failed && out.holds(text.as_bytes(), room));
         }
     }
     Ok(())
@@ -80,9 +82,8 @@ fn a_failed_write_is_counted(rt: HostRuntime) -> Result<(), Fail> {
         for room in 0..text.len() {
             let mut out = CountedWriter::new(Full::new(alloc, room, by_error));
             let answer = envelope.write_counted(alloc, &mut out);
-            assert!(rt; matches!(answer, Err(EnvelopeWriteError::Io)));
-            assert_eq!(rt; out.failures(), 1);
-            assert!(rt; out.into_inner().holds(text.as_bytes(), room));
+            let failed = matches!(answer, Err(EnvelopeWriteError::Io)) && out.failures() == 1;
+            assert!(rt; failed && out.into_inner().holds(text.as_bytes(), room));
         }
     }
     Ok(())
@@ -100,25 +101,11 @@ fn is_taken(alloc: Global, envelope: &Envelope, text: &str, room: usize) -> bool
 fn a_byte_at_a_time(rt: HostRuntime) -> Result<(), Fail> {
     let alloc = rt.alloc();
     let (envelope, text) = with_text(alloc)?;
-    assert!(rt; is_written(alloc, &envelope, text.as_str()));
     for room in [text.len(), usize::MAX] {
         let mut out = Full::new(alloc, room, true);
-        assert!(rt; envelope.to_writer(alloc, &mut out).is_ok());
-        assert!(rt; out.holds(text.as_bytes(), text.len()));
-        assert!(rt; is_taken(alloc, &envelope, text.as_str(), room));
-    }
-    Ok(())
-}
-
-#[test]
-fn texts(rt: HostRuntime) -> Result<(), Fail> {
-    let alloc = rt.alloc();
-    for (error, text) in [
-        (EnvelopeWriteError::NotPlain, "NotPlain"),
-        (EnvelopeWriteError::Memory, "out of memory"),
-        (EnvelopeWriteError::Io, "Io"),
-    ] {
-        assert_eq!(rt; format!(in alloc; "{error}")?.as_str(), text);
+        let whole = envelope.to_writer(alloc, &mut out).is_ok()
+            && out.holds(text.as_bytes(), text.len());
+        assert!(rt; whole && is_taken(alloc, &envelope, text.as_str(), room));
     }
     Ok(())
 }

@@ -8,18 +8,20 @@ pub use sentry_envelope::{
 };
 pub use sentry_framing::{ItemHeader, ItemKind, read_item_header};
 pub use sentry_items::{
-    Attachment, AttachmentType, AttachmentWriteError, EnvelopeItem, ReplayRecording,
+    Attachment, AttachmentType, AttachmentWriteError, Category, EnvelopeItem, ItemLoss,
+    ItemLossIter, LossSlice, LossSource, Reason, ReplayRecording,
 };
 pub use sentry_parts::{ClientSdkInfo, ClientSdkPackage};
 pub use sentry_rows::Values;
 
 // Small texts.
 pub use sentry_text::{
-    Addr, CrontabParseError, Decimal, DecimalError, InvalidSampleRandError, IpAddress, Level,
-    LogLevel, LogSeverityNumber, MetricType, Moment, MonitorCheckInStatus, MonitorIntervalUnit,
-    OrganizationId, Orientation, ParseIpError, ParseLevelError, ParseSessionStatusError,
-    ParseStatusError, RegVal, SampleRand, SampleRate, SessionStatus, SeverityOutOfRange, SpanId,
-    SpanStatus, TraceId, Unit, validate,
+    Addr, CrontabParseError, Decimal, DecimalError, FromHexError, InvalidSampleRandError,
+    IpAddress, Level, LogLevel, LogSeverityNumber, MetricType, Moment, MonitorCheckInStatus,
+    MonitorIntervalUnit, OrganizationId, Orientation, ParseIpError, ParseLevelError,
+    ParseNumberError, ParseSessionStatusError, ParseStatusError, ParseWordError, RegVal,
+    SampleRand, SampleRate, SessionStatus, SeverityOutOfRange, SpanId, SpanStatus, TraceId, Unit,
+    validate,
 };
 pub use url::Url;
 pub use uuid::Uuid;

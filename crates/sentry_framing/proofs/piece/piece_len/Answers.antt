@@ -1,45 +1,65 @@
-use Rattle.std.proofs.Common.{◌≡◌, ◌+◌, ◌∷◌, drop, get_or, refl, ap, ◌∙◌, arith}
-use Rattle.sentry_framing.proofs.Machine.{plain_other, string_other, escaped, plain_quote, plain_open, plain_close_at, string_quote, string_backslash}
-use Rattle.sentry_framing.proofs.Scan.{at, found, none}
-use Rattle.sentry_framing.specs.declared.piece.Place.{Place}
-use Rattle.sentry_framing.specs.declared.piece.Place.TheVariants.{Plain, InString, AfterBackslash}
+use Rattle.std.proofs.Common.{◌≡◌, ◌+◌, ◌∷◌, drop, get_or, refl, sym, subst, ap, ◌∙◌, arith}
+use Rattle.sentry_framing.proofs.Machine.{Plain, rest_after, plain_other, plain_open, plain_close_at}
+use Rattle.sentry_framing.proofs.Scan.{at, found, none, at_end, over_string, no_string}
 use Rattle.sentry_framing.proofs.piece.piece_len.Goals as goal
-use Rattle.sentry_framing.proofs.piece.piece_len.Goals.{in-Plain+in-34, in-Plain+in-123, in-Plain+in-125-2, in-Plain+in_default-byte, in-InString+in-34-byte, in-InString+in-92, in-InString+in_default-byte-2, in-AfterBackslash}
+
+pub loop-i-preserved-in-Some : goal.loop-i-preserved-in-Some
+loop-i-preserved-in-Some c =
+    let s = c.in-Some-eq123-default.inside.now in
+    let l = c.loop-i in
+    record {
+      shallow = omega (arith, l.invariant.shallow);
+      same = sym (over_string s l.i l.depth c.in-Some.len c.loop-i-test.true c.in-34.is c.in-Some.ensures.found) ∙ l.invariant.same;
+    }
+
+pub returns-in-None-clause-none : goal.returns-in-None-clause-none
+returns-in-None-clause-none c =
+    let first = c.in-Some-eq123-default in
+    let s = first.inside.now in
+    let l = c.loop-i in
+    let is : c.args.bytes.now ≡ 123 ∷ s = first.ensures.cases.0 ∙ ap (λ b. b ∷ s) first.field-0-0-test in
+    none c.args.bytes.now s is (sym l.invariant.same ∙ no_string s l.i l.depth c.loop-i-test.true c.in-34.is c.in-None.ensures.none)
+
+pub loop-i-preserved-in-123 : goal.loop-i-preserved-in-123
+loop-i-preserved-in-123 c =
+    let s = c.in-Some-eq123-default.inside.now in
+    let l = c.loop-i in
+    record {
+      shallow = omega (arith, l.invariant.shallow);
+      same = sym (at s l.i c.loop-i-test.true Plain l.depth 123 c.in-123.is ∙ plain_open (drop (l.i + 1) s) l.depth) ∙ l.invariant.same;
+    }
 
 pub returns-in-125-clause-found : goal.returns-in-125-clause-found
 returns-in-125-clause-found c =
     let first = c.in-Some-eq123-default in
     let s = first.inside.now in
+    let l = c.loop-i in
     let is : c.args.bytes.now ≡ 123 ∷ s = first.ensures.cases.0 ∙ ap (λ b. b ∷ s) first.field-0-0-test in
-    let place = c.in-Plain.is in
-    let depth = c.if-depth-eq0.true in
-    let same = c.loop-i.invariant.same in
-    found s c.loop-i.i c.loop-i-test.true c.args.bytes.now is c.in-125.is cc
+    found s l.i c.loop-i-test.true c.args.bytes.now is c.in-125.is (subst (λ d. rest_after (drop l.i s) Plain d ≡ rest_after s Plain 0) c.if-depth-eq0.true l.invariant.same)
+
+pub loop-i-preserved-in-125-2 : goal.loop-i-preserved-in-125-2
+loop-i-preserved-in-125-2 c =
+    let s = c.in-Some-eq123-default.inside.now in
+    let l = c.loop-i in
+    record {
+      shallow = omega (arith, l.invariant.shallow);
+      same = sym (at s l.i c.loop-i-test.true Plain l.depth 125 c.in-125.is ∙ plain_close_at (drop (l.i + 1) s) l.depth c.if-depth-eq0.false) ∙ l.invariant.same;
+    }
 
 pub loop-i-preserved : goal.loop-i-preserved
 loop-i-preserved c =
     let s = c.in-Some-eq123-default.inside.now in
-    let i = c.loop-i.i in
-    let d = c.loop-i.depth in
-    let b = get_or s i 0 in
-    let next = drop (i + 1) s in
-    let h = c.loop-i-test.true in
-    let same = c.loop-i.invariant.same in
-    let here = λ (p : Place). at s i h p d b refl in
-    elim c.match-place.branch [
-      | in-Plain+in-34 w ↦ record { shallow = omega arith; same = let e = at s i h Plain d 34 w.in-34.is in let f = plain_quote next d in let g = w.in-Plain.is in cc }
-      | in-Plain+in-123 w ↦ record { shallow = omega arith; same = let e = at s i h Plain d 123 w.in-123.is in let f = plain_open next d in let g = w.in-Plain.is in cc }
-      | in-Plain+in-125-2 w ↦ record { shallow = omega arith; same = let e = at s i h Plain d 125 w.in-125.is in let f = plain_close_at next d w.if-depth-eq0.false in let g = w.in-Plain.is in cc }
-      | in-Plain+in_default-byte w ↦ record { shallow = omega arith; same = let e = here Plain in let f = plain_other b next d (λ q. omega arith) (λ q. omega arith) (λ q. omega arith) in let g = w.in-Plain.is in cc }
-      | in-InString+in-34-byte w ↦ record { shallow = omega arith; same = let e = at s i h InString d 34 w.in-34-byte.is in let f = string_quote next d in let g = w.in-InString.is in cc }
-      | in-InString+in-92 w ↦ record { shallow = omega arith; same = let e = at s i h InString d 92 w.in-92.is in let f = string_backslash next d in let g = w.in-InString.is in cc }
-      | in-InString+in_default-byte-2 w ↦ record { shallow = omega arith; same = let e = here InString in let f = string_other b next d (λ q. omega arith) (λ q. omega arith) in let g = w.in-InString.is in cc }
-      | in-AfterBackslash w ↦ record { shallow = omega arith; same = let e = here AfterBackslash in let f = escaped b next d in let g = w.in-AfterBackslash.is in cc }
-    ]
+    let l = c.loop-i in
+    let b = get_or s l.i 0 in
+    record {
+      shallow = omega (arith, l.invariant.shallow);
+      same = sym (at s l.i c.loop-i-test.true Plain l.depth b refl ∙ plain_other b (drop (l.i + 1) s) l.depth (λ q. omega arith) (λ q. omega arith) (λ q. omega arith)) ∙ l.invariant.same;
+    }
 
 pub returns-clause-none : goal.returns-clause-none
 returns-clause-none c =
     let first = c.in-Some-eq123-default in
     let s = first.inside.now in
+    let l = c.loop-i in
     let is : c.args.bytes.now ≡ 123 ∷ s = first.ensures.cases.0 ∙ ap (λ b. b ∷ s) first.field-0-0-test in
-    none c.args.bytes.now s c.loop-i.i c.loop-i.depth c.loop-i.place is (omega arith) c.loop-i.invariant.same
+    none c.args.bytes.now s is (sym l.invariant.same ∙ at_end s l.i l.depth (omega arith))

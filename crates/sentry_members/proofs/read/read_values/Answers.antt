@@ -3,4 +3,4 @@ use Rattle.sentry_members.proofs.ValuesShown.{under_read}
 use Rattle.sentry_members.proofs.read.read_values.Goals as goal
 
 pub returns-in-Some : goal.returns-in-Some
-returns-in-Some g c = under_read _ _ _ _ _ (search rules) (search rules) c.from_tree-in-Some.ensures
+returns-in-Some g c = under_read _ _ _ _ _ (search rules) (search rules) c.from_node-in-Some.ensures

@@ -9,5 +9,5 @@ appended : {A : Type 0} (bytes : A → List ℕ) (took : A → List ℕ → A �
 appended bytes took step old new None shown is empty h = tt
 appended bytes took step old new (Some text) shown is empty h = is ∙ contents_after_writes took bytes step old text new h ∙ ap (λ b. b ++ text) empty
 
-pub returns-in-Ok : goal.returns-in-Ok
-returns-in-Ok g c = appended (λ s. s.bytes) _ (λ old s new h. h) _ _ _ _ c.as_str.ensures.value c.clear.ensures c.in-Ok.ensures.writes
+pub returns-in-Ok-clause-text : goal.returns-in-Ok-clause-text
+returns-in-Ok-clause-text g c = appended (λ s. s.bytes) _ (λ old s new h. h) _ _ _ _ c.as_str.ensures.value c.clear.ensures c.in-Ok.ensures.writes

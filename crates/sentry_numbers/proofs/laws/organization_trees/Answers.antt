@@ -1,8 +1,8 @@
 use Rattle.std.proofs.Common.{◌^◌, refl, arith}
 use Rattle.sentry_tables.proofs.Basic.{unsigned_laws, unsigned_refuses_null}
 use Rattle.sentry_tables.proofs.Laws.{has_laws}
-use Rattle.sentry_members.proofs.Spellings.{spelled_laws, spelled_refuses_null}
-use Rattle.sentry_numbers.specs.ProjectTree.{organization_spelling, organization_kind, organization_text_kind}
+use Rattle.sentry_members.proofs.Spellings.{spelled_has_laws, spelled_refuses_null}
+use Rattle.sentry_numbers.specs.ProjectTree.{organization_spelling, organization_kind}
 use Rattle.sentry_numbers.proofs.ProjectTrees.{organization_text_laws, organization_is_normal}
 use Rattle.sentry_numbers.proofs.laws.organization_trees.Goals as goal
 
@@ -10,7 +10,7 @@ pub returns-clause-numbers : goal.returns-clause-numbers
 returns-clause-numbers c = has_laws organization_kind (unsigned_laws (2 ^ 64) (omega arith))
 
 pub returns-clause-texts : goal.returns-clause-texts
-returns-clause-texts c = has_laws organization_text_kind (spelled_laws organization_spelling organization_text_laws)
+returns-clause-texts c = spelled_has_laws organization_spelling organization_text_laws
 
 pub returns-clause-no_null_number : goal.returns-clause-no_null_number
 returns-clause-no_null_number c = unsigned_refuses_null (2 ^ 64)

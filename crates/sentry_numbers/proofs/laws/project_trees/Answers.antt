@@ -1,11 +1,10 @@
-use Rattle.sentry_tables.proofs.Laws.{has_laws}
-use Rattle.sentry_members.proofs.Spellings.{spelled_laws, spelled_refuses_null}
-use Rattle.sentry_numbers.specs.ProjectTree.{project_spelling, project_kind}
+use Rattle.sentry_members.proofs.Spellings.{spelled_has_laws, spelled_refuses_null}
+use Rattle.sentry_numbers.specs.ProjectTree.{project_spelling}
 use Rattle.sentry_numbers.proofs.ProjectTrees.{project_laws, project_is_normal}
 use Rattle.sentry_numbers.proofs.laws.project_trees.Goals as goal
 
 pub returns-clause-laws : goal.returns-clause-laws
-returns-clause-laws c = has_laws project_kind (spelled_laws project_spelling project_laws)
+returns-clause-laws c = spelled_has_laws project_spelling project_laws
 
 pub returns-clause-no_null : goal.returns-clause-no_null
 returns-clause-no_null c = spelled_refuses_null project_spelling

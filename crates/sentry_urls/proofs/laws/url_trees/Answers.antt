@@ -1,5 +1,5 @@
 use Rattle.std.proofs.Common.{refl}
-use Rattle.sentry_urls.proofs.UrlTrees.{one_url, url_has_laws, url_single, url_refuses_null, url_normal, url_shown_readable}
+use Rattle.sentry_urls.proofs.UrlTrees.{one_url, url_has_laws, url_refuses_null, url_normal, url_shown_readable}
 use Rattle.sentry_urls.proofs.laws.url_trees.Goals as goal
 
 pub returns-clause-laws : goal.returns-clause-laws
@@ -7,9 +7,6 @@ returns-clause-laws c = url_has_laws
 
 pub returns-clause-no_null : goal.returns-clause-no_null
 returns-clause-no_null c = url_refuses_null
-
-pub returns-clause-single : goal.returns-clause-single
-returns-clause-single c = url_single
 
 pub returns-clause-cells : goal.returns-clause-cells
 returns-clause-cells c = one_url

@@ -1,9 +1,7 @@
 use Rattle.std.proofs.Common.{refl}
-use Rattle.sentry_rows.proofs.RowByRow.{rows_added}
 use Rattle.sentry_parts.specs.ClientSdk.{sdk_fields}
 use Rattle.sentry_parts.proofs.client_sdk_info.ClientSdkInfoTable.rows.Goals as goal
 
 pub returns : goal.returns
-returns g c =
-    rows_added g.S.Sink.Adds g.met.S.Sink.nothing g.met.S.Sink.joined sdk_fields c.args.self.now _ _
-    (_, c.in_ok-list.ensures, (_, c.in_ok-required.ensures, (_, c.in_ok-list-2.ensures, (_, c.in_ok-required-2.ensures, refl))))
+unfolding sdk_fields
+returns g c = (_, c.list.ensures, (_, c.required.ensures, (_, c.list-2.ensures, (_, c.required-2.ensures, refl))))

@@ -1,0 +1,90 @@
+//! The answer to what is asked.
+
+use crate::auths::{of_header, of_pairs, of_query};
+use crate::bytes::{decoded, of_bytes};
+use crate::dsns::of_dsn;
+use crate::numbers::of_numbers;
+use crate::said::{refused, text, unknown};
+use crate::texts::of_text;
+use sentry_members::read_tree;
+use serde_json::Value;
+use std::alloc::{AllocError, Global};
+
+// The pairs of a list of lists of two texts; others are left out.
+fn pairs_of<'a>(alloc: Global, items: &'a [Value]) -> Result<Vec<(&'a str, &'a str)>, AllocError> {
+    let mut pairs = Vec::new(alloc);
+    for item in items {
+        if let Some(parts) = item.as_array()
+            && let [key, value] = parts.as_slice()
+            && let (Some(key), Some(value)) = (key.as_str(), value.as_str())
+        {
+            pairs.push((key, value))?;
+        }
+    }
+    Ok(pairs)
+}
+
+fn of_list(alloc: Global, name: &str, items: &[Value]) -> Result<Value, AllocError> {
+    match name {
+        "Auth::from_pairs" => of_pairs(alloc, pairs_of(alloc, items)?.as_slice()),
+        _ => of_numbers(alloc, name, items),
+    }
+}
+
+fn of_string(alloc: Global, name: &str, given: &str) -> Result<Value, AllocError> {
+    if let Some(answer) = of_bytes(alloc, name, given.as_bytes())? {
+        return Ok(answer);
+    }
+    match name {
+        "Dsn" => of_dsn(alloc, given),
+        "Auth" => of_header(alloc, given),
+        "Auth::from_querystring" => of_query(alloc, given.as_bytes()),
+        _ => match of_text(alloc, name, given)? {
+            Some(answer) => Ok(answer),
+            None => unknown(alloc),
+        },
+    }
+}
+
+fn of_json(alloc: Global, name: &str, given: &str) -> Result<Value, AllocError> {
+    let tree = match read_tree(alloc, given.as_bytes()) {
+        Ok(tree) => tree,
+        Err(error) => return refused(alloc, &error),
+    };
+    if let Some(items) = tree.as_array() {
+        return of_list(alloc, name, items.as_slice());
+    }
+    match tree.as_str() {
+        Some(given) => of_string(alloc, name, given),
+        None => text(alloc, "neither a text nor a list"),
+    }
+}
+
+// The answer for bytes that are given in hex.
+fn of_hex(alloc: Global, name: &str, given: &str) -> Result<Value, AllocError> {
+    let Some(bytes) = decoded(alloc, given)? else {
+        return text(alloc, "no bytes in hex");
+    };
+    if name == "Auth::from_querystring" {
+        return of_query(alloc, bytes.as_slice());
+    }
+    match of_bytes(alloc, name, bytes.as_slice())? {
+        Some(answer) => Ok(answer),
+        None => unknown(alloc),
+    }
+}
+
+/// The answer to a name and what is given: a line of JSON itself after `tree` and `tape`, bytes in hex after `hex`,
+/// else JSON whose texts and numbers are handed over.
+pub fn answer(alloc: Global, name: &str, given: &str) -> Result<Value, AllocError> {
+    if let Some(name) = name.strip_prefix("hex ") {
+        return of_hex(alloc, name, given);
+    }
+    if name.starts_with("tree ") || name == "tape" {
+        return match of_bytes(alloc, name, given.as_bytes())? {
+            Some(answer) => Ok(answer),
+            None => unknown(alloc),
+        };
+    }
+    of_json(alloc, name, given)
+}

@@ -1,0 +1,47 @@
+//! Answers to bytes.
+
+use crate::envelopes::{of_envelope, of_frames, of_losses, of_raw};
+use crate::filters::of_filter;
+use crate::form::of_tape;
+use crate::said::{list, text};
+use crate::trees::of_tree;
+use serde_json::Value;
+use std::alloc::{AllocError, Global};
+use std::str;
+
+/// The bytes that are given in hex.
+pub fn decoded(alloc: Global, given: &str) -> Result<Option<Vec<u8>>, AllocError> {
+    match hex::decode(alloc, given.as_bytes()) {
+        Ok(bytes) => Ok(Some(bytes)),
+        Err(_) => Ok(None),
+    }
+}
+
+/// Bytes as a text, or where they are none, `hex` and the digits in a list.
+pub fn said_bytes(alloc: Global, bytes: &[u8]) -> Result<Value, AllocError> {
+    match str::from_utf8(bytes) {
+        Ok(found) => text(alloc, found),
+        Err(_) => {
+            let digits = hex::encode(alloc, bytes)?;
+            list(alloc, [text(alloc, "hex")?, Value::from(digits)])
+        }
+    }
+}
+
+/// The answer to a name and bytes, where the name asks about bytes.
+pub fn of_bytes(alloc: Global, name: &str, bytes: &[u8]) -> Result<Option<Value>, AllocError> {
+    if let Some(name) = name.strip_prefix("tree ") {
+        return of_tree(alloc, name, bytes);
+    }
+    if let Some(words) = name.strip_prefix("filter ") {
+        return Ok(Some(of_filter(alloc, words, bytes)?));
+    }
+    Ok(Some(match name {
+        "tape" => of_tape(alloc, bytes)?,
+        "raw" => of_raw(alloc, bytes)?,
+        "envelope" => of_envelope(alloc, bytes)?,
+        "frames" => of_frames(alloc, bytes)?,
+        "losses" => of_losses(alloc, bytes)?,
+        _ => return Ok(None),
+    }))
+}

@@ -1,0 +1,133 @@
+//! What bytes spell, as envelopes.
+
+use crate::bytes::said_bytes;
+use crate::said::{list, maybe, refused, text};
+use rand_pcg::Pcg32;
+use sentry_envelope::{CountedWriter, Envelope, EnvelopeError, Frames, ItemFrame};
+use sentry_items::{ItemLoss, LossSource};
+use sentry_text::Moment;
+use serde_json::Value;
+use std::alloc::{AllocError, Global};
+
+/// The envelope that bytes spell at second 0.
+pub fn read(alloc: Global, bytes: &[u8]) -> Result<Envelope, EnvelopeError> {
+    let Some(now) = Moment::new(0, 0) else {
+        return Err(EnvelopeError::OutOfMemory);
+    };
+    Envelope::from_slice(alloc, bytes, now, &mut Pcg32::new(42, 54))
+}
+
+/// The text of an envelope, or why it isn't written.
+pub fn said_envelope(alloc: Global, envelope: &Envelope) -> Result<Value, AllocError> {
+    let mut out = Vec::new(alloc);
+    match envelope.to_writer(alloc, &mut out) {
+        Ok(()) => said_bytes(alloc, out.as_slice()),
+        Err(error) => refused(alloc, &error),
+    }
+}
+
+// Whether the text of an envelope spells its normal form, which has the same text, and a copy is the envelope.
+fn is_steady(alloc: Global, envelope: &Envelope) -> Result<bool, AllocError> {
+    let mut text = Vec::new(alloc);
+    let mut counted = CountedWriter::new(Vec::new(alloc));
+    let written = envelope.to_writer(alloc, &mut text).is_ok()
+        && envelope.write_counted(alloc, &mut counted).is_ok();
+    let normal = envelope.normalized()?;
+    let mut same = Vec::new(alloc);
+    Ok(
+        written
+            && envelope.is_plain()
+            && envelope.clone()? == *envelope
+            && matches!(read(alloc, text.as_slice()), Ok(again) if again == normal)
+            && normal.to_writer(alloc, &mut same).is_ok()
+            && counted.failures() == 0
+            && counted.into_inner() == text
+            && same == text,
+    )
+}
+
+/// What is written of the envelope that bytes spell.
+pub fn of_envelope(alloc: Global, bytes: &[u8]) -> Result<Value, AllocError> {
+    match read(alloc, bytes) {
+        Ok(envelope) if is_steady(alloc, &envelope)? => said_envelope(alloc, &envelope),
+        Ok(_) => text(alloc, "not read back"),
+        Err(error) => refused(alloc, &error),
+    }
+}
+
+/// What is written of the raw envelope of bytes, whether it is plain, how many items it shows, and what is lost with
+/// them.
+pub fn of_raw(alloc: Global, bytes: &[u8]) -> Result<Value, AllocError> {
+    let envelope = match Envelope::from_bytes_raw(bytes.to_vec(alloc)?) {
+        Ok(envelope) => envelope,
+        Err(error) => return refused(alloc, &error),
+    };
+    list(
+        alloc,
+        [
+            said_envelope(alloc, &envelope.clone()?)?,
+            Value::from(envelope.is_plain()),
+            Value::from(envelope.items().count() as u64),
+            said_losses(alloc, &envelope)?,
+        ],
+    )
+}
+
+/// The header and the payload of a frame, or why there is none.
+fn said_frame(
+    alloc: Global,
+    frame: Result<ItemFrame<'_>, EnvelopeError>,
+) -> Result<Value, AllocError> {
+    match frame {
+        Ok(frame) => list(
+            alloc,
+            [
+                said_bytes(alloc, frame.header)?,
+                said_bytes(alloc, frame.payload)?,
+            ],
+        ),
+        Err(error) => refused(alloc, &error),
+    }
+}
+
+/// The header line of bytes, and the header and the payload of each frame, up to a refusal.
+pub fn of_frames(alloc: Global, bytes: &[u8]) -> Result<Value, AllocError> {
+    let mut frames = Frames::new(bytes);
+    let mut told = Vec::new(alloc);
+    told.push(said_bytes(alloc, frames.header_line())?)?;
+    for _ in 0..bytes.len() {
+        let Some(frame) = frames.next_frame(alloc) else {
+            break;
+        };
+        told.push(said_frame(alloc, frame)?)?;
+    }
+    Ok(Value::from(told))
+}
+
+/// A loss: its category, its quantity, and its reason or null.
+pub fn said_loss(alloc: Global, loss: &ItemLoss) -> Result<Value, AllocError> {
+    let reason = match &loss.reason {
+        Some(reason) => Some(reason.as_str()),
+        None => None,
+    };
+    let category = text(alloc, loss.category.as_str())?;
+    let fields = [category, Value::from(loss.quantity), maybe(alloc, reason)?];
+    list(alloc, fields)
+}
+
+// The losses of an envelope, in order.
+fn said_losses(alloc: Global, envelope: &Envelope) -> Result<Value, AllocError> {
+    let mut told = Vec::new(alloc);
+    for loss in envelope.losses() {
+        told.push(said_loss(alloc, &loss)?)?;
+    }
+    Ok(Value::from(told))
+}
+
+/// The losses of the envelope that bytes spell.
+pub fn of_losses(alloc: Global, bytes: &[u8]) -> Result<Value, AllocError> {
+    match read(alloc, bytes) {
+        Ok(envelope) => said_losses(alloc, &envelope),
+        Err(error) => refused(alloc, &error),
+    }
+}

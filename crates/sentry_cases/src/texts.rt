@@ -1,0 +1,51 @@
+//! What small texts are read as.
+
+use crate::ids::of_id;
+use crate::moments::of_moment_text;
+use crate::said::{list, printed, refused, shown};
+use crate::words::of_word;
+use sentry_text::{Addr, CrontabParseError, IpAddress, RegVal, validate};
+use serde_json::Value;
+use std::alloc::{AllocError, Global};
+
+fn of_address(alloc: Global, given: &str) -> Result<Value, AllocError> {
+    match given.parse::<Addr>() {
+        Ok(addr) => list(alloc, [Value::from(u64::from(addr)), shown(alloc, &addr)?]),
+        Err(error) => refused(alloc, &error),
+    }
+}
+
+fn of_register(alloc: Global, given: &str) -> Result<Value, AllocError> {
+    match given.parse::<RegVal>() {
+        Ok(value) => list(
+            alloc,
+            [Value::from(u64::from(value)), shown(alloc, &value)?],
+        ),
+        Err(error) => refused(alloc, &error),
+    }
+}
+
+fn of_other_text(alloc: Global, name: &str, given: &str) -> Result<Option<Value>, AllocError> {
+    Ok(Some(match name {
+        "Addr" => of_address(alloc, given)?,
+        "RegVal" => of_register(alloc, given)?,
+        "IpAddress" => printed::<IpAddress>(alloc, given)?,
+        "validate" => Value::from(validate(given)),
+        "CrontabParseError" => shown(alloc, &CrontabParseError::new(alloc, given)?)?,
+        _ => return Ok(None),
+    }))
+}
+
+/// What a text is read as, where the name is that of a reader.
+pub fn of_text(alloc: Global, name: &str, given: &str) -> Result<Option<Value>, AllocError> {
+    if let Some(answer) = of_word(alloc, name, given)? {
+        return Ok(Some(answer));
+    }
+    if let Some(answer) = of_id(alloc, name, given)? {
+        return Ok(Some(answer));
+    }
+    if let Some(answer) = of_moment_text(alloc, name, given)? {
+        return Ok(Some(answer));
+    }
+    of_other_text(alloc, name, given)
+}

@@ -1,0 +1,3 @@
+pub mod Giving
+pub mod Merging
+pub mod RowByRow

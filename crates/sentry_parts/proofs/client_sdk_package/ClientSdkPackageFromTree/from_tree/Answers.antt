@@ -1,8 +1,0 @@
-use Rattle.sentry_tables.specs.Fields.{rows_of}
-use Rattle.sentry_rows.proofs.Answering.{shows_rows}
-use Rattle.sentry_parts.specs.ClientSdk.{package_fields, package_kind}
-use Rattle.sentry_parts.proofs.client_sdk_package.ClientSdkPackageFromTree.from_tree.Goals as goal
-
-pub returns : goal.returns
-unfolding package_kind
-returns c = shows_rows (rows_of package_fields) _ _ c.in_ok-object.ensures.ok (c.in_ok-required.ensures, (c.in_ok-required-2.ensures, tt))

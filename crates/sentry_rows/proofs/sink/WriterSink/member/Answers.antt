@@ -1,5 +1,0 @@
-use Rattle.sentry_rows.proofs.Joining.{member_wrote}
-use Rattle.sentry_rows.proofs.sink.WriterSink.member.Goals as goal
-
-pub returns : goal.returns
-returns g c = member_wrote _ _ _ _ _ _ c.in_ok-key.ensures c.write.ensures

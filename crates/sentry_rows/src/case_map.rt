@@ -1,0 +1,154 @@
+//! Maps of values of several cases, whose keys stand for the tags that are absent.
+
+ghost use Rattle.std.specs.Prelude.{◌≡◌, ℕ, List, Some, option_map};
+ghost use Rattle.sentry_tables.specs.Kind.{tagged_map, words};
+ghost use Rattle.sentry_tables.specs.Shows.{word_at, word_of};
+ghost use Rattle.sentry_members.specs.Cells.{map_cell, empty_map};
+ghost use Rattle.sentry_members.specs.Reading.{ReadsAt};
+ghost use Rattle.sentry_moments.specs.Moments.{moment_cell};
+ghost use Rattle.sentry_rows.specs.Cased.{ReadsEntryAt};
+
+use crate::cased::{AsCase, Cased, ReadCasedAt};
+use json::Writer;
+use rand_core::Rng;
+use sentry_members::codec::DefaultedCodec;
+use sentry_members::{Codec, Formed, Member, TreeError, Way};
+use sentry_moments::Moment;
+use sentry_readers::ReadCodecAt;
+use sentry_trees::Node;
+use sentry_trees::keys::place;
+use serde_json::{Map, Value};
+use std::alloc::{AllocError, Global};
+
+/// A type of several cases whose maps name a case by the key, where the tag is absent.
+pub trait CasedByKey: Cased + Formed<Form = AsCase> {
+    // the word of a member without a tag whose key is no word of a case
+    ghost fallback_word: { List ℕ };
+
+    /// The word of a member without a tag whose key is no word of a case.
+    fn fallback() -> &'static str
+        ensures { result.now ≡ fallback_word };
+}
+
+/// The form of maps of values of several cases.
+///
+/// A member without a tag is read by its key, where that is the word of a case, and else by the
+/// fallback. Each is written with its tag.
+pub struct AsCaseMap;
+
+impl<T: CasedByKey> Codec<Map<String, T>> for AsCaseMap {
+    ghost kind = { tagged_map T.cases T.fallback_word };
+
+    ghost cell_of = { λ m. map_cell T.choice_of m.entries };
+
+    #[tactic(auto, using(crate::proofs::CaseMaps::map_written))]
+    fn to_tree(value: &Map<String, T>, alloc: Global) -> Result<Value, AllocError> {
+        value.to_tree(alloc)
+    }
+
+    #[tactic(auto, using(crate::proofs::CaseMaps::map_written))]
+    fn write(value: &Map<String, T>, out: &mut Writer) -> Result<(), AllocError> {
+        value.write(out)
+    }
+
+    #[tactic(auto, using(crate::proofs::CaseMaps::map_made))]
+    fn remade(value: &Map<String, T>, way: Way) -> Result<Map<String, T>, AllocError> {
+        value.remade(way)
+    }
+
+    fn is_null_tree(_value: &Map<String, T>) -> bool {
+        false
+    }
+
+    fn is_plain(value: &Map<String, T>) -> bool {
+        value.is_plain()
+    }
+}
+
+impl<T: CasedByKey> DefaultedCodec<Map<String, T>> for AsCaseMap {
+    ghost usual = { empty_map };
+
+    fn is_usual(value: &Map<String, T>) -> bool {
+        value.is_empty()
+    }
+}
+
+impl<T: CasedByKey + ReadCasedAt> ReadCodecAt<Map<String, T>> for AsCaseMap {
+    fn from_node<N: Node, R: Rng>(
+        alloc: Global,
+        node: &N,
+        now: Moment,
+        ids: &mut R,
+    ) -> Result<Map<String, T>, TreeError> {
+        read_case_map(alloc, node, T::fallback(), now, ids)
+    }
+}
+
+// The word of a member of a map: its tag, or where it has none its key, if that is a word, or else the fallback.
+#[tactic(auto, using(crate::proofs::CaseMaps::tag_there, crate::proofs::CaseMaps::key_known, crate::proofs::CaseMaps::key_unknown))]
+fn entry_word<'a, T: Cased, N: Node>(
+    node: &'a N,
+    key: &'a str,
+    fallback: &'a str,
+) -> Option<&'a str>
+    ensures { option_map (λ word. word.now) result
+        ≡ word_of (Some (word_at key.now (words T.cases) fallback.now)) (N.data_of node.now) }
+{
+    match node.get("type") {
+        Some(_) => node.text_at("type"),
+        None => match place(T::words(), key) {
+            Some(_) => Some(key),
+            None => Some(fallback),
+        },
+    }
+}
+
+// The value of a member of a map.
+#[tactic(auto, using(crate::proofs::CaseMaps::entry_read, crate::proofs::CaseMaps::unknown_entry, crate::proofs::CaseMaps::no_entry))]
+fn read_entry<T: ReadCasedAt, N: Node, R: Rng>(
+    alloc: Global,
+    node: &N,
+    key: &str,
+    fallback: &str,
+    now: Moment,
+    ids: &mut R,
+) -> Result<T, TreeError>
+    ensures { ReadsEntryAt (moment_cell now) T.cases fallback.now T.choice_of key.now (N.data_of node.now) result }
+{
+    let Some(word) = entry_word::<T, N>(node, key, fallback) else {
+        return Err(TreeError::Misfit);
+    };
+    match place(T::words(), word) {
+        Some(case) => T::read(alloc, node, case, now, ids),
+        None => Err(TreeError::Misfit),
+    }
+}
+
+/// The map that a tree shows at a moment: of a member without a tag the key is the tag, where it is the
+/// word of a case, and else `fallback` is.
+///
+/// Fails with `Misfit` where the tree shows none, and with `Memory` where memory is refused.
+pub fn read_case_map<T: ReadCasedAt, N: Node, R: Rng>(
+    alloc: Global,
+    node: &N,
+    fallback: &str,
+    now: Moment,
+    ids: &mut R,
+) -> Result<Map<String, T>, TreeError>
+    ensures { ReadsAt (moment_cell now) (tagged_map T.cases fallback.now) (λ m. map_cell T.choice_of m.entries)
+        (N.data_of node.now) result }
+{
+    let members = match node.members(alloc)? {
+        Some(members) => members,
+        None => return Err(TreeError::Misfit),
+    };
+    let mut map = Map::new(alloc);
+    for (key, member) in members.iter() {
+        let name = key.clone()?;
+        drop(map.insert(
+            name,
+            read_entry(alloc, member, key.as_str(), fallback, now, ids)?,
+        )?);
+    }
+    Ok(map)
+}

@@ -1,0 +1,191 @@
+//! Types that are one of several cases, by the word at the key `type`.
+
+ghost use Rattle.std.specs.Prelude.{◌≡◌, ℕ, List, IfOk, true, map as map_list};
+ghost use Rattle.serde_json.specs.Data.{Members, no_members};
+ghost use Rattle.serde_json.specs.View.{members_view};
+ghost use Rattle.sentry_trees.specs.Keys.{are_distinct};
+ghost use Rattle.sentry_tables.specs.Cell.{Cell, Cells, fields, no_cells};
+ghost use Rattle.sentry_tables.specs.Fields.{rows_of, cells_by};
+ghost use Rattle.sentry_tables.specs.Kind.{Cases, Rows, Other, ignored, kept, no_rows, table, tagged, words};
+ghost use Rattle.sentry_members.specs.Made.{made};
+ghost use Rattle.sentry_members.specs.Reading.{Reads};
+ghost use Rattle.sentry_moments.specs.Moments.{moment_cell};
+ghost use Rattle.sentry_rows.specs.Cased.{but_tag, TakesCase, MakesCase, ReadsCase, ReadsCaseAt};
+
+use crate::tagged::tag;
+use crate::taken::{PlainCase, TextCase, TreeCase};
+use json::Writer;
+use rand_core::Rng;
+use sentry_givers::table::leave;
+use sentry_givers::{KeptTable, Table};
+use sentry_members::{Codec, ReadCodec, TreeError, Way};
+use sentry_moments::Moment;
+use sentry_readers::ReadCodecAt;
+use sentry_readers::rows::{object, others};
+use sentry_sinks::kept::copy_others;
+use sentry_trees::Node;
+use sentry_trees::keys::place;
+use serde_json::{Map, Value};
+use std::alloc::{AllocError, Global};
+
+/// What takes the case of a value.
+pub trait CaseSink {
+    // from one state to a later one this case was taken: its word and rows, what becomes of members of other keys, and what the rows and these members hold
+    ghost Takes: { Self → Self → List ℕ → Rows → Other → Cells → Members → Type 0 };
+
+    /// A case that ignores members of other keys.
+    fn table<T: Table>(&mut self, word: &str, value: &T)
+        ensures { Takes self.old self.new word.now (rows_of T.lines) ignored (cells_by T.lines value.now) no_members };
+
+    /// A case that keeps members of other keys.
+    fn kept<T: KeptTable>(&mut self, word: &str, value: &T)
+        ensures { Takes self.old self.new word.now (rows_of T.lines) (kept T.reserved) (cells_by T.lines value.now) (T.others_of value.now) };
+
+    /// A case without rows, which keeps all members but the tag.
+    fn members(&mut self, word: &str, members: &Map<String, Value>)
+        ensures { Takes self.old self.new word.now no_rows but_tag no_cells (members_view members.now.entries) };
+}
+
+/// A type that is one of several cases.
+pub trait Cased: Sized + Drop {
+    // the cases, in the order of their numbers
+    ghost cases: { Cases };
+
+    // the number of a value's case, and what it holds
+    ghost choice_of: { Self → Cell };
+
+    /// The words of the cases.
+    fn words() -> &'static [&'static str]
+        ensures { map_list (λ word. word.now) result.now ≡ words cases };
+
+    /// Gives the value's case.
+    fn give<S: CaseSink>(&self, to: &mut S)
+        ensures { TakesCase (S.Takes to.old to.new) Self.cases (choice_of self.now) };
+
+    /// The same value, or its normal form. It fails where memory runs out.
+    fn made(&self, way: Way) -> Result<Self, AllocError>
+        ensures { IfOk result (λ v. MakesCase way Self.cases (choice_of self.now) (choice_of v)) };
+
+    ghost distinct: { are_distinct (words cases) ≡ true };
+}
+
+/// A type of several cases whose values are shown by a tree alone.
+pub trait ReadCased: Cased {
+    /// The value of the case of a number that a tree shows, whatever its tag.
+    ///
+    /// Fails with `Misfit` where the tree shows none, and with `Memory` where memory is refused.
+    fn read<N: Node>(alloc: Global, node: &N, case: usize) -> Result<Self, TreeError>
+        ensures { ReadsCase Self.cases Self.choice_of case (N.data_of node.now) result };
+}
+
+/// A type of several cases whose values are shown by a tree at a moment, with ids at hand.
+pub trait ReadCasedAt: Cased {
+    /// The value of the case of a number that a tree shows at the moment `now`, whatever its tag;
+    /// absent ids are drawn from `ids`.
+    ///
+    /// Fails with `Misfit` where the tree shows none, and with `Memory` where memory is refused.
+    fn read<N: Node, R: Rng>(
+        alloc: Global,
+        node: &N,
+        case: usize,
+        now: Moment,
+        ids: &mut R,
+    ) -> Result<Self, TreeError>
+        ensures { ReadsCaseAt (moment_cell now) Self.cases Self.choice_of case (N.data_of node.now) result };
+}
+
+/// The form of the values of a type of several cases.
+pub struct AsCase;
+
+impl<T: Cased> Codec<T> for AsCase {
+    ghost kind = { tagged T.cases };
+
+    ghost cell_of = { T.choice_of };
+
+    #[tactic(auto, using(crate::proofs::CasesGiven::tree_is))]
+    fn to_tree(value: &T, alloc: Global) -> Result<Value, AllocError> {
+        let mut to = TreeCase {
+            alloc,
+            tree: Ok(Value::Null),
+        };
+        value.give(&mut to);
+        to.tree
+    }
+
+    fn write(value: &T, out: &mut Writer) -> Result<(), AllocError> {
+        let mut to = TextCase { out, wrote: Ok(()) };
+        value.give(&mut to);
+        let TextCase { out, wrote } = to;
+        leave(out);
+        wrote
+    }
+
+    #[tactic(auto, using(crate::proofs::CasesGiven::case_made))]
+    fn remade(value: &T, way: Way) -> Result<T, AllocError> {
+        value.made(way)
+    }
+
+    fn is_null_tree(_value: &T) -> bool {
+        false
+    }
+
+    fn is_plain(value: &T) -> bool {
+        let mut to = PlainCase { plain: true };
+        value.give(&mut to);
+        to.plain
+    }
+}
+
+impl<T: ReadCased> ReadCodec<T> for AsCase {
+    #[tactic(auto, using(crate::proofs::CasesRead::case_read, crate::proofs::CasesRead::case_fails, crate::proofs::CasesRead::unknown_word, crate::proofs::TagsShown::no_word))]
+    fn from_node<N: Node>(alloc: Global, node: &N) -> Result<T, TreeError> {
+        let Some(word) = tag(node) else {
+            return Err(TreeError::Misfit);
+        };
+        match place(T::words(), word) {
+            Some(case) => T::read(alloc, node, case),
+            None => Err(TreeError::Misfit),
+        }
+    }
+}
+
+impl<T: ReadCasedAt> ReadCodecAt<T> for AsCase {
+    #[tactic(auto, using(crate::proofs::CasesRead::case_read_at, crate::proofs::CasesRead::case_fails_at, crate::proofs::CasesRead::unknown_word_at, crate::proofs::TagsShown::no_word_at))]
+    fn from_node<N: Node, R: Rng>(
+        alloc: Global,
+        node: &N,
+        now: Moment,
+        ids: &mut R,
+    ) -> Result<T, TreeError> {
+        let Some(word) = tag(node) else {
+            return Err(TreeError::Misfit);
+        };
+        match place(T::words(), word) {
+            Some(case) => T::read(alloc, node, case, now, ids),
+            None => Err(TreeError::Misfit),
+        }
+    }
+}
+
+/// All members of a tree but its tag: a case without rows.
+///
+/// Fails with `Misfit` where the tree is no object, and with `Memory` where memory is refused.
+#[tactic(auto, using(crate::proofs::CasesRead::rest_shown, sentry_readers::proofs::Answering::not_object))]
+pub fn read_members<N: Node>(alloc: Global, node: &N) -> Result<Map<String, Value>, TreeError>
+    ensures { Reads (table no_rows but_tag) (λ m. fields no_cells (members_view m.entries)) (N.data_of node.now) result }
+{
+    object(node)?;
+    Ok(others(alloc, node, &["type"])?)
+}
+
+/// The same members, which are their own normal form. It fails where memory runs out.
+#[tactic(auto, using(crate::proofs::CasesGiven::members_made))]
+pub fn made_members(
+    members: &Map<String, Value>,
+    way: Way,
+) -> Result<Map<String, Value>, AllocError>
+    ensures { IfOk result (λ m. fields no_cells (members_view m.entries)
+        ≡ made way (table no_rows but_tag) (fields no_cells (members_view members.now.entries))) }
+{
+    copy_others(members)
+}

@@ -1,0 +1,133 @@
+//! The form of tables.
+
+ghost use Rattle.sentry_tables.specs.Fields.{table_of, fields_by, rows_of, cells_by};
+ghost use Rattle.sentry_tables.specs.Cell.{fields};
+ghost use Rattle.sentry_tables.specs.Kind.{table, kept};
+
+use crate::copier::{Copier, CopyKept, CopyTable};
+use crate::read::{ReadKept, ReadTable, ReadTableAt};
+use json::Writer;
+use rand_core::Rng;
+use sentry_givers::plain::rows_are_plain;
+use sentry_givers::table::{kept_tree, table_tree, write_kept, write_table};
+use sentry_givers::{KeptTable, Table};
+use sentry_members::{Codec, ReadCodec, TreeError, Way};
+use sentry_moments::Moment;
+use sentry_readers::rows::object;
+use sentry_readers::{ReadCodecAt, Reader};
+use sentry_sinks::kept::others_are_plain;
+use sentry_trees::Node;
+use serde_json::Value;
+use std::alloc::{AllocError, Global};
+
+/// The form of the values of a table that ignores members of other keys.
+pub struct AsTable;
+
+impl<T: CopyTable> Codec<T> for AsTable {
+    ghost kind = { table_of T.lines };
+
+    ghost cell_of = { λ v. fields_by T.lines v };
+
+    fn to_tree(value: &T, alloc: Global) -> Result<Value, AllocError> {
+        table_tree(value, alloc)
+    }
+
+    fn write(value: &T, out: &mut Writer) -> Result<(), AllocError> {
+        write_table(value, out)
+    }
+
+    fn remade(value: &T, way: Way) -> Result<T, AllocError> {
+        let mut copies = Copier::new(way);
+        let copy = CopyTable::copied(value, &mut copies)?;
+        match copies.failed {
+            None => Ok(copy),
+            Some(error) => Err(error),
+        }
+    }
+
+    fn is_null_tree(_value: &T) -> bool {
+        false
+    }
+
+    fn is_plain(value: &T) -> bool {
+        rows_are_plain(value)
+    }
+}
+
+impl<T: ReadTable + CopyTable> ReadCodec<T> for AsTable {
+    #[tactic(auto, using(sentry_readers::proofs::Answering::not_object))]
+    fn from_node<N: Node>(alloc: Global, node: &N) -> Result<T, TreeError> {
+        object(node)?;
+        let mut from = Reader::new(alloc, node);
+        let value = T::read(&mut from);
+        match from.failed {
+            None => Ok(value),
+            Some(error) => Err(error),
+        }
+    }
+}
+
+impl<T: ReadTableAt + CopyTable> ReadCodecAt<T> for AsTable {
+    #[tactic(auto, using(sentry_readers::proofs::Answering::not_object_at))]
+    fn from_node<N: Node, R: Rng>(
+        alloc: Global,
+        node: &N,
+        now: Moment,
+        ids: &mut R,
+    ) -> Result<T, TreeError> {
+        object(node)?;
+        let mut from = Reader::new(alloc, node);
+        let value = T::read(&mut from, now, ids);
+        match from.failed {
+            None => Ok(value),
+            Some(error) => Err(error),
+        }
+    }
+}
+
+/// The form of the values of a table that keeps members of other keys.
+pub struct AsKept;
+
+impl<T: CopyKept> Codec<T> for AsKept {
+    ghost kind = { table (rows_of T.lines) (kept T.reserved) };
+
+    ghost cell_of = { λ v. fields (cells_by T.lines v) (T.others_of v) };
+
+    fn to_tree(value: &T, alloc: Global) -> Result<Value, AllocError> {
+        kept_tree(value, value.others(), alloc)
+    }
+
+    fn write(value: &T, out: &mut Writer) -> Result<(), AllocError> {
+        write_kept(value, value.others(), out)
+    }
+
+    fn remade(value: &T, way: Way) -> Result<T, AllocError> {
+        let mut copies = Copier::new(way);
+        let copy = CopyKept::copied(value, &mut copies)?;
+        match copies.failed {
+            None => Ok(copy),
+            Some(error) => Err(error),
+        }
+    }
+
+    fn is_null_tree(_value: &T) -> bool {
+        false
+    }
+
+    fn is_plain(value: &T) -> bool {
+        rows_are_plain(value) && others_are_plain(value.others(), T::names())
+    }
+}
+
+impl<T: ReadKept + CopyKept> ReadCodec<T> for AsKept {
+    #[tactic(auto, using(sentry_readers::proofs::Answering::not_object))]
+    fn from_node<N: Node>(alloc: Global, node: &N) -> Result<T, TreeError> {
+        object(node)?;
+        let mut from = Reader::new(alloc, node);
+        let value = T::read(&mut from);
+        match from.failed {
+            None => Ok(value),
+            Some(error) => Err(error),
+        }
+    }
+}

@@ -1,0 +1,34 @@
+//! Tables that are read row by row.
+
+ghost use Rattle.std.specs.Prelude.{◌++◌};
+ghost use Rattle.sentry_tables.specs.Fields.{rows_of};
+ghost use Rattle.sentry_tables.specs.Kind.{keys};
+ghost use Rattle.sentry_readers.specs.Fields.{ReadsFields, ReadsFieldsAt, ReadsKept};
+ghost use Rattle.sentry_moments.specs.Moments.{moment_cell};
+
+use rand_core::Rng;
+use sentry_givers::{KeptTable, Table};
+use sentry_moments::Moment;
+use sentry_readers::Reader;
+use sentry_trees::Node;
+
+/// A table that is read row by row.
+pub trait ReadTable: Table {
+    /// The value whose rows a tree shows, while nothing fails.
+    fn read<N: Node>(from: &mut Reader<'_, N>) -> Self
+        ensures { ReadsFields N.data_of Self.lines result from.old from.new };
+}
+
+/// A table that keeps other members and is read row by row.
+pub trait ReadKept: KeptTable {
+    /// The value whose rows a tree shows, with its other members, while nothing fails.
+    fn read<N: Node>(from: &mut Reader<'_, N>) -> Self
+        ensures { ReadsKept N.data_of Self.lines (Self.reserved ++ keys (rows_of Self.lines)) result (Self.others_of result) from.old from.new };
+}
+
+/// A table that is read row by row at a moment, with ids at hand.
+pub trait ReadTableAt: Table {
+    /// The value whose rows a tree shows at the moment `now`, while nothing fails.
+    fn read<N: Node, R: Rng>(from: &mut Reader<'_, N>, now: Moment, ids: &mut R) -> Self
+        ensures { ReadsFieldsAt N.data_of (moment_cell now) Self.lines result from.old from.new };
+}

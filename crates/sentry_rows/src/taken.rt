@@ -1,0 +1,96 @@
+//! What is made of a case: its tree, its text, or a test.
+
+ghost use Rattle.sentry_rows.specs.Taken.{IsCaseTree, WritesCase, TestsCase};
+ghost use Rattle.sentry_rows.specs.NoRows.{no_lines, no_lines_in_order};
+
+use crate::cased::CaseSink;
+use json::Writer;
+use sentry_givers::plain::rows_are_plain;
+use sentry_givers::table::{case_tree, kept_case_tree, write_case, write_kept_case};
+use sentry_givers::{Giver, KeptTable, Table};
+use sentry_sinks::Sink;
+use sentry_sinks::kept::others_are_plain;
+use serde_json::{Map, Value};
+use std::alloc::{AllocError, Global};
+
+/// A table without rows.
+#[derive(Drop)]
+pub(crate) struct NoRows;
+
+impl Table for NoRows {
+    ghost lines = { no_lines };
+
+    fn rows<S: Sink>(&self, _to: &mut Giver<'_, S>) {}
+
+    ghost ordered = { no_lines_in_order };
+}
+
+/// The written tree of a case.
+#[derive(Drop)]
+pub(crate) struct TreeCase {
+    pub(crate) alloc: Global,
+    pub(crate) tree: Result<Value, AllocError>,
+}
+
+impl CaseSink for TreeCase {
+    ghost Takes = { λ a b w rows o cs ms. IsCaseTree b.tree w rows o cs ms };
+
+    fn table<T: Table>(&mut self, word: &str, value: &T) {
+        self.tree = case_tree(value, word, self.alloc);
+    }
+
+    fn kept<T: KeptTable>(&mut self, word: &str, value: &T) {
+        self.tree = kept_case_tree(value, word, value.others(), self.alloc);
+    }
+
+    fn members(&mut self, word: &str, members: &Map<String, Value>) {
+        self.tree = kept_case_tree(&NoRows, word, members, self.alloc);
+    }
+}
+
+/// What writes the text of a case.
+#[derive(Drop)]
+pub(crate) struct TextCase<'w> {
+    pub(crate) out: &'w mut Writer,
+    pub(crate) wrote: Result<(), AllocError>,
+}
+
+impl<'w> CaseSink for TextCase<'w> {
+    ghost use Rattle.std.specs.Prelude.{◌≡◌};
+
+    ghost Takes = { λ a b w rows o cs ms. (b.out.ghost_name ≡ a.out.ghost_name) × WritesCase a.out.now b.out.now b.wrote w rows o cs ms };
+
+    fn table<T: Table>(&mut self, word: &str, value: &T) {
+        self.wrote = write_case(value, word, &mut *self.out);
+    }
+
+    fn kept<T: KeptTable>(&mut self, word: &str, value: &T) {
+        self.wrote = write_kept_case(value, word, value.others(), &mut *self.out);
+    }
+
+    fn members(&mut self, word: &str, members: &Map<String, Value>) {
+        self.wrote = write_kept_case(&NoRows, word, members, &mut *self.out);
+    }
+}
+
+/// A test of a case.
+#[derive(Drop)]
+pub(crate) struct PlainCase {
+    pub(crate) plain: bool,
+}
+
+impl CaseSink for PlainCase {
+    ghost Takes = { λ a b w rows o cs ms. TestsCase b.plain w rows o cs ms };
+
+    fn table<T: Table>(&mut self, _word: &str, value: &T) {
+        self.plain = rows_are_plain(value);
+    }
+
+    fn kept<T: KeptTable>(&mut self, _word: &str, value: &T) {
+        self.plain = rows_are_plain(value) && others_are_plain(value.others(), T::names());
+    }
+
+    fn members(&mut self, _word: &str, members: &Map<String, Value>) {
+        self.plain = others_are_plain(members, &["type"]);
+    }
+}

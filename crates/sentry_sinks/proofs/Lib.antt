@@ -1,0 +1,5 @@
+pub mod Joining
+pub mod OfTables
+pub mod Others
+pub mod RowsGiven
+pub mod ValuesMade

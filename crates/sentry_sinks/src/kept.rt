@@ -1,0 +1,51 @@
+//! Members that no row names.
+
+ghost use Rattle.std.specs.Prelude.{◌≡◌, ◌↔◌, IfOk, IsTrue, false, map as map_list};
+ghost use Rattle.serde_json.specs.Data.{object};
+ghost use Rattle.serde_json.specs.View.{members_view};
+ghost use Rattle.serde_json.specs.Written.{members_have_float};
+ghost use Rattle.sentry_json.specs.Sound.{IsRegular, HasTexts};
+ghost use Rattle.sentry_tables.specs.Kind.{has_key};
+ghost use Rattle.sentry_tables.specs.Meets.{IsClear};
+
+use sentry_members::Member;
+use sentry_members::tree::has_float;
+use sentry_trees::is_among;
+use serde_json::{Map, Value};
+use std::alloc::AllocError;
+
+/// Whether the key is one of the names.
+#[tactic(auto, using(crate::proofs::Others::is_key))]
+pub fn is_named(names: &[&str], key: &str) -> bool
+    ensures { result ≡ has_key key.now (map_list (λ name. name.now) names.now) }
+{
+    is_among(names, key)
+}
+
+/// Whether members may stand beside rows: none has one of the names as its key, and no number in them is held as a float.
+///
+/// The names are the keys that the members may not have: those of the table's rows, and in a type with a tag `type`.
+pub fn others_are_plain(others: &Map<String, Value>, names: &[&str]) -> bool
+    ensures plain { IsTrue result
+        ↔ (IsClear (map_list (λ name. name.now) names.now) (members_view others.now.entries)
+        × (members_have_float (members_view others.now.entries) ≡ false)) }
+    ensures stored { IsTrue result → IsRegular (object (members_view others.now.entries))
+        × HasTexts (object (members_view others.now.entries)) }
+{
+    for (key, member) in others.iter() {
+        if is_named(names, key.as_str()) {
+            return false;
+        }
+        if has_float(member) {
+            return false;
+        }
+    }
+    true
+}
+
+/// A copy of members that no row names. It fails where memory runs out.
+pub fn copy_others(others: &Map<String, Value>) -> Result<Map<String, Value>, AllocError>
+    ensures { IfOk result (λ m. members_view m.entries ≡ members_view others.now.entries) }
+{
+    others.copy()
+}

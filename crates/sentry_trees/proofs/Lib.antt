@@ -1,0 +1,6 @@
+pub mod Deeper
+pub mod Gathered
+pub mod Trees
+pub mod Numbers
+pub mod Lines
+pub mod Beside

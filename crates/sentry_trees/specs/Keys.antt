@@ -1,0 +1,25 @@
+-- Keys among others, and the members of other keys.
+use Rattle.std.specs.Prelude.{◌≡◌, ℕ, zero, suc, List, [], ◌∷◌, Bool, true, false, ◌||◌, ◌&&◌, not, cond}
+use Rattle.std.specs.Str.{bytes_eq}
+use Rattle.serde_json.specs.Data.{Members, no_members, member}
+
+-- the key is one of these
+abbrev pub is_among : List ℕ → List (List ℕ) → Bool
+is_among k [] = false
+is_among k (l ∷ ls) = bytes_eq k l || is_among k ls
+
+-- no key stands there twice
+abbrev pub are_distinct : List (List ℕ) → Bool
+are_distinct [] = true
+are_distinct (k ∷ ks) = not (is_among k ks) && are_distinct ks
+
+-- the key has this place among these, counted from 0
+abbrev pub StandsAt : List ℕ → ℕ → List (List ℕ) → Type 0
+StandsAt k i [] = ⊥
+StandsAt k zero (l ∷ ls) = k ≡ l
+StandsAt k (suc i) (l ∷ ls) = StandsAt k i ls
+
+-- the members of other keys
+abbrev pub beside : List (List ℕ) → Members → Members
+beside ks no_members = no_members
+beside ks (member k d ms) = cond (is_among k ks) (beside ks ms) (member k d (beside ks ms))

@@ -1,0 +1,13 @@
+//! Trees of JSON, whatever holds them.
+#![tactic(auto)]
+
+pub mod branch;
+pub mod keys;
+pub mod line;
+pub mod node;
+pub mod number;
+
+pub use branch::Branch;
+pub use keys::is_among;
+pub use line::{Line, LineError};
+pub use node::Node;
