@@ -71,13 +71,21 @@ pub table_fails_at : (now : Cell) (key : List ℕ) (r : Rule) (K : Kind) (rows :
 table_fails_at now key r K rows o d Misfit refused at = table_refuses_at now key r K rows o d refused at
 table_fails_at now key r K rows o d Memory refused at = tt
 
-pub not_object : (rows : Rows) (o : Other) (d : Data) → is_some (as_object d) ≡ false → Refused (table rows o) d
+not_object : (rows : Rows) (o : Other) (d : Data) → is_some (as_object d) ≡ false → Refused (table rows o) d
 unfolding Refused
 not_object rows o d is now c h = absurd (true≢false (sym h.0 ∙ is))
 
-pub not_object_at : (now : Cell) (rows : Rows) (o : Other) (d : Data) → is_some (as_object d) ≡ false → RefusedAt now (table rows o) d
+pub no_object_fails : (rows : Rows) (o : Other) (d : Data) (e : TreeError) → Only e (is_some (as_object d) ≡ false) → Only e (Refused (table rows o) d)
+no_object_fails rows o d Misfit is = not_object rows o d is
+no_object_fails rows o d Memory is = tt
+
+not_object_at : (now : Cell) (rows : Rows) (o : Other) (d : Data) → is_some (as_object d) ≡ false → RefusedAt now (table rows o) d
 unfolding RefusedAt
 not_object_at now rows o d is c h = absurd (true≢false (sym h.0 ∙ is))
+
+pub no_object_fails_at : (now : Cell) (rows : Rows) (o : Other) (d : Data) (e : TreeError) → Only e (is_some (as_object d) ≡ false) → Only e (RefusedAt now (table rows o) d)
+no_object_fails_at now rows o d Misfit is = not_object_at now rows o d is
+no_object_fails_at now rows o d Memory is = tt
 
 -- ---- what is shown
 

@@ -10,6 +10,7 @@ use Rattle.sentry_tables.specs.Shows.{Shows, RowShows, RowsShow, AreFields, memb
 use Rattle.sentry_members.specs.Reading.{Shown, RowShown, RowRefused, Reads, ReadsRow, Refused, RowShownAt, RowRefusedAt, ReadsAt, ReadsRowAt, ShownAt, RefusedAt, Only}
 use Rattle.sentry_members.specs.declared.error.TreeError.{TreeError}
 use Rattle.sentry_members.specs.declared.error.TreeError.TheVariants.{Misfit, Memory}
+use Rattle.sentry_trees.specs.Nodes.{tree_of}
 use Rattle.sentry_readers.specs.declared.reader.Reader.{Reader}
 use Rattle.sentry_readers.specs.Fields.{Keeps, ReadsField, ReadsFields, ReadsOthers, ReadsKept, RowsShown, ReadsFieldAt, ReadsFieldsAt, read_of}
 use Rattle.sentry_readers.proofs.RowLemmas.{must_read_at, default_read, default_read_at}
@@ -45,7 +46,7 @@ module _ {N : Type 0} (data_of : N → Data) where
   field_always key D K c a b h = h
 
   -- a row that failed
-  pub field_fails : (key : List ℕ) (r : Rule) (K : Kind) (c : Cell) (a b : Reader N) (e : TreeError) → Only e (RowRefused key r K (read_of data_of a)) → b.node ≡ a.node → b.failed ≡ Some e → ReadsField data_of key r K c a b
+  pub field_fails : (key : List ℕ) (r : Rule) (K : Kind) (c : Cell) (a b : Reader N) (e : TreeError) → Only e (RowRefused key r K (read_of data_of a)) → b.object ≡ a.object → b.failed ≡ Some e → ReadsField data_of key r K c a b
   unfolding ReadsField
   field_fails key r K c a b Misfit refused tree failed = (tree, λ none. absurd cc, λ misfit. inr refused)
   field_fails key r K c a b Memory refused tree failed = (tree, λ none. absurd cc, λ misfit. absurd cc)
@@ -54,8 +55,8 @@ module _ {N : Type 0} (data_of : N → Data) where
   pub default_kept : {A : Type 0} (key : List ℕ) (D : Cell) (K : Kind) (f : A → Cell) (e : Data) (read : Result A TreeError) (v : A) (a b : Reader N) → Reads K f e read → get key (read_of data_of a) ≡ Some e → Keeps read v a b → ReadsField data_of key (default D) K (f v) a b
   default_kept key D K f e read v a b h is k = field_kept key (default D) K f read v a b (default_read key K D f (read_of data_of a) e read is h) k
 
-  same_tree : (a b : Reader N) → b.node ≡ a.node → read_of data_of b ≡ read_of data_of a
-  same_tree a b e = ap (λ t. data_of t.now) e
+  same_tree : (a b : Reader N) → b.object ≡ a.object → read_of data_of b ≡ read_of data_of a
+  same_tree a b e = ap (tree_of data_of) e
 
   rows_shown : {A : Type 0} (fs : List (Field A)) (v : A) (a z : Reader N) → ReadsFields data_of fs v a z → z.failed ≡ None → (a.failed ≡ None) × RowsShown (rows_of fs) (read_of data_of a) (cells_by fs v)
   unfolding ReadsField
@@ -92,9 +93,12 @@ module _ {N : Type 0} (data_of : N → Data) where
     | inr refused ↦ fields_refused now (rows_of fs) (read_of data_of a) _ c (refused now) shown.1
   ]
 
+  is_object : (a : Reader N) (d : Data) → read_of data_of a ≡ d → is_some (as_object d) ≡ true
+  is_object a d is = ap (λ t. is_some (as_object t)) (sym is)
+
   -- what is answered of a table that ignores other members
-  pub table_read : {A : Type 0} (fs : List (Field A)) (v : A) (a z : Reader N) (d : Data) → read_of data_of a ≡ d → is_some (as_object d) ≡ true → ReadsFields data_of fs v a z → z.failed ≡ None → Shown (table_of fs) d (fields_by fs v)
-  table_read fs v a z d is object h none = shows_rows (rows_of fs) d _ object (subst (λ t. RowsShown (rows_of fs) t (cells_by fs v)) is (rows_shown fs v a z h none).1)
+  pub table_read : {A : Type 0} (fs : List (Field A)) (v : A) (a z : Reader N) (d : Data) → read_of data_of a ≡ d → ReadsFields data_of fs v a z → z.failed ≡ None → Shown (table_of fs) d (fields_by fs v)
+  table_read fs v a z d is h none = shows_rows (rows_of fs) d _ (is_object a d is) (subst (λ t. RowsShown (rows_of fs) t (cells_by fs v)) is (rows_shown fs v a z h none).1)
 
   pub table_failed : {A : Type 0} (fs : List (Field A)) (v : A) (a z : Reader N) (d : Data) (e : TreeError) → read_of data_of a ≡ d → ReadsFields data_of fs v a z → a.failed ≡ None → z.failed ≡ Some e → Only e (Refused (table_of fs) d)
   table_failed fs v a z d Misfit is h none failed = subst (Refused (table_of fs)) is (table_refused fs ignored v a z h none failed)
@@ -107,7 +111,7 @@ module _ {N : Type 0} (data_of : N → Data) where
     unfolding Keeps
     kept_value is = (refl, λ none. (none, is), λ e failed. inl failed)
 
-    pub kept_failure : (e : TreeError) → read ≡ Err e → a.failed ≡ None → b.node ≡ a.node → b.failed ≡ Some e → Keeps read v a b
+    pub kept_failure : (e : TreeError) → read ≡ Err e → a.failed ≡ None → b.object ≡ a.object → b.failed ≡ Some e → Keeps read v a b
     unfolding Keeps
     kept_failure e is none tree failed = (tree, λ none. absurd cc, λ x at. inr cc)
 
@@ -130,12 +134,12 @@ module _ {N : Type 0} (data_of : N → Data) where
   fields_tree [] v a z same = ap (read_of data_of) (sym same)
   fields_tree (f ∷ fs) v a z h = fields_tree fs v h.0 z h.2 ∙ same_tree a h.0 h.1.0
 
-  pub kept_read : {A : Type 0} (fs : List (Field A)) (reserved : List (List ℕ)) (v : A) (others : Members) (a z : Reader N) (d : Data) → read_of data_of a ≡ d → is_some (as_object d) ≡ true → ReadsKept data_of fs (reserved ++ keys (rows_of fs)) v others a z → z.failed ≡ None
+  pub kept_read : {A : Type 0} (fs : List (Field A)) (reserved : List (List ℕ)) (v : A) (others : Members) (a z : Reader N) (d : Data) → read_of data_of a ≡ d → ReadsKept data_of fs (reserved ++ keys (rows_of fs)) v others a z → z.failed ≡ None
       → Shown (table (rows_of fs) (kept reserved)) d (fields (cells_by fs v) others)
-  kept_read fs reserved v others a z d is object h none =
+  kept_read fs reserved v others a z d is h none =
       let rest = others_stay _ others h.0 z h.2 none in
       let names = reserved ++ keys (rows_of fs) in
-      shows_table (rows_of fs) (kept reserved) d _ others object (rest.1 ∙ ap (λ t. without names (members_in t)) (fields_tree fs v a h.0 h.1 ∙ is))
+      shows_table (rows_of fs) (kept reserved) d _ others (is_object a d is) (rest.1 ∙ ap (λ t. without names (members_in t)) (fields_tree fs v a h.0 h.1 ∙ is))
       (subst (λ t. RowsShown (rows_of fs) t (cells_by fs v)) is (rows_shown fs v a h.0 h.1 rest.0).1)
 
   pub kept_failed : {A : Type 0} (fs : List (Field A)) (reserved : List (List ℕ)) (v : A) (others : Members) (a z : Reader N) (d : Data) (e : TreeError) → read_of data_of a ≡ d → ReadsKept data_of fs (reserved ++ keys (rows_of fs)) v others a z → a.failed ≡ None → z.failed ≡ Some e
@@ -148,7 +152,7 @@ module _ {N : Type 0} (data_of : N → Data) where
     unfolding ReadsOthers
     others_read is = (refl, λ none. (none, is), λ misfit. misfit)
 
-    pub others_refused : b.node ≡ a.node → b.failed ≡ Some Memory → ReadsOthers data_of names others a b
+    pub others_refused : b.object ≡ a.object → b.failed ≡ Some Memory → ReadsOthers data_of names others a b
     unfolding ReadsOthers
     others_refused tree failed = (tree, λ is. absurd cc, λ is. absurd cc)
 
@@ -175,7 +179,7 @@ module _ {N : Type 0} (data_of : N → Data) where
     field_ready_at key r K c a shown = (refl, λ none. (none, shown), λ misfit. inl misfit)
 
     -- one that had to be there, and is not
-    pub field_missing_at : (key : List ℕ) (r : Rule) (K : Kind) (c : Cell) (a b : Reader N) → RowRefusedAt now key r K (read_of data_of a) → b.node ≡ a.node → b.failed ≡ Some Misfit → ReadsFieldAt data_of now key r K c a b
+    pub field_missing_at : (key : List ℕ) (r : Rule) (K : Kind) (c : Cell) (a b : Reader N) → RowRefusedAt now key r K (read_of data_of a) → b.object ≡ a.object → b.failed ≡ Some Misfit → ReadsFieldAt data_of now key r K c a b
     unfolding ReadsFieldAt
     field_missing_at key r K c a b refused tree failed = (tree, λ none. absurd cc, λ misfit. inr refused)
 
@@ -217,8 +221,8 @@ module _ {N : Type 0} (data_of : N → Data) where
           | inr later ↦ inr (rest_refused f fs now (read_of data_of a) (subst (λ d. (cs : Cells) → RowsShow (rows_of fs) now d cs → ⊥) (same_tree a h.0 row.0) later))
         ]
 
-    pub table_read_at : {A : Type 0} (fs : List (Field A)) (v : A) (a z : Reader N) (d : Data) → read_of data_of a ≡ d → is_some (as_object d) ≡ true → ReadsFieldsAt data_of now fs v a z → z.failed ≡ None → ShownAt now (table_of fs) d (fields_by fs v)
-    table_read_at fs v a z d is object h none = shows_rows_at now (rows_of fs) d _ object (subst (λ t. RowsShownAt now (rows_of fs) t (cells_by fs v)) is (rows_shown_at fs v a z h none).1)
+    pub table_read_at : {A : Type 0} (fs : List (Field A)) (v : A) (a z : Reader N) (d : Data) → read_of data_of a ≡ d → ReadsFieldsAt data_of now fs v a z → z.failed ≡ None → ShownAt now (table_of fs) d (fields_by fs v)
+    table_read_at fs v a z d is h none = shows_rows_at now (rows_of fs) d _ (is_object a d is) (subst (λ t. RowsShownAt now (rows_of fs) t (cells_by fs v)) is (rows_shown_at fs v a z h none).1)
 
     misfit_at : {A : Type 0} (fs : List (Field A)) (v : A) (a z : Reader N) → ReadsFieldsAt data_of now fs v a z → a.failed ≡ None → z.failed ≡ Some Misfit → RefusedAt now (table_of fs) (read_of data_of a)
     unfolding RefusedAt

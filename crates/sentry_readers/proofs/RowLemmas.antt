@@ -1,8 +1,9 @@
 -- Readers of rows.
-use Rattle.std.proofs.Common.{◌≡◌, ℕ, List, Some, None, Result, Ok, Err, refl, sym, true, false, true≢false}
+use Rattle.std.proofs.Common.{◌≡◌, ℕ, List, Some, None, Result, Ok, Err, refl, sym, ap, true, false, true≢false}
 use Rattle.std.specs.Prelude.{is_some}
-use Rattle.serde_json.specs.Data.{Data, null}
-use Rattle.serde_json.specs.Find.{get, as_null}
+use Rattle.std.proofs.lemmas.Option.{same_Some}
+use Rattle.serde_json.specs.Data.{Data, null, object, Members}
+use Rattle.serde_json.specs.Find.{get, as_null, as_object}
 use Rattle.sentry_tables.specs.Cell.{Cell, absent, present}
 use Rattle.sentry_tables.specs.Kind.{must, may, may_null, may_strict, default, always, draw, at_once, Kind}
 use Rattle.sentry_tables.specs.Shows.{Shows, unless_null_at, IsPresent}
@@ -21,6 +22,15 @@ not_null _ h = refl
 present_refused : (P : Cell → Type 0) (c : Cell) → ((x : Cell) → P x → ⊥) → IsPresent P c → ⊥
 present_refused P (present x) f h = f x h
 present_refused P _ f h = h
+
+-- ---- the object that the rows are of
+
+pub object_there : (d : Data) (ms : Members) → Some ms ≡ as_object d → object ms ≡ d
+object_there (object all) ms e = ap object (same_Some ms all e)
+object_there _ ms e = absurd cc
+
+pub no_object : (d : Data) → None ≡ as_object d → is_some (as_object d) ≡ false
+no_object d e = ap is_some (sym e)
 
 -- ---- at every moment
 

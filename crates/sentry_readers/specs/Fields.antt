@@ -1,6 +1,7 @@
 -- What a reader of a table's rows has read.
 use Rattle.std.specs.Prelude.{◌≡◌, ◌⊎◌, List, [], ◌∷◌, ℕ, Some, None, Result, Ok, Err, ⊤}
 use Rattle.serde_json.specs.Data.{Data, Members}
+use Rattle.sentry_trees.specs.Nodes.{tree_of}
 use Rattle.sentry_tables.specs.Cell.{Cell, Cells, no_cells, cell}
 use Rattle.sentry_tables.specs.Fields.{Field}
 use Rattle.sentry_tables.specs.Kind.{Rule, Kind, Rows, no_rows, row, without}
@@ -12,17 +13,17 @@ use Rattle.sentry_readers.specs.declared.reader.Reader.{Reader}
 
 -- the tree of a reader, whatever holds it
 abbrev pub read_of : {N : Type 0} → (N → Data) → Reader N → Data
-read_of data_of r = data_of r.node.now
+read_of data_of r = tree_of data_of r.object
 
 -- what was read stands, or its failure is remembered, but for an earlier one
 unfoldable pub Keeps : {A N : Type 0} → Result A TreeError → A → Reader N → Reader N → Type 0
 Keeps read v a b =
-    (b.node ≡ a.node) × (b.failed ≡ None → (a.failed ≡ None) × (read ≡ Ok v)) × ((e : TreeError) → b.failed ≡ Some e → (a.failed ≡ Some e) ⊎ (read ≡ Err e))
+    (b.object ≡ a.object) × (b.failed ≡ None → (a.failed ≡ None) × (read ≡ Ok v)) × ((e : TreeError) → b.failed ≡ Some e → (a.failed ≡ Some e) ⊎ (read ≡ Err e))
 
 -- while nothing fails the row shows the value, and a misfit comes only where the row is refused
 unfoldable pub ReadsField : {N : Type 0} → (N → Data) → List ℕ → Rule → Kind → Cell → Reader N → Reader N → Type 0
 ReadsField data_of key r K c a b =
-    (b.node ≡ a.node) × (b.failed ≡ None → (a.failed ≡ None) × RowShown key r K (read_of data_of a) c) × (b.failed ≡ Some Misfit → (a.failed ≡ Some Misfit) ⊎ RowRefused key r K (read_of data_of a))
+    (b.object ≡ a.object) × (b.failed ≡ None → (a.failed ≡ None) × RowShown key r K (read_of data_of a) c) × (b.failed ≡ Some Misfit → (a.failed ≡ Some Misfit) ⊎ RowRefused key r K (read_of data_of a))
 
 -- each row of the table was read, from one state of the reader to the next
 abbrev pub ReadsFields : {A N : Type 0} → (N → Data) → List (Field A) → A → Reader N → Reader N → Type 0
@@ -38,7 +39,7 @@ RowsShown (row key r K rows) d (cell c cs) = RowShown key r K d c × RowsShown r
 -- while nothing fails these are the members of other keys; no misfit comes of them
 unfoldable pub ReadsOthers : {N : Type 0} → (N → Data) → List (List ℕ) → Members → Reader N → Reader N → Type 0
 ReadsOthers data_of names others a b =
-    (b.node ≡ a.node) × (b.failed ≡ None → (a.failed ≡ None) × (others ≡ without names (members_in (read_of data_of a)))) × (b.failed ≡ Some Misfit → a.failed ≡ Some Misfit)
+    (b.object ≡ a.object) × (b.failed ≡ None → (a.failed ≡ None) × (others ≡ without names (members_in (read_of data_of a)))) × (b.failed ≡ Some Misfit → a.failed ≡ Some Misfit)
 
 -- each row of the table was read, and then the members of other keys
 abbrev pub ReadsKept : {A N : Type 0} → (N → Data) → List (Field A) → List (List ℕ) → A → Members → Reader N → Reader N → Type 0
@@ -49,7 +50,7 @@ ReadsKept {A} {N} data_of fs names v others a z = (b : Reader N) × ReadsFields 
 -- while nothing fails the row shows the value now, and a misfit comes only where it is refused now
 unfoldable pub ReadsFieldAt : {N : Type 0} → (N → Data) → Cell → List ℕ → Rule → Kind → Cell → Reader N → Reader N → Type 0
 ReadsFieldAt data_of now key r K c a b =
-    (b.node ≡ a.node) × (b.failed ≡ None → (a.failed ≡ None) × RowShownAt now key r K (read_of data_of a) c) × (b.failed ≡ Some Misfit → (a.failed ≡ Some Misfit) ⊎ RowRefusedAt now key r K (read_of data_of a))
+    (b.object ≡ a.object) × (b.failed ≡ None → (a.failed ≡ None) × RowShownAt now key r K (read_of data_of a) c) × (b.failed ≡ Some Misfit → (a.failed ≡ Some Misfit) ⊎ RowRefusedAt now key r K (read_of data_of a))
 
 -- each row of the table was read, at every moment or now, from one state of the reader to the next
 abbrev pub ReadsFieldsAt : {A N : Type 0} → (N → Data) → Cell → List (Field A) → A → Reader N → Reader N → Type 0

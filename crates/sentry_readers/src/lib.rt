@@ -11,4 +11,5 @@ pub mod rows;
 pub mod timed;
 
 pub use reader::Reader;
+pub use rows::MadeCodec;
 pub use timed::{FromTreeAt, ReadCodecAt};

@@ -9,37 +9,35 @@ ghost use Rattle.sentry_members.specs.Kinds.{text_kind};
 ghost use Rattle.sentry_readers.specs.Fields.{Keeps, ReadsField, ReadsOthers};
 
 use crate::draw::or_drawn_as;
-use crate::rows;
+use crate::rows::{self, MadeCodec};
 use rand_core::Rng;
 use sentry_members::{FromTree, Own, ReadCodec, TreeError};
 use sentry_sinks::{Drawn, Values};
-use sentry_trees::Node;
+use sentry_trees::{Node, Object};
 use serde_json::{Map, Value};
 use std::alloc::Global;
 use std::borrow::CowStr;
 
-/// A place in a tree that is read row by row.
+/// An object that is read row by row.
 ///
 /// Each call reads one row: the member at its key, by its rule. The first failure is remembered, and
 /// some value stands in for what could not be read. After a failure nothing more is read.
 #[derive(Drop)]
 pub struct Reader<'t, N> {
     pub alloc: Global,
-    pub node: &'t N,
+    pub object: Object<'t, N>,
     pub failed: Option<TreeError>,
 }
 
 impl<'t, N: Node> Reader<'t, N> {
-    ghost use Rattle.sentry_readers.specs.Fields.{read_of};
-
     /// A reader that has not failed.
-    pub fn new(alloc: Global, node: &'t N) -> Reader<'t, N>
-        ensures tree { read_of N.data_of result ≡ N.data_of node.now }
+    pub fn new(alloc: Global, object: Object<'t, N>) -> Reader<'t, N>
+        ensures object { result.object ≡ object.entry }
         ensures failed { result.failed ≡ None }
     {
         Reader {
             alloc,
-            node,
+            object,
             failed: None,
         }
     }
@@ -68,7 +66,7 @@ impl<'t, N: Node> Reader<'t, N> {
         if self.failed.is_some() {
             return stand_in;
         }
-        let read = rows::required_as::<F, X, N>(self.alloc, self.node, key);
+        let read = rows::required_as::<F, X, N>(self.alloc, &self.object, key);
         self.keep(read, stand_in)
     }
 
@@ -87,7 +85,7 @@ impl<'t, N: Node> Reader<'t, N> {
         if self.failed.is_some() {
             return None;
         }
-        let read = rows::optional_as::<F, X, N>(self.alloc, self.node, key);
+        let read = rows::optional_as::<F, X, N>(self.alloc, &self.object, key);
         self.keep(read, None)
     }
 
@@ -106,7 +104,7 @@ impl<'t, N: Node> Reader<'t, N> {
         if self.failed.is_some() {
             return None;
         }
-        let read = rows::optional_or_null_as::<F, X, N>(self.alloc, self.node, key);
+        let read = rows::optional_or_null_as::<F, X, N>(self.alloc, &self.object, key);
         self.keep(read, None)
     }
 
@@ -125,7 +123,7 @@ impl<'t, N: Node> Reader<'t, N> {
         if self.failed.is_some() {
             return None;
         }
-        let read = rows::optional_strict_as::<F, X, N>(self.alloc, self.node, key);
+        let read = rows::optional_strict_as::<F, X, N>(self.alloc, &self.object, key);
         self.keep(read, None)
     }
 
@@ -144,10 +142,10 @@ impl<'t, N: Node> Reader<'t, N> {
         if self.failed.is_some() {
             return default;
         }
-        let Some(member) = self.node.get(key) else {
+        let Some(member) = self.object.get(key) else {
             return default;
         };
-        let read = F::from_node(self.alloc, &member);
+        let read = F::from_node(self.alloc, member);
         self.keep(read, default)
     }
 
@@ -156,6 +154,18 @@ impl<'t, N: Node> Reader<'t, N> {
         ensures { ReadsField N.data_of key.now (default_rule (X.cell_of default)) X.kind (X.cell_of result) self.old self.new }
     {
         self.or_as::<Own, X>(key, default)
+    }
+
+    /// A row with a default that is made, and stands where nothing is given.
+    #[tactic(auto, using(crate::proofs::Reading::field_kept, crate::proofs::Reading::field_after))]
+    pub fn made_as<F: MadeCodec<X>, X: Drop>(&mut self, key: &str, stand_in: X) -> X
+        ensures { ReadsField N.data_of key.now (default_rule F.usual) F.kind (F.cell_of result) self.old self.new }
+    {
+        if self.failed.is_some() {
+            return stand_in;
+        }
+        let read = rows::made_as::<F, X, N>(self.alloc, &self.object, key);
+        self.keep(read, stand_in)
     }
 
     /// A row with a default that is always written.
@@ -181,7 +191,7 @@ impl<'t, N: Node> Reader<'t, N> {
         if self.failed.is_some() {
             return String::new(self.alloc);
         }
-        let read = rows::required(self.alloc, self.node, key);
+        let read = rows::required(self.alloc, &self.object, key);
         self.keep(read, String::new(self.alloc))
     }
 
@@ -193,7 +203,7 @@ impl<'t, N: Node> Reader<'t, N> {
         if self.failed.is_some() {
             return String::new(self.alloc);
         }
-        let read = rows::text_or(self.alloc, self.node, key, default);
+        let read = rows::text_or(self.alloc, &self.object, key, default);
         self.keep(read, String::new(self.alloc))
     }
 
@@ -219,7 +229,7 @@ impl<'t, N: Node> Reader<'t, N> {
         if self.failed.is_some() {
             return F::random(ids);
         }
-        let read = or_drawn_as::<F, X, R, N>(self.alloc, self.node, key, ids);
+        let read = or_drawn_as::<F, X, R, N>(self.alloc, &self.object, key, ids);
         match read {
             Ok(value) => value,
             Err(error) => {
@@ -237,7 +247,7 @@ impl<'t, N: Node> Reader<'t, N> {
         if self.failed.is_some() {
             return Vec::new(self.alloc);
         }
-        let read = rows::list(self.alloc, self.node, key);
+        let read = rows::list(self.alloc, &self.object, key);
         self.keep(read, Vec::new(self.alloc))
     }
 
@@ -249,7 +259,7 @@ impl<'t, N: Node> Reader<'t, N> {
         if self.failed.is_some() {
             return Vec::new(self.alloc);
         }
-        let read = rows::written_list(self.alloc, self.node, key);
+        let read = rows::written_list(self.alloc, &self.object, key);
         self.keep(read, Vec::new(self.alloc))
     }
 
@@ -261,7 +271,7 @@ impl<'t, N: Node> Reader<'t, N> {
         if self.failed.is_some() {
             return Map::new(self.alloc);
         }
-        let read = rows::map(self.alloc, self.node, key);
+        let read = rows::map(self.alloc, &self.object, key);
         self.keep(read, Map::new(self.alloc))
     }
 
@@ -283,7 +293,7 @@ impl<'t, N: Node> Reader<'t, N> {
         if self.failed.is_some() {
             return Map::new(self.alloc);
         }
-        match rows::others(self.alloc, self.node, names) {
+        match rows::others(self.alloc, &self.object, names) {
             Ok(others) => others,
             Err(_) => {
                 self.failed = Some(TreeError::Memory);

@@ -25,7 +25,7 @@ impl<'t, N: Node> Reader<'t, N> {
         if self.failed.is_some() {
             return now;
         }
-        let read = now_or_as::<F, N>(self.alloc, self.node, key, now);
+        let read = now_or_as::<F, N>(self.alloc, &self.object, key, now);
         self.keep(read, now)
     }
 
@@ -43,7 +43,7 @@ impl<'t, N: Node> Reader<'t, N> {
         if self.failed.is_some() {
             return stand_in;
         }
-        let read = required_at::<X, R, N>(self.alloc, self.node, key, now, ids);
+        let read = required_at::<X, R, N>(self.alloc, &self.object, key, now, ids);
         self.keep(read, stand_in)
     }
 
@@ -60,7 +60,7 @@ impl<'t, N: Node> Reader<'t, N> {
         if self.failed.is_some() {
             return None;
         }
-        let read = optional_at::<X, R, N>(self.alloc, self.node, key, now, ids);
+        let read = optional_at::<X, R, N>(self.alloc, &self.object, key, now, ids);
         self.keep(read, None)
     }
 
@@ -78,10 +78,10 @@ impl<'t, N: Node> Reader<'t, N> {
         if self.failed.is_some() {
             return default;
         }
-        let Some(member) = self.node.get(key) else {
+        let Some(member) = self.object.get(key) else {
             return default;
         };
-        let read = F::from_node(self.alloc, &member, now, ids);
+        let read = F::from_node(self.alloc, member, now, ids);
         self.keep(read, default)
     }
 
@@ -111,11 +111,11 @@ impl<'t, N: Node> Reader<'t, N> {
         if self.failed.is_some() {
             return Vec::new(self.alloc);
         }
-        let Some(member) = self.node.get(key) else {
+        let Some(member) = self.object.get(key) else {
             self.failed = Some(TreeError::Misfit);
             return Vec::new(self.alloc);
         };
-        let read = read_list_at(self.alloc, &member, now, ids);
+        let read = read_list_at(self.alloc, member, now, ids);
         self.keep(read, Vec::new(self.alloc))
     }
 
@@ -127,10 +127,10 @@ impl<'t, N: Node> Reader<'t, N> {
         if self.failed.is_some() {
             return Vec::new(self.alloc);
         }
-        let Some(member) = self.node.get(key) else {
+        let Some(member) = self.object.get(key) else {
             return Vec::new(self.alloc);
         };
-        let read = read_list_at(self.alloc, &member, now, ids);
+        let read = read_list_at(self.alloc, member, now, ids);
         self.keep(read, Vec::new(self.alloc))
     }
 
@@ -147,10 +147,10 @@ impl<'t, N: Node> Reader<'t, N> {
         if self.failed.is_some() {
             return Map::new(self.alloc);
         }
-        let Some(member) = self.node.get(key) else {
+        let Some(member) = self.object.get(key) else {
             return Map::new(self.alloc);
         };
-        let read = read_map_at(self.alloc, &member, now, ids);
+        let read = read_map_at(self.alloc, member, now, ids);
         self.keep(read, Map::new(self.alloc))
     }
 

@@ -6,12 +6,13 @@ ghost use Rattle.sentry_tables.specs.Kind.{at_once, list as list_kind, map as ma
 ghost use Rattle.sentry_members.specs.Cells.{option_cell, list_cell, map_cell};
 ghost use Rattle.sentry_members.specs.Reading.{ReadsAt, ReadsRowAt};
 ghost use Rattle.sentry_moments.specs.Moments.{moment_cell};
+ghost use Rattle.sentry_trees.specs.Nodes.{tree_of};
 
 use rand_core::Rng;
 use sentry_members::{Codec, Formed, Member, Own, ReadCodec, TreeError};
 use sentry_moments::Moment;
 use sentry_sinks::values::{AsValues, Values};
-use sentry_trees::Node;
+use sentry_trees::{Node, Object};
 use serde_json::{Map, Value};
 use std::alloc::Global;
 
@@ -119,14 +120,14 @@ pub fn read_map_at<T: FromTreeAt, R: Rng, N: Node>(
 #[tactic(auto, using(crate::proofs::RowLemmas::at_once_absent_at, crate::proofs::RowLemmas::at_once_read_now))]
 pub fn now_or_as<F: ReadCodec<Moment>, N: Node>(
     alloc: Global,
-    node: &N,
+    object: &Object<'_, N>,
     key: &str,
     now: Moment,
 ) -> Result<Moment, TreeError>
-    ensures { ReadsRowAt (F.cell_of now) key.now at_once F.kind F.cell_of (N.data_of node.now) result }
+    ensures { ReadsRowAt (F.cell_of now) key.now at_once F.kind F.cell_of (tree_of N.data_of object.now) result }
 {
-    match node.get(key) {
-        Some(member) => F::from_node(alloc, &member),
+    match object.get(key) {
+        Some(member) => F::from_node(alloc, member),
         None => Ok(now),
     }
 }
@@ -135,34 +136,34 @@ pub fn now_or_as<F: ReadCodec<Moment>, N: Node>(
 #[tactic(auto, using(crate::proofs::RowLemmas::must_missing_at, crate::proofs::RowLemmas::must_read_at))]
 pub fn required_at<T: FromTreeAt, R: Rng, N: Node>(
     alloc: Global,
-    node: &N,
+    object: &Object<'_, N>,
     key: &str,
     now: Moment,
     ids: &mut R,
 ) -> Result<T, TreeError>
-    ensures { ReadsRowAt (moment_cell now) key.now must T.kind T.cell_of (N.data_of node.now) result }
+    ensures { ReadsRowAt (moment_cell now) key.now must T.kind T.cell_of (tree_of N.data_of object.now) result }
 {
-    let Some(member) = node.get(key) else {
+    let Some(member) = object.get(key) else {
         return Err(TreeError::Misfit);
     };
-    T::from_node(alloc, &member, now, ids)
+    T::from_node(alloc, member, now, ids)
 }
 
 /// A row at a moment that may be absent or null.
 #[tactic(auto, using(crate::proofs::RowLemmas::may_absent_at, crate::proofs::RowLemmas::may_is_null_at, crate::proofs::RowLemmas::may_shown_at, crate::proofs::RowLemmas::may_fails_at))]
 pub fn optional_at<T: FromTreeAt, R: Rng, N: Node>(
     alloc: Global,
-    node: &N,
+    object: &Object<'_, N>,
     key: &str,
     now: Moment,
     ids: &mut R,
 ) -> Result<Option<T>, TreeError>
-    ensures { ReadsRowAt (moment_cell now) key.now may T.kind (option_cell T.cell_of) (N.data_of node.now) result }
+    ensures { ReadsRowAt (moment_cell now) key.now may T.kind (option_cell T.cell_of) (tree_of N.data_of object.now) result }
 {
-    match node.get(key) {
+    match object.get(key) {
         None => Ok(None),
         Some(member) if member.is_null() => Ok(None),
-        Some(member) => Ok(Some(T::from_node(alloc, &member, now, ids)?)),
+        Some(member) => Ok(Some(T::from_node(alloc, member, now, ids)?)),
     }
 }
 

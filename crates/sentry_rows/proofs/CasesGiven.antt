@@ -9,7 +9,6 @@ use Rattle.sentry_tables.specs.Cell.{Cell, choice, fields, no_cells}
 use Rattle.sentry_tables.specs.Kind.{table, tagged, no_rows, Cases, no_cases, case}
 use Rattle.sentry_tables.specs.Meets.{IsPlain, IsStored, CaseMeets, plain_demand, stored_demand}
 use Rattle.sentry_tables.specs.Norm.{case_norm}
-use Rattle.sentry_tables.specs.Written.{tree}
 use Rattle.sentry_members.specs.Made.{made}
 use Rattle.sentry_members.specs.Written.{written, WritesTree}
 use Rattle.sentry_members.specs.declared.way.Way.{Way}

@@ -2,7 +2,7 @@
 use Rattle.std.proofs.Common.{◌≡◌, ◌≤◌, ℕ, zero, suc, List, [], ◌∷◌, Bool, true, false, Some, None, length, refl, sym, ap, ◌∙◌, true≢false, arith}
 use Rattle.std.specs.Prelude.{◌&&◌, is_some, not}
 use Rattle.std.proofs.lemmas.Option.{same_Some}
-use Rattle.serde_json.specs.Data.{Data, Members}
+use Rattle.serde_json.specs.Data.{Data, Members, object}
 use Rattle.serde_json.specs.Find.{as_object}
 use Rattle.sentry_trees.specs.Keys.{is_among, are_distinct, StandsAt}
 use Rattle.sentry_trees.proofs.Beside.{among}
@@ -84,8 +84,8 @@ case_fails cases word n d Memory is at once h = tt
 pub unknown_word : (cases : Cases) (word : List ℕ) (d : Data) → word_of None d ≡ Some word → is_among word (words cases) ≡ false → Refused (tagged cases) d
 unknown_word cases word d is none = another_word cases word d is (sym (is_key word (words cases)) ∙ none)
 
-pub rest_shown : (d : Data) (ms : Members) → is_some (as_object d) ≡ true → ms ≡ without (tag ∷ []) (members_in d) → Shown (table no_rows but_tag) d (fields no_cells ms)
-rest_shown d ms is rest = shows_table no_rows but_tag d no_cells ms is rest tt
+pub rest_shown : (d : Data) (all ms : Members) → object all ≡ d → ms ≡ without (tag ∷ []) all → Shown (table no_rows but_tag) d (fields no_cells ms)
+rest_shown d all ms is rest = shows_table no_rows but_tag d no_cells ms (ap (λ t. is_some (as_object t)) (sym is)) (rest ∙ ap (λ t. without (tag ∷ []) (members_in t)) is) tt
 
 -- ---- at a moment
 

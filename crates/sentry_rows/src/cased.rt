@@ -170,12 +170,11 @@ impl<T: ReadCasedAt> ReadCodecAt<T> for AsCase {
 /// All members of a tree but its tag: a case without rows.
 ///
 /// Fails with `Misfit` where the tree is no object, and with `Memory` where memory is refused.
-#[tactic(auto, using(crate::proofs::CasesRead::rest_shown, sentry_readers::proofs::Answering::not_object))]
+#[tactic(auto, using(crate::proofs::CasesRead::rest_shown, sentry_readers::proofs::Answering::no_object_fails))]
 pub fn read_members<N: Node>(alloc: Global, node: &N) -> Result<Map<String, Value>, TreeError>
     ensures { Reads (table no_rows but_tag) (λ m. fields no_cells (members_view m.entries)) (N.data_of node.now) result }
 {
-    object(node)?;
-    Ok(others(alloc, node, &["type"])?)
+    Ok(others(alloc, &object(alloc, node)?, &["type"])?)
 }
 
 /// The same members, which are their own normal form. It fails where memory runs out.

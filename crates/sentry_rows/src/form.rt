@@ -55,10 +55,9 @@ impl<T: CopyTable> Codec<T> for AsTable {
 }
 
 impl<T: ReadTable + CopyTable> ReadCodec<T> for AsTable {
-    #[tactic(auto, using(sentry_readers::proofs::Answering::not_object))]
+    #[tactic(auto, using(sentry_readers::proofs::Answering::no_object_fails))]
     fn from_node<N: Node>(alloc: Global, node: &N) -> Result<T, TreeError> {
-        object(node)?;
-        let mut from = Reader::new(alloc, node);
+        let mut from = Reader::new(alloc, object(alloc, node)?);
         let value = T::read(&mut from);
         match from.failed {
             None => Ok(value),
@@ -68,15 +67,14 @@ impl<T: ReadTable + CopyTable> ReadCodec<T> for AsTable {
 }
 
 impl<T: ReadTableAt + CopyTable> ReadCodecAt<T> for AsTable {
-    #[tactic(auto, using(sentry_readers::proofs::Answering::not_object_at))]
+    #[tactic(auto, using(sentry_readers::proofs::Answering::no_object_fails_at))]
     fn from_node<N: Node, R: Rng>(
         alloc: Global,
         node: &N,
         now: Moment,
         ids: &mut R,
     ) -> Result<T, TreeError> {
-        object(node)?;
-        let mut from = Reader::new(alloc, node);
+        let mut from = Reader::new(alloc, object(alloc, node)?);
         let value = T::read(&mut from, now, ids);
         match from.failed {
             None => Ok(value),
@@ -120,10 +118,9 @@ impl<T: CopyKept> Codec<T> for AsKept {
 }
 
 impl<T: ReadKept + CopyKept> ReadCodec<T> for AsKept {
-    #[tactic(auto, using(sentry_readers::proofs::Answering::not_object))]
+    #[tactic(auto, using(sentry_readers::proofs::Answering::no_object_fails))]
     fn from_node<N: Node>(alloc: Global, node: &N) -> Result<T, TreeError> {
-        object(node)?;
-        let mut from = Reader::new(alloc, node);
+        let mut from = Reader::new(alloc, object(alloc, node)?);
         let value = T::read(&mut from);
         match from.failed {
             None => Ok(value),

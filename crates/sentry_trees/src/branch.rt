@@ -1,14 +1,14 @@
 //! A place in a tape.
 
-ghost use Rattle.std.specs.Prelude.{◌≡◌, true, None, IfOk, length, replicate};
+ghost use Rattle.std.specs.Prelude.{◌≡◌, true, None, IfOk};
 ghost use Rattle.serde_json.specs.Find.{as_array, as_object};
 ghost use Rattle.serde_json.specs.View.{view, items_view, members_view};
 ghost use Rattle.sentry_trees.specs.Nodes.{items_by, members_by};
 ghost use Rattle.sentry_trees.specs.Tree.{data_at, is_tree};
 
-use crate::keys::{is_among, place_from};
 use crate::node::Node;
 use crate::number;
+use crate::object::Named;
 use json::Element;
 use serde_json::{Map, Value};
 use std::alloc::{AllocError, Global};
@@ -73,27 +73,6 @@ impl<'t, 'a> Node for Branch<'t, 'a> {
         }
     }
 
-    fn fields(
-        &self,
-        alloc: Global,
-        keys: &[&str],
-    ) -> Result<Vec<Option<Branch<'t, 'a>>>, AllocError> {
-        let mut found = nowhere::<Branch>(alloc, keys)?;
-        let mut members = match self.at.members() {
-            Some(members) => members,
-            None => return Ok(found),
-        };
-        let mut next = 0;
-        while let Some((key, at)) = members.next() {
-            if let Some(place) = place_from(keys, next, key) {
-                let member = Branch { at };
-                found[place] = Some(member);
-                next = place.saturating_add(1);
-            }
-        }
-        Ok(found)
-    }
-
     fn text_at(&self, key: &str) -> Option<&str> {
         match self.at.get(key) {
             Some(at) => at.as_str(),
@@ -126,24 +105,17 @@ impl<'t, 'a> Node for Branch<'t, 'a> {
         Ok(Some(nodes))
     }
 
-    fn members_beside(
-        &self,
-        alloc: Global,
-        names: &[&str],
-    ) -> Result<Option<Map<String, Value>>, AllocError> {
+    fn named(&self, alloc: Global) -> Result<Option<Vec<Named<'_, Branch<'t, 'a>>>>, AllocError> {
         let mut members = match self.at.members() {
             Some(members) => members,
             None => return Ok(None),
         };
-        let mut others = Map::new(alloc);
+        let mut named = Vec::with_capacity(alloc, USUAL)?;
         while let Some((key, at)) = members.next() {
-            if !is_among(names, key) {
-                let name = String::from_str(alloc, key)?;
-                let member = Branch { at };
-                drop(others.insert(name, grown(&member, alloc)?)?);
-            }
+            let node = Branch { at };
+            named.push(Named { key, node })?;
         }
-        Ok(Some(others))
+        Ok(Some(named))
     }
 
     fn to_value(&self, alloc: Global) -> Result<Value, AllocError> {
@@ -151,16 +123,8 @@ impl<'t, 'a> Node for Branch<'t, 'a> {
     }
 }
 
-/// Nothing at each key.
-fn nowhere<T: Drop>(alloc: Global, keys: &[&str]) -> Result<Vec<Option<T>>, AllocError>
-    ensures { IfOk result (λ found. found.items ≡ replicate (length keys.now) None) }
-{
-    let mut found = Vec::with_capacity(alloc, keys.len())?;
-    for _ in keys {
-        found.push(None)?;
-    }
-    Ok(found)
-}
+/// Room for as many members as an object usually has, taken at once.
+const USUAL: usize = 16;
 
 /// The tree of its own.
 #[cycle(grown)]

@@ -6,8 +6,10 @@ pub mod keys;
 pub mod line;
 pub mod node;
 pub mod number;
+pub mod object;
 
 pub use branch::Branch;
 pub use keys::is_among;
 pub use line::{Line, LineError};
 pub use node::Node;
+pub use object::{Named, Object};

@@ -1,14 +1,13 @@
 //! A place in a tree of JSON.
 
-ghost use Rattle.std.specs.Prelude.{◌≡◌, is_some, map, option_map, option_and_then, IfOk, IfSome, true};
+ghost use Rattle.std.specs.Prelude.{◌≡◌, is_some, option_map, option_and_then, IfOk, IfSome};
 ghost use Rattle.serde_json.specs.Data.{Data};
 ghost use Rattle.serde_json.specs.Find as find;
-ghost use Rattle.serde_json.specs.View.{view, number_view, members_view};
+ghost use Rattle.serde_json.specs.View.{view, number_view};
 ghost use Rattle.sentry_json.specs.Sound.{IsRanged};
-ghost use Rattle.sentry_trees.specs.Keys.{are_distinct, beside};
-ghost use Rattle.sentry_trees.specs.Nodes.{items_by, members_by};
+ghost use Rattle.sentry_trees.specs.Nodes.{items_by, members_by, named_by};
 
-use crate::keys::is_among;
+use crate::object::Named;
 use serde_json::{Map, Number, Value};
 use std::alloc::{AllocError, Global};
 
@@ -49,21 +48,6 @@ pub trait Node: Sized + Drop {
     fn get(&self, key: &str) -> Option<Self>
         ensures { option_map data_of result ≡ find.get key.now (data_of self.now) };
 
-    /// The places at these keys of the object that stands here, each as [`Node::get`] gives it.
-    ///
-    /// It fails where memory is refused.
-    fn fields(&self, alloc: Global, keys: &[&str]) -> Result<Vec<Option<Self>>, AllocError>
-        requires { are_distinct (map (λ key. key.now) keys.now) ≡ true }
-        ensures { IfOk result (λ found. map (option_map data_of) found.items
-            ≡ map (λ key. find.get key (data_of self.now)) (map (λ key. key.now) keys.now)) }
-    {
-        let mut found = Vec::with_capacity(alloc, keys.len())?;
-        for key in keys {
-            found.push(self.get(key))?;
-        }
-        Ok(found)
-    }
-
     /// The text at a key of the object that stands here.
     fn text_at(&self, key: &str) -> Option<&str>
         ensures { option_map (λ s. s.now) result
@@ -79,17 +63,13 @@ pub trait Node: Sized + Drop {
         ensures { IfOk result (λ o. option_map (λ m. members_by data_of m.entries) o
             ≡ find.as_object (data_of self.now)) };
 
-    /// Trees of the members of the object that stands here, but for those whose key is one of the
-    /// names.
+    /// The members of the object that stands here, each with its key, as they come. Of members of one
+    /// key the last one counts.
     ///
     /// It fails where memory is refused.
-    fn members_beside(
-        &self,
-        alloc: Global,
-        names: &[&str],
-    ) -> Result<Option<Map<String, Value>>, AllocError>
-        ensures { IfOk result (λ o. option_map (λ m. members_view m.entries) o
-            ≡ option_map (beside (map (λ name. name.now) names.now)) (find.as_object (data_of self.now))) };
+    fn named(&self, alloc: Global) -> Result<Option<Vec<Named<'_, Self>>>, AllocError>
+        ensures { IfOk result (λ o. option_map (λ v. named_by data_of v.items) o
+            ≡ find.as_object (data_of self.now)) };
 
     /// A tree of its own.
     fn to_value(&self, alloc: Global) -> Result<Value, AllocError>
@@ -166,15 +146,19 @@ impl<'v> Node for &'v Value {
         Ok(Some(nodes))
     }
 
-    fn members_beside(
-        &self,
-        alloc: Global,
-        names: &[&str],
-    ) -> Result<Option<Map<String, Value>>, AllocError> {
-        match Value::as_object(*self) {
-            Some(members) => Ok(Some(members_beside(alloc, members, names)?)),
-            None => Ok(None),
+    fn named(&self, alloc: Global) -> Result<Option<Vec<Named<'_, &'v Value>>>, AllocError> {
+        let members = match Value::as_object(*self) {
+            Some(members) => members,
+            None => return Ok(None),
+        };
+        let mut named = Vec::with_capacity(alloc, members.len())?;
+        for (key, node) in members.iter() {
+            named.push(Named {
+                key: key.as_str(),
+                node,
+            })?;
         }
+        Ok(Some(named))
     }
 
     fn to_value(&self, _alloc: Global) -> Result<Value, AllocError> {
@@ -191,23 +175,4 @@ fn signed(number: &Number) -> Option<i64>
         Some(_) => number.as_i64(),
         None => number.as_i64(),
     }
-}
-
-/// Copies of the members whose key is none of the names.
-fn members_beside(
-    alloc: Global,
-    members: &Map<String, Value>,
-    names: &[&str],
-) -> Result<Map<String, Value>, AllocError>
-    ensures { IfOk result (λ m. members_view m.entries
-        ≡ beside (map (λ name. name.now) names.now) (members_view members.now.entries)) }
-{
-    let mut others = Map::new(alloc);
-    for (key, member) in members.iter() {
-        if !is_among(names, key.as_str()) {
-            let name = key.clone()?;
-            drop(others.insert(name, member.clone()?)?);
-        }
-    }
-    Ok(others)
 }

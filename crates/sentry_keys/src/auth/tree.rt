@@ -5,12 +5,12 @@ ghost use Rattle.serde_json.specs.View.{view};
 ghost use Rattle.sentry_members.specs.Reading.{Reads};
 ghost use Rattle.sentry_keys.specs.AuthFields.{auth_table, rows_cell};
 
-use crate::auth::Auth;
+use crate::auth::{Auth, LATEST};
 use json::Writer;
 use sentry_members::{FromTree, Member, TreeError, Way};
-use sentry_rows::rows::{object, optional_or_null, required};
+use sentry_rows::rows::object;
 use sentry_rows::table::{table_tree, write_table};
-use sentry_rows::{Giver, Sink, Table};
+use sentry_rows::{Giver, Reader, Sink, Table};
 use sentry_trees::Node;
 use serde_json::Value;
 use std::alloc::{AllocError, Global};
@@ -70,19 +70,23 @@ impl Member for Auth {
 }
 
 // What the rows of a tree show, without a moment.
-#[tactic(auto, using(sentry_readers::proofs::Answering::table_fails, sentry_readers::proofs::Answering::not_object), unfolding(crate::specs::AuthFields::auth_table))]
+#[tactic(auto, using(sentry_readers::proofs::Answering::no_object_fails), unfolding(crate::specs::AuthFields::auth_table))]
 fn read_rows<N: Node>(alloc: Global, node: &N) -> Result<Auth, TreeError>
     ensures rows { Reads auth_table rows_cell (N.data_of node.now) result }
     ensures untimed { IfOk result (λ auth. auth.timestamp ≡ None) }
 {
-    object(node)?;
-    Ok(Auth {
+    let mut from = Reader::new(alloc, object(alloc, node)?);
+    let auth = Auth {
         timestamp: None,
-        client: optional_or_null(alloc, node, "sentry_client")?,
-        key: required(alloc, node, "sentry_key")?,
-        secret: optional_or_null(alloc, node, "sentry_secret")?,
-        version: required(alloc, node, "sentry_version")?,
-    })
+        client: from.optional_or_null("sentry_client"),
+        key: from.text("sentry_key"),
+        secret: from.optional_or_null("sentry_secret"),
+        version: from.required("sentry_version", LATEST),
+    };
+    match from.failed {
+        None => Ok(auth),
+        Some(error) => Err(error),
+    }
 }
 
 impl FromTree for Auth {
