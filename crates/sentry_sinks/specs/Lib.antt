@@ -1,3 +1,5 @@
 pub mod Given
 pub mod Joined
+pub mod Lent
+pub mod Listed
 pub mod Sinks
