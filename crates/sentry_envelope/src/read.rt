@@ -29,21 +29,22 @@ pub(crate) fn read_items(
     ensures err { IfErr result (λ e. e ≢ EnvelopeError.OutOfMemory → BodyIsAtFault profile frames.old.rest e) }
 {
     let mut items = Vec::new(alloc);
-    while let Some(answer) = frames.next_item_with(alloc, scratch) {
-        let (frame, header) = answer?;
-        items.push(read_item(alloc, &frame, header, now)?)?;
+    let mut header = ItemHeader::new();
+    while let Some(answer) = frames.next_item_into(alloc, scratch, &mut header) {
+        let frame = answer?;
+        items.push(read_item(alloc, &frame, &mut header, now)?)?;
     }
     Ok(items)
 }
 
-/// The item that a frame shows, by what its header says.
+/// The item that a frame shows, by what its header says. The header's texts are taken out of it.
 fn read_item(
     alloc: Global,
     frame: &ItemFrame<'_>,
-    header: ItemHeader,
+    header: &mut ItemHeader,
     now: Moment,
 ) -> Result<EnvelopeItem, EnvelopeError>
-    requires { read_header item_words (frame_of frame.now).header ≡ Some (header_view header) }
+    requires { read_header item_words (frame_of frame.now).header ≡ Some (header_view header.old) }
     ensures ok { IfOk result (λ item. ItemShows profile (moment_cell now) (frame_of frame.now) (item_view item)) }
     ensures err { IfErr result (λ e. (e ≡ EnvelopeError.OutOfMemory)
         ⊎ ((e ≡ EnvelopeError.InvalidItemPayload) × FrameIsRefused profile (frame_of frame.now))) }
@@ -61,16 +62,20 @@ fn read_item(
     }
 }
 
-/// The attachment of these bytes, with the name and types that its item's header gives.
-fn attachment(alloc: Global, payload: &[u8], header: ItemHeader) -> Result<Attachment, AllocError>
-    ensures { IfOk result (λ a. attachment_view a ≡ attached_by (header_view header) payload.now) }
+/// The attachment of these bytes, with the name and types that its item's header gives, which are taken out of it.
+fn attachment(
+    alloc: Global,
+    payload: &[u8],
+    header: &mut ItemHeader,
+) -> Result<Attachment, AllocError>
+    ensures { IfOk result (λ a. attachment_view a ≡ attached_by (header_view header.old) payload.now) }
 {
     Ok(Attachment {
         buffer: payload.to_vec(alloc)?,
-        filename: header.filename.unwrap_or(String::new(alloc)),
-        content_type: header.content_type,
-        ty: match header.attachment_type {
-            Some(text) => Some(AttachmentType::from_text(alloc, &text)?),
+        filename: header.filename.take().unwrap_or(String::new(alloc)),
+        content_type: header.content_type.take(),
+        ty: match &header.attachment_type {
+            Some(text) => Some(AttachmentType::from_text(alloc, text)?),
             None => None,
         },
     })

@@ -10,4 +10,4 @@ pub mod Verdicts
 pub mod Faults
 pub mod StatedLengths
 pub mod Written
-pub mod HeaderLines
+pub mod Flat

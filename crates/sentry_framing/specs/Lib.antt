@@ -2,5 +2,6 @@ pub mod Framing
 pub mod HeaderView
 pub mod ItemHeader
 pub mod ItemWords
+pub mod Quotes
 pub mod Unread
 pub mod View

@@ -7,7 +7,7 @@ ghost use Rattle.sentry_framing.specs.HeaderView.{header_view};
 ghost use Rattle.sentry_framing.specs.View.{frame_of};
 
 use crate::error::EnvelopeError;
-use crate::header::{ItemHeader, read_item_header_with};
+use crate::header::{ItemHeader, read_item_header_into};
 use crate::lines::{end_line, skip_space, split_line};
 use crate::piece::piece_len;
 use json::Scratch;
@@ -143,13 +143,45 @@ impl<'a> Frames<'a> {
             → self.new.rest ≡ [])) }
         ensures memory { result ≡ Some (Err EnvelopeError.OutOfMemory) → self.new ≡ self.old }
     {
+        let mut header = ItemHeader::new();
+        match self.next_item_into(alloc, scratch, &mut header) {
+            None => None,
+            Some(Ok(frame)) => Some(Ok((frame, header))),
+            Some(Err(error)) => Some(Err(error)),
+        }
+    }
+
+    /// The first frame of what is left, with `header` set to what its header says, or the first check of it that
+    /// fails.
+    ///
+    /// It answers as [`Frames::next_frame`] does, and leaves the same. After an error some fields of `header` may be
+    /// set.
+    pub fn next_item_into(
+        &mut self,
+        alloc: Global,
+        scratch: &mut Scratch,
+        header: &mut ItemHeader,
+    ) -> Option<Result<ItemFrame<'a>, EnvelopeError>>
+        ensures header_line { self.new.header_line ≡ self.old.header_line }
+        ensures none { IsNone result ↔ (self.old.rest ≡ []) }
+        ensures none_left { IsNone result → self.new.rest ≡ [] }
+        ensures frame { IfSome result (λ answer. IfOk answer (λ item.
+            IsFirstFrame (stated_length item_words) self.old.rest (frame_of item) self.new.rest)) }
+        ensures header { IfSome result (λ answer. IfOk answer (λ item.
+            read_header item_words item.header.now ≡ Some (header_view header.new))) }
+        ensures fault { IfSome result (λ answer. IfErr answer (λ e. e ≢ EnvelopeError.OutOfMemory
+            → IsFault (stated_length item_words) self.old.rest e)) }
+        ensures ended { IfSome result (λ answer. IfErr answer (λ e. e ≢ EnvelopeError.OutOfMemory
+            → self.new.rest ≡ [])) }
+        ensures memory { result ≡ Some (Err EnvelopeError.OutOfMemory) → self.new ≡ self.old }
+    {
         if self.rest.is_empty() {
             return None;
         }
-        match first_item(alloc, self.rest, scratch) {
-            Ok((frame, header, rest)) => {
+        match first_item(alloc, self.rest, scratch, header) {
+            Ok((frame, rest)) => {
                 self.rest = rest;
-                Some(Ok((frame, header)))
+                Some(Ok(frame))
             }
             Err(EnvelopeError::OutOfMemory) => Some(Err(EnvelopeError::OutOfMemory)),
             Err(error) => {
@@ -189,21 +221,22 @@ fn split_header(body: &[u8]) -> Result<(&[u8], &[u8]), EnvelopeError>
     }
 }
 
-/// The first item of a body, and the body that follows it.
+/// The first item of a body, with `fields` set to what its header says, and the body that follows it.
 fn first_item<'a>(
     alloc: Global,
     body: &'a [u8],
     scratch: &mut Scratch,
-) -> Result<(ItemFrame<'a>, ItemHeader, &'a [u8]), EnvelopeError>
-    ensures frame { IfOk result (λ x. IsFirstFrame (stated_length item_words) body.now (frame_of x.0) x.2.now) }
-    ensures header { IfOk result (λ x. read_header item_words x.0.header.now ≡ Some (header_view x.1)) }
+    fields: &mut ItemHeader,
+) -> Result<(ItemFrame<'a>, &'a [u8]), EnvelopeError>
+    ensures frame { IfOk result (λ x. IsFirstFrame (stated_length item_words) body.now (frame_of x.0) x.1.now) }
+    ensures header { IfOk result (λ x. read_header item_words x.0.header.now ≡ Some (header_view fields.new)) }
     ensures fault { IfErr result (λ e. e ≢ EnvelopeError.OutOfMemory
         → IsFault (stated_length item_words) body.now e) }
 {
     let (header, after) = split_header(body)?;
-    let fields = read_item_header_with(alloc, header, scratch)?;
+    read_item_header_into(alloc, header, scratch, fields)?;
     let left = end_line(after)?;
     let (payload, tail) = split_payload(fields.length, left)?;
     let rest = end_line(tail)?;
-    Ok((ItemFrame { header, payload }, fields, rest))
+    Ok((ItemFrame { header, payload }, rest))
 }

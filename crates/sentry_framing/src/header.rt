@@ -1,5 +1,5 @@
 // What an item header says.
-ghost use Rattle.std.specs.Prelude.{◌≡◌, ◌⊎◌, Some, None, IfOk, IfErr, option_map, string_bytes};
+ghost use Rattle.std.specs.Prelude.{◌≡◌, ◌⊎◌, Some, None, IfOk, IfErr, OnOk, option_map, string_bytes};
 ghost use Rattle.serde_json.specs.Find.{as_str};
 ghost use Rattle.sentry_framing.specs.ItemHeader.{header_of, read_header, optional, whole_number};
 ghost use Rattle.sentry_framing.specs.ItemWords.{item_words};
@@ -8,8 +8,8 @@ ghost use Rattle.sentry_framing.specs.HeaderView.{header_view};
 use crate::error::EnvelopeError;
 use crate::kind::ItemKind;
 use json::Scratch;
-use sentry_members::{ReadsNode, TreeError, read_line_by};
-use sentry_trees::Node;
+use sentry_members::{TreeError, read_tree};
+use sentry_trees::{Line, LineError, Node};
 use std::alloc::Global;
 
 /// The fields of an item header.
@@ -27,6 +27,21 @@ pub struct ItemHeader {
     pub filename: Option<String>,
     /// What an attachment is for.
     pub attachment_type: Option<String>,
+}
+
+impl ItemHeader {
+    /// A header that says that the item is an attachment, and nothing else.
+    pub fn new() -> ItemHeader
+        ensures { header_view result ≡ record { kind = 0; length = None; content_type = None; filename = None; attachment_type = None } }
+    {
+        ItemHeader {
+            kind: ItemKind::Attachment,
+            length: None,
+            content_type: None,
+            filename: None,
+            attachment_type: None,
+        }
+    }
 }
 
 /// A number that may be absent or null.
@@ -59,10 +74,10 @@ fn optional_text<N: Node>(alloc: Global, place: &Option<N>) -> Result<Option<Str
     }
 }
 
-/// The fields that a tree shows.
+/// Sets the fields to those that a tree shows. After a refusal some of them may be set.
 #[tactic(auto, unfolding(crate::specs::ItemHeader::header_of))]
-fn item_header<N: Node>(alloc: Global, node: &N) -> Result<ItemHeader, TreeError>
-    ensures ok { IfOk result (λ fields. header_of item_words (N.data_of node.now) ≡ Some (header_view fields)) }
+fn fill_header<N: Node>(alloc: Global, node: &N, fields: &mut ItemHeader) -> Result<(), TreeError>
+    ensures ok { OnOk result (header_of item_words (N.data_of node.now) ≡ Some (header_view fields.new)) }
     ensures misfit { result ≡ Err TreeError.Misfit → header_of item_words (N.data_of node.now) ≡ None }
 {
     let Some(word) = node.text_at("type") else {
@@ -71,27 +86,48 @@ fn item_header<N: Node>(alloc: Global, node: &N) -> Result<ItemHeader, TreeError
     let Some(kind) = ItemKind::from_word(word) else {
         return Err(TreeError::Misfit);
     };
-    Ok(ItemHeader {
-        kind,
-        length: optional_number(&node.get("length"))?,
-        content_type: optional_text(alloc, &node.get("content_type"))?,
-        filename: optional_text(alloc, &node.get("filename"))?,
-        attachment_type: optional_text(alloc, &node.get("attachment_type"))?,
-    })
+    fields.kind = kind;
+    fields.length = optional_number(&node.get("length"))?;
+    fields.content_type = optional_text(alloc, &node.get("content_type"))?;
+    fields.filename = optional_text(alloc, &node.get("filename"))?;
+    fields.attachment_type = optional_text(alloc, &node.get("attachment_type"))?;
+    Ok(())
 }
 
-/// The reader of an item header's tree.
-#[derive(Drop)]
-struct Fields;
-
-impl ReadsNode<ItemHeader> for Fields {
-    ghost shown = { λ reader d fields. header_of item_words d ≡ Some (header_view fields) };
-
-    ghost refused = { λ reader d. header_of item_words d ≡ None };
-
-    fn read<N: Node>(self, alloc: Global, node: &N) -> Result<ItemHeader, TreeError> {
-        item_header(alloc, node)
+/// Sets the fields to those that a line shows.
+///
+/// The line is read through a tape, and through a tree of values where a tape doesn't serve.
+#[tactic(auto, unfolding(crate::specs::ItemHeader::read_header))]
+fn fill_from_line(
+    alloc: Global,
+    line: &[u8],
+    scratch: &mut Scratch,
+    fields: &mut ItemHeader,
+) -> Result<(), TreeError>
+    ensures ok { OnOk result (read_header item_words line.now ≡ Some (header_view fields.new)) }
+    ensures misfit { result ≡ Err TreeError.Misfit → read_header item_words line.now ≡ None }
+{
+    match Line::parse(line, scratch, Vec::new(alloc)) {
+        Ok(read) => {
+            let root = read.root();
+            fill_header(alloc, &root, fields)
+        }
+        Err(LineError::Misfit) => Err(TreeError::Misfit),
+        Err(LineError::Memory) => Err(TreeError::Memory),
+        Err(LineError::Unfit) => fill_from_tree(alloc, line, fields),
     }
+}
+
+/// Sets the fields to those that a line shows, through a tree of values.
+#[cold]
+#[inline(never)]
+#[tactic(auto, unfolding(crate::specs::ItemHeader::read_header))]
+fn fill_from_tree(alloc: Global, line: &[u8], fields: &mut ItemHeader) -> Result<(), TreeError>
+    ensures ok { OnOk result (read_header item_words line.now ≡ Some (header_view fields.new)) }
+    ensures misfit { result ≡ Err TreeError.Misfit → read_header item_words line.now ≡ None }
+{
+    let tree = read_tree(alloc, line)?;
+    fill_header(alloc, &&tree, fields)
 }
 
 /// The fields of the item header that stands in these bytes. Other keys are ignored.
@@ -116,7 +152,6 @@ pub fn read_item_header(alloc: Global, header: &[u8]) -> Result<ItemHeader, Enve
 /// The fields of the item header that stands in these bytes, with the memory that reading needs handed in.
 ///
 /// It answers as [`read_item_header`] does.
-#[tactic(auto, using(crate::proofs::HeaderLines::no_header))]
 pub fn read_item_header_with(
     alloc: Global,
     header: &[u8],
@@ -126,8 +161,28 @@ pub fn read_item_header_with(
     ensures err { IfErr result (λ e. (e ≡ EnvelopeError.OutOfMemory)
         ⊎ ((e ≡ EnvelopeError.InvalidItemHeader) × (read_header item_words header.now ≡ None))) }
 {
-    match read_line_by(alloc, header, scratch, Fields) {
-        Ok(fields) => Ok(fields),
+    let mut fields = ItemHeader::new();
+    match read_item_header_into(alloc, header, scratch, &mut fields) {
+        Ok(()) => Ok(fields),
+        Err(error) => Err(error),
+    }
+}
+
+/// Sets `fields` to those of the item header that stands in these bytes.
+///
+/// It answers as [`read_item_header`] does. After an error some of the fields may be set.
+pub fn read_item_header_into(
+    alloc: Global,
+    header: &[u8],
+    scratch: &mut Scratch,
+    fields: &mut ItemHeader,
+) -> Result<(), EnvelopeError>
+    ensures ok { OnOk result (read_header item_words header.now ≡ Some (header_view fields.new)) }
+    ensures err { IfErr result (λ e. (e ≡ EnvelopeError.OutOfMemory)
+        ⊎ ((e ≡ EnvelopeError.InvalidItemHeader) × (read_header item_words header.now ≡ None))) }
+{
+    match fill_from_line(alloc, header, scratch, fields) {
+        Ok(()) => Ok(()),
         Err(TreeError::Misfit) => Err(EnvelopeError::InvalidItemHeader),
         Err(TreeError::Memory) => Err(EnvelopeError::OutOfMemory),
     }

@@ -8,7 +8,7 @@ use Rattle.serde_json.proofs.Texts.{print-outline}
 use Rattle.sentry_items.specs.HeaderTokens.{header_text, member_tokens}
 
 -- the tokens of an object print as its text
-print_header : (ms : Members) → print (begin_object ∷ member_tokens ms) ≡ header_text ms
+pub print_header : (ms : Members) → print (begin_object ∷ member_tokens ms) ≡ header_text ms
 unfolding header_text member_tokens
 print_header ms = print-outline (object ms)
 

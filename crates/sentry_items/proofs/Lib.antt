@@ -4,4 +4,5 @@ pub mod HeaderTokens
 pub mod Made
 pub mod Sent
 pub mod Sums
+pub mod UsualHeader
 pub mod Words

@@ -7,4 +7,5 @@ pub mod HeaderTokens
 pub mod Losses
 pub mod Made
 pub mod Sums
+pub mod UsualHeader
 pub mod View

@@ -5,6 +5,7 @@ ghost use Rattle.std.specs.Prelude.{◌≡◌, IfOk};
 use crate::attachment_type::AttachmentType;
 use crate::counted::send_both;
 use crate::header::write_last_members;
+use crate::usual::{is_plain, write_usual_header};
 use json::Writer;
 use sentry_members::{Member, Way};
 use std::alloc::{AllocError, Global};
@@ -53,6 +54,7 @@ impl Attachment {
     ghost use Rattle.sentry_items.specs.Counted.{AppendsFront};
     ghost use Rattle.sentry_items.specs.HeaderTokens.{header_text, member_tokens};
     ghost use Rattle.sentry_items.specs.Made.{attached_made};
+    ghost use Rattle.sentry_items.specs.UsualHeader.{HasUsualHeader};
     ghost use Rattle.sentry_items.specs.View.{attachment_type_cell, attachment_view};
 
     /// An attachment of no bytes, with an empty name and without types.
@@ -180,6 +182,51 @@ impl Attachment {
     ///
     /// It fails where memory is refused, and may then have appended a part of the header.
     pub fn write_header(
+        &self,
+        alloc: Global,
+        word: &str,
+        out: &mut Vec<u8>,
+    ) -> Result<(), AllocError>
+        ensures ok { OnOk result (out.new.items ≡ out.old.items ++ header_text (attachment_header word.now (attachment_view self.now))) }
+        ensures kept { (part : List ℕ) × (out.new.items ≡ out.old.items ++ part) }
+    {
+        if self.is_usual() && word == "attachment" {
+            write_usual_header(self.filename.as_str(), self.buffer.len(), out)
+        } else {
+            self.write_any_header(alloc, word, out)
+        }
+    }
+
+    /// Whether both types are the usual ones, and the name needs no escape.
+    fn is_usual(&self) -> bool
+        ensures { IsTrue result → HasUsualHeader (attachment_view self.now) }
+    {
+        self.has_usual_type() && self.has_usual_content_type() && is_plain(self.filename.as_bytes())
+    }
+
+    /// Whether the usual type is written.
+    fn has_usual_type(&self) -> bool
+        ensures { IsTrue result → attachment_type_text (attached_type (attachment_view self.now)) ≡ codes "event.attachment" }
+    {
+        match &self.ty {
+            Some(AttachmentType::Attachment) => true,
+            Some(_) => false,
+            None => true,
+        }
+    }
+
+    /// Whether no media type is given, so that the usual one is written.
+    fn has_usual_content_type(&self) -> bool
+        ensures { IsTrue result → attached_content_type (attachment_view self.now) ≡ codes "application/octet-stream" }
+    {
+        match &self.content_type {
+            Some(_) => false,
+            None => true,
+        }
+    }
+
+    /// Appends the header, whatever it says.
+    fn write_any_header(
         &self,
         alloc: Global,
         word: &str,

@@ -22,11 +22,11 @@ returns-in_err-read_item-clause-err c =
     rw (p.1, p.2) (λ ne. elim c.in_err-read_item.ensures.err [
       | inl is ↦ absurd (ne is)
       | inr refused ↦ subst (BodyIsAtFault profile c.args.frames.now.rest) (sym refused.0)
-          (payload_at_fault (moment_cell c.args.now) c.args.frames.now.rest c.loop-answer.items.items c.loop-answer.frames.rest c.loop-answer.invariant (frame_of c.in_ok-frame.frame) c.next_item_with.new.self.rest remains first refused.1)
+          (payload_at_fault (moment_cell c.args.now) c.args.frames.now.rest c.loop-answer.items.items c.loop-answer.frames.rest c.loop-answer.invariant (frame_of c.in_ok-frame.frame) c.next_item_into.new.self.rest remains first refused.1)
     ])
 
 pub loop-answer-preserved : goal.loop-answer-preserved
 loop-answer-preserved c =
     let first = rw c.in_ok-frame.was at c.in-Some.ensures.frame in
-    one_more (moment_cell c.args.now) c.args.frames.now.rest c.loop-answer.items.items c.loop-answer.frames.rest c.loop-answer.invariant (frame_of c.in_ok-frame.frame) c.next_item_with.new.self.rest
+    one_more (moment_cell c.args.now) c.args.frames.now.rest c.loop-answer.items.items c.loop-answer.frames.rest c.loop-answer.invariant (frame_of c.in_ok-frame.frame) c.next_item_into.new.self.rest
     c.push.new.self.items c.in_ok-read_item.field-0 first c.in_ok-read_item.ensures.ok c.in_ok-push.ensures.items

@@ -1,7 +1,7 @@
 use Rattle.std.proofs.Common.{◌≡◌, ◌+◌, ◌∷◌, drop, get_or, refl, sym, subst, ap, ◌∙◌, arith}
 use Rattle.sentry_framing.proofs.Machine.{Plain, rest_after, plain_other, plain_open, plain_close_at}
 use Rattle.sentry_framing.proofs.Scan.{at, found, none, at_end, over_string, no_string}
-use Rattle.sentry_framing.proofs.piece.piece_len.Goals as goal
+use Rattle.sentry_framing.proofs.piece.nested_len.Goals as goal
 
 pub loop-i-preserved-in-Some : goal.loop-i-preserved-in-Some
 loop-i-preserved-in-Some c =

@@ -1,6 +1,6 @@
 use Rattle.std.proofs.Common.{◌≡◌, ◌≤◌, ◌-◌, drop, length}
 use Rattle.sentry_framing.proofs.Machine.{Plain, rest_after}
-use Rattle.sentry_framing.proofs.piece.piece_len.Given as goal
+use Rattle.sentry_framing.proofs.piece.nested_len.Given as goal
 
 abbrev pub invariant-loop-i : goal.invariant-loop-i
 invariant-loop-i l = record {

@@ -1,5 +1,5 @@
 use Rattle.sentry_items.proofs.HeaderTokens.{header_printed}
-use Rattle.sentry_items.proofs.attachment.Attachment.write_header.Goals as goal
+use Rattle.sentry_items.proofs.attachment.Attachment.write_any_header.Goals as goal
 
 pub returns-clause-ok : goal.returns-clause-ok
 returns-clause-ok c =
