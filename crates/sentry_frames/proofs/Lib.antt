@@ -1,0 +1,3 @@
+pub mod Equal
+pub mod TableLaws
+pub mod ThreadIds

@@ -1,0 +1,7 @@
+pub mod Causes
+pub mod Exceptions
+pub mod Frames
+pub mod LogEntries
+pub mod Mechanisms
+pub mod ThreadIds
+pub mod Threads

@@ -1,0 +1,99 @@
+//! Errors of the C library.
+
+ghost use Rattle.sentry_frames.specs.Causes.{c_error_fields, c_error_in_order};
+
+use sentry_members::{Formed, Member};
+use sentry_rows::{AsTable, Copier, CopyTable, Giver, ReadTable, Reader, Sink, Table};
+use sentry_trees::Node;
+use std::alloc::{AllocError, Global};
+
+/// An error of the C library.
+///
+/// <https://develop.sentry.dev/sdk/data-model/event-payloads/exception/#c-error>
+#[derive(Debug, Drop, PartialEq, Eq)]
+pub struct CError {
+    /// The code, as ISO C99 and POSIX name it.
+    pub number: i32,
+    /// The name of the code, as `ENOENT`.
+    pub name: Option<String>,
+}
+
+impl CError {
+    ghost use Rattle.std.specs.Prelude.{◌≡◌, IfOk};
+    ghost use Rattle.sentry_tables.specs.Defaults.{IsDefault};
+    ghost use Rattle.sentry_frames.specs.Causes.{c_error_cell};
+
+    /// The error of code 0, without a name.
+    #[tactic(auto, unfolding(crate::specs::Causes::c_error_fields))]
+    pub fn default_in(_alloc: Global) -> CError
+        ensures { IsDefault c_error_fields result }
+    {
+        CError {
+            number: 0,
+            name: None,
+        }
+    }
+
+    /// The same error. It fails where memory is refused.
+    pub fn clone(&self) -> Result<CError, AllocError>
+        ensures { IfOk result (λ copy. c_error_cell copy ≡ c_error_cell self.now) }
+    {
+        self.copy()
+    }
+}
+
+impl Formed for CError {
+    type Form = AsTable;
+}
+
+impl From<i32> for CError {
+    ghost use Rattle.std.specs.Prelude.{◌≡◌, None};
+
+    ghost from_gives = { λ n e. (e.number ≡ n) × (e.name ≡ None) };
+
+    fn from(number: i32) -> CError {
+        CError { number, name: None }
+    }
+}
+
+impl From<CError> for i32 {
+    ghost use Rattle.std.specs.Prelude.{◌≡◌};
+
+    ghost from_gives = { λ e n. n ≡ e.number };
+
+    fn from(error: CError) -> i32 {
+        error.number
+    }
+}
+
+#[tactic(auto, unfolding(crate::specs::Causes::c_error_fields))]
+impl Table for CError {
+    ghost lines = { c_error_fields };
+
+    fn rows<S: Sink>(&self, to: &mut Giver<'_, S>) {
+        to.optional("name", &self.name);
+        to.required("number", &self.number);
+    }
+
+    ghost ordered = { c_error_in_order };
+}
+
+#[tactic(auto, unfolding(crate::specs::Causes::c_error_fields))]
+impl ReadTable for CError {
+    fn read<N: Node>(from: &mut Reader<'_, N>) -> CError {
+        CError {
+            name: from.optional("name"),
+            number: from.required("number", 0),
+        }
+    }
+}
+
+#[tactic(auto, unfolding(crate::specs::Causes::c_error_fields))]
+impl CopyTable for CError {
+    fn copied(&self, copies: &mut Copier) -> Result<CError, AllocError> {
+        Ok(CError {
+            name: copies.optional(&self.name),
+            number: copies.plain(&self.number),
+        })
+    }
+}

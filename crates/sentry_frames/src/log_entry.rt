@@ -1,0 +1,82 @@
+//! Messages with parameters.
+
+ghost use Rattle.sentry_frames.specs.LogEntries.{entry_fields, entry_in_order};
+
+use sentry_members::{Formed, Member};
+use sentry_rows::{AsTable, Copier, CopyTable, Giver, ReadTable, Reader, Sink, Table};
+use sentry_trees::Node;
+use serde_json::Value;
+use std::alloc::{AllocError, Global};
+
+/// A message with parameters.
+///
+/// Unlike the `message` of an event, the text and what is put into it are kept apart.
+///
+/// <https://develop.sentry.dev/sdk/data-model/event-payloads/message/>
+#[derive(Debug, Drop, PartialEq)]
+pub struct LogEntry {
+    /// The text, in which `%s` stands for each parameter.
+    pub message: String,
+    /// What is put into the text, in order.
+    pub params: Vec<Value>,
+}
+
+impl LogEntry {
+    ghost use Rattle.std.specs.Prelude.{◌≡◌, IfOk};
+    ghost use Rattle.sentry_tables.specs.Defaults.{IsDefault};
+    ghost use Rattle.sentry_frames.specs.LogEntries.{entry_cell};
+
+    /// The empty message, without parameters.
+    #[tactic(auto, unfolding(crate::specs::LogEntries::entry_fields))]
+    pub fn default_in(alloc: Global) -> LogEntry
+        ensures { IsDefault entry_fields result }
+    {
+        LogEntry {
+            message: String::new(alloc),
+            params: Vec::new(alloc),
+        }
+    }
+
+    /// The same message. It fails where memory is refused.
+    pub fn clone(&self) -> Result<LogEntry, AllocError>
+        ensures { IfOk result (λ copy. entry_cell copy ≡ entry_cell self.now) }
+    {
+        self.copy()
+    }
+}
+
+impl Formed for LogEntry {
+    type Form = AsTable;
+}
+
+#[tactic(auto, unfolding(crate::specs::LogEntries::entry_fields))]
+impl Table for LogEntry {
+    ghost lines = { entry_fields };
+
+    fn rows<S: Sink>(&self, to: &mut Giver<'_, S>) {
+        to.required("message", &self.message);
+        to.list("params", &self.params);
+    }
+
+    ghost ordered = { entry_in_order };
+}
+
+#[tactic(auto, unfolding(crate::specs::LogEntries::entry_fields))]
+impl ReadTable for LogEntry {
+    fn read<N: Node>(from: &mut Reader<'_, N>) -> LogEntry {
+        LogEntry {
+            message: from.text("message"),
+            params: from.list("params"),
+        }
+    }
+}
+
+#[tactic(auto, unfolding(crate::specs::LogEntries::entry_fields))]
+impl CopyTable for LogEntry {
+    fn copied(&self, copies: &mut Copier) -> Result<LogEntry, AllocError> {
+        Ok(LogEntry {
+            message: copies.text(&self.message),
+            params: copies.list(&self.params),
+        })
+    }
+}

@@ -1,0 +1,113 @@
+//! How exceptions come about.
+
+ghost use Rattle.sentry_frames.specs.Mechanisms.{mechanism_fields, mechanism_in_order};
+
+use crate::mechanism_meta::{MechanismMeta, ToldOrNothing};
+use sentry_members::{Formed, Member};
+use sentry_rows::{AsTable, Copier, CopyTable, Giver, ReadTable, Reader, Sink, Table};
+use sentry_trees::Node;
+use sentry_urls::UrlText;
+use serde_json::{Map, Value};
+use std::alloc::{AllocError, Global};
+use url::Url;
+
+/// How an exception came about and was caught.
+///
+/// <https://develop.sentry.dev/sdk/data-model/event-payloads/exception/#exception-mechanism>
+#[derive(Debug, Drop, PartialEq)]
+pub struct Mechanism {
+    /// The type of the mechanism, as `generic`.
+    pub ty: String,
+    /// What happened, in words for people.
+    pub description: Option<String>,
+    /// Where more is told of the error.
+    pub help_link: Option<Url>,
+    /// Whether the program handled the exception.
+    pub handled: Option<bool>,
+    /// Whether the exception was made for the stack trace alone.
+    pub synthetic: Option<bool>,
+    /// What else is known, by the type.
+    pub data_: Map<String, Value>,
+    /// What the operating system or a runtime tells.
+    pub meta: MechanismMeta,
+}
+
+impl Mechanism {
+    ghost use Rattle.std.specs.Prelude.{◌≡◌, IfOk};
+    ghost use Rattle.sentry_tables.specs.Defaults.{IsDefault};
+    ghost use Rattle.sentry_frames.specs.Mechanisms.{mechanism_cell};
+
+    /// A mechanism of an empty type, of which nothing is known.
+    #[tactic(auto, unfolding(crate::specs::Mechanisms::mechanism_fields))]
+    pub fn default_in(alloc: Global) -> Mechanism
+        ensures { IsDefault mechanism_fields result }
+    {
+        Mechanism {
+            ty: String::new(alloc),
+            description: None,
+            help_link: None,
+            handled: None,
+            synthetic: None,
+            data_: Map::new(alloc),
+            meta: MechanismMeta::none(),
+        }
+    }
+
+    /// The same mechanism. It fails where memory is refused.
+    pub fn clone(&self) -> Result<Mechanism, AllocError>
+        ensures { IfOk result (λ copy. mechanism_cell copy ≡ mechanism_cell self.now) }
+    {
+        self.copy()
+    }
+}
+
+impl Formed for Mechanism {
+    type Form = AsTable;
+}
+
+#[tactic(auto, unfolding(crate::specs::Mechanisms::mechanism_fields))]
+impl Table for Mechanism {
+    ghost lines = { mechanism_fields };
+
+    fn rows<S: Sink>(&self, to: &mut Giver<'_, S>) {
+        to.map("data", &self.data_);
+        to.optional("description", &self.description);
+        to.optional("handled", &self.handled);
+        to.optional_as::<UrlText, Url>("help_link", &self.help_link);
+        to.unless_usual_as::<ToldOrNothing, MechanismMeta>("meta", &self.meta);
+        to.optional("synthetic", &self.synthetic);
+        to.required("type", &self.ty);
+    }
+
+    ghost ordered = { mechanism_in_order };
+}
+
+#[tactic(auto, unfolding(crate::specs::Mechanisms::mechanism_fields))]
+impl ReadTable for Mechanism {
+    fn read<N: Node>(from: &mut Reader<'_, N>) -> Mechanism {
+        Mechanism {
+            data_: from.map("data"),
+            description: from.optional("description"),
+            handled: from.optional("handled"),
+            help_link: from.optional_as::<UrlText, Url>("help_link"),
+            meta: from.or("meta", MechanismMeta::none()),
+            synthetic: from.optional("synthetic"),
+            ty: from.text("type"),
+        }
+    }
+}
+
+#[tactic(auto, unfolding(crate::specs::Mechanisms::mechanism_fields))]
+impl CopyTable for Mechanism {
+    fn copied(&self, copies: &mut Copier) -> Result<Mechanism, AllocError> {
+        Ok(Mechanism {
+            data_: copies.map(&self.data_)?,
+            description: copies.optional(&self.description),
+            handled: copies.optional(&self.handled),
+            help_link: copies.optional_as::<UrlText, Url>(&self.help_link),
+            meta: copies.of(&self.meta)?,
+            synthetic: copies.optional(&self.synthetic),
+            ty: copies.text(&self.ty),
+        })
+    }
+}

@@ -1,0 +1,148 @@
+//! What is told of the cause of an exception.
+
+ghost use Rattle.sentry_frames.specs.Mechanisms.{meta_fields, meta_in_order, no_meta};
+
+use crate::c_error::CError;
+use crate::mach_exception::MachException;
+use crate::posix_signal::PosixSignal;
+use json::Writer;
+use sentry_members::codec::DefaultedCodec;
+use sentry_members::{Codec, Formed, Member, Way};
+use sentry_rows::{AsTable, Copier, CopyTable, Giver, ReadTable, Reader, Sink, Table};
+use sentry_trees::Node;
+use serde_json::Value;
+use std::alloc::{AllocError, Global};
+
+/// What the operating system or a runtime tells of the cause of an exception.
+///
+/// <https://develop.sentry.dev/sdk/data-model/event-payloads/exception/#meta-information>
+#[derive(Debug, Drop, PartialEq)]
+pub struct MechanismMeta {
+    /// The error of the C library.
+    pub errno: Option<CError>,
+    /// The signal.
+    pub signal: Option<PosixSignal>,
+    /// The Mach exception.
+    pub mach_exception: Option<MachException>,
+}
+
+impl MechanismMeta {
+    ghost use Rattle.std.specs.Prelude.{◌≡◌, IfOk};
+    ghost use Rattle.sentry_tables.specs.Cell.{same_cell};
+    ghost use Rattle.sentry_tables.specs.Defaults.{IsDefault};
+    ghost use Rattle.sentry_tables.specs.Norm.{norm};
+    ghost use Rattle.sentry_frames.specs.Mechanisms.{meta_cell, meta_kind};
+
+    /// Nothing told.
+    #[tactic(auto, unfolding(crate::specs::Mechanisms::meta_fields))]
+    pub fn default_in(_alloc: Global) -> MechanismMeta
+        ensures { IsDefault meta_fields result }
+    {
+        MechanismMeta::none()
+    }
+
+    /// Nothing told.
+    #[tactic(auto, unfolding(crate::specs::Mechanisms::meta_fields))]
+    pub(crate) fn none() -> MechanismMeta
+        ensures { meta_cell result ≡ no_meta }
+    {
+        MechanismMeta {
+            errno: None,
+            signal: None,
+            mach_exception: None,
+        }
+    }
+
+    // Whether nothing is told.
+    #[tactic(auto, unfolding(crate::specs::Mechanisms::meta_fields))]
+    fn is_nothing(&self) -> bool
+        ensures { result ≡ same_cell (norm meta_kind (meta_cell self.now)) no_meta }
+    {
+        self.errno.is_none() && self.signal.is_none() && self.mach_exception.is_none()
+    }
+
+    /// The same information. It fails where memory is refused.
+    pub fn clone(&self) -> Result<MechanismMeta, AllocError>
+        ensures { IfOk result (λ copy. meta_cell copy ≡ meta_cell self.now) }
+    {
+        self.copy()
+    }
+}
+
+impl Formed for MechanismMeta {
+    type Form = AsTable;
+}
+
+#[tactic(auto, unfolding(crate::specs::Mechanisms::meta_fields))]
+impl Table for MechanismMeta {
+    ghost lines = { meta_fields };
+
+    fn rows<S: Sink>(&self, to: &mut Giver<'_, S>) {
+        to.optional("errno", &self.errno);
+        to.optional("mach_exception", &self.mach_exception);
+        to.optional("signal", &self.signal);
+    }
+
+    ghost ordered = { meta_in_order };
+}
+
+#[tactic(auto, unfolding(crate::specs::Mechanisms::meta_fields))]
+impl ReadTable for MechanismMeta {
+    fn read<N: Node>(from: &mut Reader<'_, N>) -> MechanismMeta {
+        MechanismMeta {
+            errno: from.optional("errno"),
+            mach_exception: from.optional("mach_exception"),
+            signal: from.optional("signal"),
+        }
+    }
+}
+
+#[tactic(auto, unfolding(crate::specs::Mechanisms::meta_fields))]
+impl CopyTable for MechanismMeta {
+    fn copied(&self, copies: &mut Copier) -> Result<MechanismMeta, AllocError> {
+        Ok(MechanismMeta {
+            errno: copies.optional(&self.errno),
+            mach_exception: copies.optional(&self.mach_exception),
+            signal: copies.optional(&self.signal),
+        })
+    }
+}
+
+/// The form of what is told as a row that is left out where nothing is told.
+pub(crate) struct ToldOrNothing;
+
+impl Codec<MechanismMeta> for ToldOrNothing {
+    ghost use Rattle.sentry_frames.specs.Mechanisms.{meta_cell, meta_kind};
+
+    ghost kind = { meta_kind };
+
+    ghost cell_of = { meta_cell };
+
+    fn to_tree(value: &MechanismMeta, alloc: Global) -> Result<Value, AllocError> {
+        value.to_tree(alloc)
+    }
+
+    fn write(value: &MechanismMeta, out: &mut Writer) -> Result<(), AllocError> {
+        value.write(out)
+    }
+
+    fn remade(value: &MechanismMeta, way: Way) -> Result<MechanismMeta, AllocError> {
+        value.remade(way)
+    }
+
+    fn is_null_tree(value: &MechanismMeta) -> bool {
+        value.is_null_tree()
+    }
+
+    fn is_plain(value: &MechanismMeta) -> bool {
+        value.is_plain()
+    }
+}
+
+impl DefaultedCodec<MechanismMeta> for ToldOrNothing {
+    ghost usual = { no_meta };
+
+    fn is_usual(value: &MechanismMeta) -> bool {
+        value.is_nothing()
+    }
+}

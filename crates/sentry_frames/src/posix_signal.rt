@@ -1,0 +1,133 @@
+//! Signals.
+
+ghost use Rattle.sentry_frames.specs.Causes.{signal_fields, signal_in_order};
+
+use sentry_members::{Formed, Member};
+use sentry_rows::{AsTable, Copier, CopyTable, Giver, ReadTable, Reader, Sink, Table};
+use sentry_trees::Node;
+use std::alloc::{AllocError, Global};
+
+/// A signal of POSIX.
+///
+/// <https://develop.sentry.dev/sdk/data-model/event-payloads/exception/#signal>
+#[derive(Debug, Drop, PartialEq, Eq)]
+pub struct PosixSignal {
+    /// The number of the signal.
+    pub number: i32,
+    /// The code of the signal, on systems of Apple.
+    pub code: Option<i32>,
+    /// The name of the signal, as `SIGSEGV`.
+    pub name: Option<String>,
+    /// The name of the code, as `SEGV_MAPERR`.
+    pub code_name: Option<String>,
+}
+
+impl PosixSignal {
+    ghost use Rattle.std.specs.Prelude.{◌≡◌, IfOk};
+    ghost use Rattle.sentry_tables.specs.Defaults.{IsDefault};
+    ghost use Rattle.sentry_frames.specs.Causes.{signal_cell};
+
+    /// The signal of number 0, without a code and names.
+    #[tactic(auto, unfolding(crate::specs::Causes::signal_fields))]
+    pub fn default_in(_alloc: Global) -> PosixSignal
+        ensures { IsDefault signal_fields result }
+    {
+        PosixSignal {
+            number: 0,
+            code: None,
+            name: None,
+            code_name: None,
+        }
+    }
+
+    /// The same signal. It fails where memory is refused.
+    pub fn clone(&self) -> Result<PosixSignal, AllocError>
+        ensures { IfOk result (λ copy. signal_cell copy ≡ signal_cell self.now) }
+    {
+        self.copy()
+    }
+}
+
+impl Formed for PosixSignal {
+    type Form = AsTable;
+}
+
+impl From<i32> for PosixSignal {
+    ghost use Rattle.std.specs.Prelude.{◌≡◌, None};
+
+    ghost from_gives = { λ n s. (s.number ≡ n) × (s.code ≡ None) × (s.name ≡ None) × (s.code_name ≡ None) };
+
+    fn from(number: i32) -> PosixSignal {
+        PosixSignal {
+            number,
+            code: None,
+            name: None,
+            code_name: None,
+        }
+    }
+}
+
+/// Of a number and a code.
+impl From<(i32, i32)> for PosixSignal {
+    ghost use Rattle.std.specs.Prelude.{◌≡◌, Some, None};
+
+    ghost from_gives = { λ p s. (s.number ≡ p.0) × (s.code ≡ Some p.1) × (s.name ≡ None) × (s.code_name ≡ None) };
+
+    fn from(pair: (i32, i32)) -> PosixSignal {
+        let (number, code) = pair;
+        PosixSignal {
+            number,
+            code: Some(code),
+            name: None,
+            code_name: None,
+        }
+    }
+}
+
+impl From<PosixSignal> for i32 {
+    ghost use Rattle.std.specs.Prelude.{◌≡◌};
+
+    ghost from_gives = { λ s n. n ≡ s.number };
+
+    fn from(signal: PosixSignal) -> i32 {
+        signal.number
+    }
+}
+
+#[tactic(auto, unfolding(crate::specs::Causes::signal_fields))]
+impl Table for PosixSignal {
+    ghost lines = { signal_fields };
+
+    fn rows<S: Sink>(&self, to: &mut Giver<'_, S>) {
+        to.optional("code", &self.code);
+        to.optional("code_name", &self.code_name);
+        to.optional("name", &self.name);
+        to.required("number", &self.number);
+    }
+
+    ghost ordered = { signal_in_order };
+}
+
+#[tactic(auto, unfolding(crate::specs::Causes::signal_fields))]
+impl ReadTable for PosixSignal {
+    fn read<N: Node>(from: &mut Reader<'_, N>) -> PosixSignal {
+        PosixSignal {
+            code: from.optional("code"),
+            code_name: from.optional("code_name"),
+            name: from.optional("name"),
+            number: from.required("number", 0),
+        }
+    }
+}
+
+#[tactic(auto, unfolding(crate::specs::Causes::signal_fields))]
+impl CopyTable for PosixSignal {
+    fn copied(&self, copies: &mut Copier) -> Result<PosixSignal, AllocError> {
+        Ok(PosixSignal {
+            code: copies.optional(&self.code),
+            code_name: copies.optional(&self.code_name),
+            name: copies.optional(&self.name),
+            number: copies.plain(&self.number),
+        })
+    }
+}

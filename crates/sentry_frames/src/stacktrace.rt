@@ -1,0 +1,109 @@
+//! Stack traces.
+
+ghost use Rattle.sentry_frames.specs.Frames.{stacktrace_fields, stacktrace_in_order};
+
+use crate::frame::Frame;
+use sentry_addresses::RegVal;
+use sentry_members::{Formed, Member};
+use sentry_rows::{AsTable, Copier, CopyTable, Giver, ReadTable, Reader, Sink, Table};
+use sentry_trees::Node;
+use serde_json::Map;
+use std::alloc::{AllocError, Global};
+
+/// The calls that were going on in a thread, the oldest first.
+///
+/// <https://develop.sentry.dev/sdk/data-model/event-payloads/stacktrace/>
+#[derive(Debug, Drop, PartialEq)]
+pub struct Stacktrace {
+    /// The frames, from the caller to the called.
+    pub frames: Vec<Frame>,
+    /// Where frames were left out: the first of these, and the one after them.
+    pub frames_omitted: Option<(u64, u64)>,
+    /// The values of the registers, by name.
+    pub registers: Map<String, RegVal>,
+}
+
+impl Stacktrace {
+    ghost use Rattle.std.specs.Prelude.{◌≡◌, IfOk, IfSome, None, List, [], ◌↔◌, reverse};
+    ghost use Rattle.sentry_tables.specs.Defaults.{IsDefault};
+    ghost use Rattle.sentry_frames.specs.Frames.{stacktrace_cell};
+
+    /// A stack trace without frames and registers.
+    #[tactic(auto, unfolding(crate::specs::Frames::stacktrace_fields))]
+    pub fn default_in(alloc: Global) -> Stacktrace
+        ensures { IsDefault stacktrace_fields result }
+    {
+        Stacktrace {
+            frames: Vec::new(alloc),
+            frames_omitted: None,
+            registers: Map::new(alloc),
+        }
+    }
+
+    /// The stack trace of frames that begin with the called, or `None` where there are none.
+    ///
+    /// The frames of the answer stand in reverse; nothing else is known of it.
+    pub fn from_frames_reversed(mut frames: Vec<Frame>) -> Option<Stacktrace>
+        ensures none { result ≡ None ↔ (frames.items ≡ []) }
+        ensures frames { IfSome result (λ trace. trace.frames.items ≡ reverse frames.items) }
+        ensures omitted { IfSome result (λ trace. trace.frames_omitted ≡ None) }
+        ensures registers { IfSome result (λ trace. trace.registers.entries ≡ []) }
+    {
+        if frames.is_empty() {
+            return None;
+        }
+        frames.reverse();
+        let registers = Map::new(*frames.allocator());
+        Some(Stacktrace {
+            frames,
+            frames_omitted: None,
+            registers,
+        })
+    }
+
+    /// The same stack trace. It fails where memory is refused.
+    pub fn clone(&self) -> Result<Stacktrace, AllocError>
+        ensures { IfOk result (λ copy. stacktrace_cell copy ≡ stacktrace_cell self.now) }
+    {
+        self.copy()
+    }
+}
+
+impl Formed for Stacktrace {
+    type Form = AsTable;
+}
+
+#[tactic(auto, unfolding(crate::specs::Frames::stacktrace_fields))]
+impl Table for Stacktrace {
+    ghost lines = { stacktrace_fields };
+
+    fn rows<S: Sink>(&self, to: &mut Giver<'_, S>) {
+        to.written_list("frames", &self.frames);
+        to.optional("frames_omitted", &self.frames_omitted);
+        to.map("registers", &self.registers);
+    }
+
+    ghost ordered = { stacktrace_in_order };
+}
+
+#[tactic(auto, unfolding(crate::specs::Frames::stacktrace_fields))]
+impl ReadTable for Stacktrace {
+    fn read<N: Node>(from: &mut Reader<'_, N>) -> Stacktrace {
+        Stacktrace {
+            frames: from.written_list("frames"),
+            frames_omitted: from.optional("frames_omitted"),
+            registers: from.map("registers"),
+        }
+    }
+}
+
+#[tactic(auto, unfolding(crate::specs::Frames::stacktrace_fields))]
+impl CopyTable for Stacktrace {
+    fn copied(&self, copies: &mut Copier) -> Result<Stacktrace, AllocError> {
+        Ok(Stacktrace {
+            frames: copies.list(&self.frames),
+            frames_omitted: copies.optional(&self.frames_omitted),
+            registers: copies.map(&self.registers)?,
+        })
+    }
+}

@@ -1,0 +1,105 @@
+//! Threads.
+
+ghost use Rattle.sentry_frames.specs.Threads.{thread_fields, thread_in_order};
+
+use crate::stacktrace::Stacktrace;
+use crate::thread_id::ThreadId;
+use sentry_members::{Formed, Member};
+use sentry_rows::{AsTable, Copier, CopyTable, Giver, ReadTable, Reader, Sink, Table};
+use sentry_trees::Node;
+use std::alloc::{AllocError, Global};
+
+/// A thread of the program.
+///
+/// <https://develop.sentry.dev/sdk/data-model/event-payloads/threads/>
+#[derive(Debug, Drop, PartialEq)]
+pub struct Thread {
+    /// The id of the thread, mostly a number.
+    pub id: Option<ThreadId>,
+    /// The name of the thread.
+    pub name: Option<String>,
+    /// What the thread was doing.
+    pub stacktrace: Option<Stacktrace>,
+    /// The same before it was worked on.
+    pub raw_stacktrace: Option<Stacktrace>,
+    /// Whether the thread crashed.
+    pub crashed: bool,
+    /// Whether the thread was running when the event was made.
+    pub current: bool,
+}
+
+impl Thread {
+    ghost use Rattle.std.specs.Prelude.{◌≡◌, IfOk};
+    ghost use Rattle.sentry_tables.specs.Defaults.{IsDefault};
+    ghost use Rattle.sentry_frames.specs.Threads.{thread_cell};
+
+    /// A thread of which nothing is known.
+    #[tactic(auto, unfolding(crate::specs::Threads::thread_fields))]
+    pub fn default_in(_alloc: Global) -> Thread
+        ensures { IsDefault thread_fields result }
+    {
+        Thread {
+            id: None,
+            name: None,
+            stacktrace: None,
+            raw_stacktrace: None,
+            crashed: false,
+            current: false,
+        }
+    }
+
+    /// The same thread. It fails where memory is refused.
+    pub fn clone(&self) -> Result<Thread, AllocError>
+        ensures { IfOk result (λ copy. thread_cell copy ≡ thread_cell self.now) }
+    {
+        self.copy()
+    }
+}
+
+impl Formed for Thread {
+    type Form = AsTable;
+}
+
+#[tactic(auto, unfolding(crate::specs::Threads::thread_fields))]
+impl Table for Thread {
+    ghost lines = { thread_fields };
+
+    fn rows<S: Sink>(&self, to: &mut Giver<'_, S>) {
+        to.unless("crashed", &self.crashed, &false);
+        to.unless("current", &self.current, &false);
+        to.optional("id", &self.id);
+        to.optional("name", &self.name);
+        to.optional("raw_stacktrace", &self.raw_stacktrace);
+        to.optional("stacktrace", &self.stacktrace);
+    }
+
+    ghost ordered = { thread_in_order };
+}
+
+#[tactic(auto, unfolding(crate::specs::Threads::thread_fields))]
+impl ReadTable for Thread {
+    fn read<N: Node>(from: &mut Reader<'_, N>) -> Thread {
+        Thread {
+            crashed: from.or("crashed", false),
+            current: from.or("current", false),
+            id: from.optional("id"),
+            name: from.optional("name"),
+            raw_stacktrace: from.optional("raw_stacktrace"),
+            stacktrace: from.optional("stacktrace"),
+        }
+    }
+}
+
+#[tactic(auto, unfolding(crate::specs::Threads::thread_fields))]
+impl CopyTable for Thread {
+    fn copied(&self, copies: &mut Copier) -> Result<Thread, AllocError> {
+        Ok(Thread {
+            crashed: copies.plain(&self.crashed),
+            current: copies.plain(&self.current),
+            id: copies.optional(&self.id),
+            name: copies.optional(&self.name),
+            raw_stacktrace: copies.optional(&self.raw_stacktrace),
+            stacktrace: copies.optional(&self.stacktrace),
+        })
+    }
+}
