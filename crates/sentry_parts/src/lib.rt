@@ -1,9 +1,29 @@
-//! Parts that several messages of the protocol share.
+//! Parts that several messages of the protocol share, with those of `sentry_frames`.
 #![tactic(auto)]
 
+pub mod breadcrumb;
 pub mod client_sdk_info;
 pub mod client_sdk_package;
+pub mod debug_image;
+pub mod debug_meta;
 pub mod laws;
+pub mod native_images;
+pub mod other_images;
+pub mod request;
+pub mod system_sdk_info;
+pub mod user;
 
+pub use breadcrumb::Breadcrumb;
 pub use client_sdk_info::ClientSdkInfo;
 pub use client_sdk_package::ClientSdkPackage;
+pub use debug_image::DebugImage;
+pub use debug_meta::DebugMeta;
+pub use native_images::{AppleDebugImage, SymbolicDebugImage};
+pub use other_images::{ProguardDebugImage, WasmDebugImage};
+pub use request::Request;
+pub use sentry_frames::{
+    CError, Exception, Frame, LogEntry, MachException, Mechanism, MechanismMeta, PosixSignal,
+    Stacktrace, TemplateInfo, Thread, ThreadId,
+};
+pub use system_sdk_info::SystemSdkInfo;
+pub use user::User;

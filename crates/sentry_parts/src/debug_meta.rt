@@ -1,0 +1,128 @@
+//! What debuggers need to read the addresses of an event.
+
+ghost use Rattle.sentry_parts.specs.Debugging.{empty_meta, meta_cell, meta_fields, meta_in_order, meta_kind};
+
+use crate::debug_image::DebugImage;
+use crate::system_sdk_info::SystemSdkInfo;
+use json::Writer;
+use sentry_members::member::Defaulted;
+use sentry_members::{Codec, FromTree, Member, ReadCodec, TreeError, Way};
+use sentry_rows::{AsTable, Copier, CopyTable, Giver, ReadTable, Reader, Sink, Table};
+use sentry_trees::Node;
+use serde_json::Value;
+use std::alloc::{AllocError, Global};
+
+/// What debuggers need to read the addresses of an event.
+///
+/// <https://develop.sentry.dev/sdk/data-model/event-payloads/debugmeta/>
+#[derive(Debug, Drop, PartialEq)]
+pub struct DebugMeta {
+    /// The software of the system.
+    pub sdk_info: Option<SystemSdkInfo>,
+    /// The images that were loaded.
+    pub images: Vec<DebugImage>,
+}
+
+#[tactic(auto, unfolding(crate::specs::Debugging::meta_fields))]
+impl DebugMeta {
+    ghost use Rattle.std.specs.Prelude.{◌≡◌, ◌↔◌, [], None, IfOk, IsTrue};
+    ghost use Rattle.sentry_tables.specs.Defaults.{IsDefault};
+    ghost use Rattle.sentry_parts.specs.Debugging.{empty_meta, meta_cell, meta_fields};
+
+    /// No images, and nothing of the system's software.
+    pub fn default_in(alloc: Global) -> DebugMeta
+        ensures rows { IsDefault meta_fields result }
+        ensures empty { meta_cell result ≡ empty_meta }
+    {
+        DebugMeta {
+            sdk_info: None,
+            images: Vec::new(alloc),
+        }
+    }
+
+    /// Whether there are no images, and nothing is known of the system's software.
+    pub fn is_empty(&self) -> bool
+        ensures { IsTrue result ↔ ((self.now.sdk_info ≡ None) × (self.now.images.items ≡ [])) }
+    {
+        self.sdk_info.is_none() && self.images.is_empty()
+    }
+
+    /// The same images and software. It fails where memory is refused.
+    pub fn clone(&self) -> Result<DebugMeta, AllocError>
+        ensures { IfOk result (λ copy. meta_cell copy ≡ meta_cell self.now) }
+    {
+        self.copy()
+    }
+}
+
+impl Member for DebugMeta {
+    ghost kind = { meta_kind };
+
+    ghost cell_of = { meta_cell };
+
+    fn to_tree(&self, alloc: Global) -> Result<Value, AllocError> {
+        AsTable::to_tree(self, alloc)
+    }
+
+    fn write(&self, out: &mut Writer) -> Result<(), AllocError> {
+        AsTable::write(self, out)
+    }
+
+    fn remade(&self, way: Way) -> Result<DebugMeta, AllocError> {
+        AsTable::remade(self, way)
+    }
+
+    fn is_null_tree(&self) -> bool {
+        false
+    }
+
+    fn is_plain(&self) -> bool {
+        AsTable::is_plain(self)
+    }
+}
+
+impl FromTree for DebugMeta {
+    fn from_node<N: Node>(alloc: Global, node: &N) -> Result<DebugMeta, TreeError> {
+        AsTable::from_node(alloc, node)
+    }
+}
+
+#[tactic(auto, unfolding(crate::specs::Debugging::meta_fields))]
+impl Table for DebugMeta {
+    ghost lines = { meta_fields };
+
+    fn rows<S: Sink>(&self, to: &mut Giver<'_, S>) {
+        to.list("images", &self.images);
+        to.optional("sdk_info", &self.sdk_info);
+    }
+
+    ghost ordered = { meta_in_order };
+}
+
+#[tactic(auto, unfolding(crate::specs::Debugging::meta_fields))]
+impl ReadTable for DebugMeta {
+    fn read<N: Node>(from: &mut Reader<'_, N>) -> DebugMeta {
+        DebugMeta {
+            images: from.list("images"),
+            sdk_info: from.optional("sdk_info"),
+        }
+    }
+}
+
+#[tactic(auto, unfolding(crate::specs::Debugging::meta_fields))]
+impl CopyTable for DebugMeta {
+    fn copied(&self, copies: &mut Copier) -> Result<DebugMeta, AllocError> {
+        Ok(DebugMeta {
+            images: copies.list(&self.images),
+            sdk_info: copies.optional(&self.sdk_info),
+        })
+    }
+}
+
+impl Defaulted for DebugMeta {
+    ghost usual = { empty_meta };
+
+    fn is_usual(&self) -> bool {
+        self.is_empty()
+    }
+}

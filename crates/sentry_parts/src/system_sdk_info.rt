@@ -1,0 +1,77 @@
+//! The software of the system that an application runs on.
+
+ghost use Rattle.sentry_parts.specs.Debugging.{system_fields, system_in_order};
+
+use sentry_members::{Formed, Member};
+use sentry_rows::{AsTable, Copier, CopyTable, Giver, ReadTable, Reader, Sink, Table};
+use sentry_trees::Node;
+use std::alloc::AllocError;
+
+/// The software of the system that an application runs on, as that of iOS.
+///
+/// <https://develop.sentry.dev/sdk/data-model/event-payloads/debugmeta/>
+#[derive(Debug, Drop, PartialEq)]
+pub struct SystemSdkInfo {
+    /// The name of the software, as `iOS`.
+    pub sdk_name: String,
+    /// The first number of its version.
+    pub version_major: u32,
+    /// The second number of its version.
+    pub version_minor: u32,
+    /// The third number of its version.
+    pub version_patchlevel: u32,
+}
+
+impl SystemSdkInfo {
+    ghost use Rattle.std.specs.Prelude.{◌≡◌, IfOk};
+    ghost use Rattle.sentry_parts.specs.Debugging.{system_cell};
+
+    /// The same software. It fails where memory is refused.
+    pub fn clone(&self) -> Result<SystemSdkInfo, AllocError>
+        ensures { IfOk result (λ copy. system_cell copy ≡ system_cell self.now) }
+    {
+        self.copy()
+    }
+}
+
+impl Formed for SystemSdkInfo {
+    type Form = AsTable;
+}
+
+#[tactic(auto, unfolding(crate::specs::Debugging::system_fields))]
+impl Table for SystemSdkInfo {
+    ghost lines = { system_fields };
+
+    fn rows<S: Sink>(&self, to: &mut Giver<'_, S>) {
+        to.required("sdk_name", &self.sdk_name);
+        to.required("version_major", &self.version_major);
+        to.required("version_minor", &self.version_minor);
+        to.required("version_patchlevel", &self.version_patchlevel);
+    }
+
+    ghost ordered = { system_in_order };
+}
+
+#[tactic(auto, unfolding(crate::specs::Debugging::system_fields))]
+impl ReadTable for SystemSdkInfo {
+    fn read<N: Node>(from: &mut Reader<'_, N>) -> SystemSdkInfo {
+        SystemSdkInfo {
+            sdk_name: from.text("sdk_name"),
+            version_major: from.required("version_major", 0),
+            version_minor: from.required("version_minor", 0),
+            version_patchlevel: from.required("version_patchlevel", 0),
+        }
+    }
+}
+
+#[tactic(auto, unfolding(crate::specs::Debugging::system_fields))]
+impl CopyTable for SystemSdkInfo {
+    fn copied(&self, copies: &mut Copier) -> Result<SystemSdkInfo, AllocError> {
+        Ok(SystemSdkInfo {
+            sdk_name: copies.text(&self.sdk_name),
+            version_major: copies.plain(&self.version_major),
+            version_minor: copies.plain(&self.version_minor),
+            version_patchlevel: copies.plain(&self.version_patchlevel),
+        })
+    }
+}

@@ -1,0 +1,118 @@
+//! The user of an application.
+
+ghost use Rattle.std.specs.Prelude.{[]};
+ghost use Rattle.serde_json.specs.View.{members_view};
+ghost use Rattle.sentry_parts.specs.Users.{user_fields, user_in_order};
+
+use sentry_addresses::IpAddress;
+use sentry_members::{Formed, Member};
+use sentry_rows::{AsKept, Copier, CopyKept, Giver, KeptTable, ReadKept, Reader, Sink, Table};
+use sentry_trees::Node;
+use serde_json::{Map, Value};
+use std::alloc::{AllocError, Global};
+
+/// The user of an application.
+///
+/// <https://develop.sentry.dev/sdk/data-model/event-payloads/user/>
+#[derive(Debug, Drop, PartialEq)]
+pub struct User {
+    /// The identifier of the user in the application.
+    pub id: Option<String>,
+    /// The email address.
+    pub email: Option<String>,
+    /// The IP address, or that of the connection.
+    pub ip_address: Option<IpAddress>,
+    /// The name that the user is known by.
+    pub username: Option<String>,
+    /// What else is known, under other keys. A user with one of the four keys here isn't plain, and
+    /// can't be written.
+    pub other: Map<String, Value>,
+}
+
+#[tactic(auto, unfolding(crate::specs::Users::user_fields))]
+impl User {
+    ghost use Rattle.std.specs.Prelude.{◌≡◌, IfOk};
+    ghost use Rattle.serde_json.specs.Data.{no_members};
+    ghost use Rattle.sentry_tables.specs.Defaults.{IsDefault};
+    ghost use Rattle.sentry_parts.specs.Users.{user_cell, user_fields};
+
+    /// A user of whom nothing is known.
+    pub fn default_in(alloc: Global) -> User
+        ensures rows { IsDefault user_fields result }
+        ensures other { members_view result.other.entries ≡ no_members }
+    {
+        User {
+            id: None,
+            email: None,
+            ip_address: None,
+            username: None,
+            other: Map::new(alloc),
+        }
+    }
+
+    /// The same user. It fails where memory is refused.
+    pub fn clone(&self) -> Result<User, AllocError>
+        ensures { IfOk result (λ copy. user_cell copy ≡ user_cell self.now) }
+    {
+        self.copy()
+    }
+}
+
+impl Formed for User {
+    type Form = AsKept;
+}
+
+#[tactic(auto, unfolding(crate::specs::Users::user_fields))]
+impl Table for User {
+    ghost lines = { user_fields };
+
+    fn rows<S: Sink>(&self, to: &mut Giver<'_, S>) {
+        to.optional("email", &self.email);
+        to.optional("id", &self.id);
+        to.optional("ip_address", &self.ip_address);
+        to.optional("username", &self.username);
+    }
+
+    ghost ordered = { user_in_order };
+}
+
+#[tactic(auto, unfolding(crate::specs::Users::user_fields))]
+impl KeptTable for User {
+    ghost reserved = { [] };
+
+    ghost others_of = { λ u. members_view u.other.entries };
+
+    fn others(&self) -> &Map<String, Value> {
+        &self.other
+    }
+
+    fn names() -> &'static [&'static str] {
+        &["email", "id", "ip_address", "username"]
+    }
+}
+
+#[tactic(auto, unfolding(crate::specs::Users::user_fields))]
+impl ReadKept for User {
+    fn read<N: Node>(from: &mut Reader<'_, N>) -> User {
+        User {
+            email: from.optional("email"),
+            id: from.optional("id"),
+            ip_address: from.optional("ip_address"),
+            username: from.optional("username"),
+            other: from.others(User::names()),
+        }
+    }
+}
+
+#[tactic(auto, unfolding(crate::specs::Users::user_fields))]
+impl CopyKept for User {
+    fn copied(&self, copies: &mut Copier) -> Result<User, AllocError> {
+        Ok(User {
+            email: copies.optional(&self.email),
+            id: copies.optional(&self.id),
+            ip_address: copies.optional(&self.ip_address),
+            username: copies.optional(&self.username),
+            other: copies.others(&self.other)?,
+        })
+    }
+}
