@@ -1,0 +1,152 @@
+-- The tables of contexts are lawful, and so are contexts by their tag, and maps of them.
+use Rattle.std.proofs.Common.{◌≡◌, ◌^◌, refl, arith}
+use Rattle.serde_json.specs.Data.{null}
+use Rattle.sentry_tables.proofs.Basic.{text_laws, truth_laws, unsigned_laws, any_laws}
+use Rattle.sentry_tables.proofs.ByRows.{laws_by_rows, empty_map_stands}
+use Rattle.sentry_tables.proofs.Laws.{has_laws}
+use Rattle.sentry_tables.specs.Basic.{unsigned_scalar}
+use Rattle.sentry_tables.specs.Cell.{Cell, absent, any, present}
+use Rattle.sentry_tables.specs.Fields.{rows_of}
+use Rattle.sentry_tables.specs.Kind.{default, draw, may_strict}
+use Rattle.sentry_tables.specs.Laws.{HasLaws}
+use Rattle.sentry_tables.specs.Norm.{norm}
+use Rattle.sentry_tables.specs.Lawful.{ScalarLaws, RuleLaws, IsLawful}
+use Rattle.sentry_members.specs.Cells.{empty_map}
+use Rattle.sentry_members.proofs.Spellings.{spelled_laws}
+use Rattle.sentry_words.specs.Orientation.{orientation_kind, orientation_spelling}
+use Rattle.sentry_words.specs.SpanStatus.{span_status_kind, span_status_spelling}
+use Rattle.sentry_words.proofs.Enumerations.{orientation_laws, span_status_laws}
+use Rattle.sentry_moments.specs.MomentForms.{rfc3339_kind}
+use Rattle.sentry_moments.proofs.MomentSpellings.{rfc3339_scalar_laws, rfc3339_refuses_null}
+use Rattle.sentry_identifiers.specs.HexIdTree.{IsOctets, hex_id_spelling, span_kind, trace_kind}
+use Rattle.sentry_identifiers.proofs.HexIdTrees.{hex_id_laws, drawn_id_laws}
+use Rattle.sentry_contexts.specs.Contexts.{context_kind, contexts_kind}
+use Rattle.sentry_contexts.specs.Devices.{device_fields, device_kind, gpu_fields, gpu_kind}
+use Rattle.sentry_contexts.specs.Programs.{app_fields, app_kind, browser_fields, browser_kind}
+use Rattle.sentry_contexts.specs.Responses.{response_fields, response_kind, response_with}
+use Rattle.sentry_contexts.specs.Systems.{os_fields, os_kind, runtime_fields, runtime_kind}
+use Rattle.sentry_contexts.specs.Telemetry.{otel_fields, otel_kind, tracing_fields, tracing_kind}
+
+-- ---- scalars and defaults
+
+u32_laws : ScalarLaws (unsigned_scalar (2 ^ 32))
+u32_laws = unsigned_laws (2 ^ 32) (omega arith)
+
+u64_laws : ScalarLaws (unsigned_scalar (2 ^ 64))
+u64_laws = unsigned_laws (2 ^ 64) (omega arith)
+
+orientation_lawful : IsLawful orientation_kind
+orientation_lawful = spelled_laws orientation_spelling orientation_laws
+
+status_lawful : IsLawful span_status_kind
+status_lawful = spelled_laws span_status_spelling span_status_laws
+
+moment_lawful : IsLawful rfc3339_kind
+moment_lawful = rfc3339_scalar_laws
+
+moment_stands : RuleLaws may_strict rfc3339_kind
+moment_stands = rfc3339_refuses_null
+
+span_lawful : IsLawful span_kind
+span_lawful = spelled_laws (hex_id_spelling 8) (hex_id_laws 8)
+
+trace_lawful : IsLawful trace_kind
+trace_lawful = spelled_laws (hex_id_spelling 16) (hex_id_laws 16)
+
+span_drawn : RuleLaws (draw (IsOctets 8)) span_kind
+span_drawn = drawn_id_laws 8
+
+trace_drawn : RuleLaws (draw (IsOctets 16)) trace_kind
+trace_drawn = drawn_id_laws 16
+
+-- ---- tables
+
+device_lawful : IsLawful device_kind
+unfolding device_fields
+device_lawful = laws_by_rows (rows_of device_fields) refl (search (text_laws, truth_laws, u32_laws, u64_laws, orientation_lawful, moment_lawful, moment_stands))
+
+os_lawful : IsLawful os_kind
+unfolding os_fields
+os_lawful = laws_by_rows (rows_of os_fields) refl (search (text_laws, truth_laws))
+
+runtime_lawful : IsLawful runtime_kind
+unfolding runtime_fields
+runtime_lawful = laws_by_rows (rows_of runtime_fields) refl (search text_laws)
+
+app_lawful : IsLawful app_kind
+unfolding app_fields
+app_lawful = laws_by_rows (rows_of app_fields) refl (search (text_laws, moment_lawful, moment_stands))
+
+browser_lawful : IsLawful browser_kind
+unfolding browser_fields
+browser_lawful = laws_by_rows (rows_of browser_fields) refl (search text_laws)
+
+tracing_lawful : IsLawful tracing_kind
+unfolding tracing_fields
+tracing_lawful = laws_by_rows (rows_of tracing_fields) refl (search (text_laws, any_laws, span_lawful, trace_lawful, span_drawn, trace_drawn, status_lawful, empty_map_stands))
+
+gpu_lawful : IsLawful gpu_kind
+unfolding gpu_fields
+gpu_lawful = laws_by_rows (rows_of gpu_fields) refl (search (text_laws, truth_laws, u32_laws))
+
+otel_lawful : IsLawful otel_kind
+unfolding otel_fields
+otel_lawful = laws_by_rows (rows_of otel_fields) refl (search (any_laws, empty_map_stands))
+
+response_lawful : IsLawful response_kind
+unfolding response_fields
+response_lawful = laws_by_rows (rows_of response_fields) refl (search (text_laws, any_laws, u64_laws, empty_map_stands))
+
+-- ---- by the tag
+
+pub context_lawful : IsLawful context_kind
+unfolding device_fields os_fields runtime_fields app_fields browser_fields tracing_fields gpu_fields otel_fields response_fields
+context_lawful = (refl, refl, refl, device_lawful, (refl, refl, refl, os_lawful, (refl, refl, refl, runtime_lawful, (refl, refl, refl, app_lawful, (refl, refl, refl, browser_lawful, (refl, refl, tt, tracing_lawful, (refl, refl, refl, gpu_lawful, (refl, refl, refl, otel_lawful, (refl, refl, tt, response_lawful, (refl, refl, refl, tt, tt, refl), refl), refl), refl), refl), refl), refl), refl), refl), refl)
+
+pub contexts_lawful : IsLawful contexts_kind
+contexts_lawful = context_lawful
+
+-- a row may leave out an empty map of contexts
+pub no_contexts_stand : RuleLaws (default empty_map) contexts_kind
+no_contexts_stand = ((λ now c h. h), ((tt, tt), (tt, tt), (tt, tt), refl))
+
+-- ---- what they have
+
+pub device_laws : HasLaws device_kind
+device_laws = has_laws device_kind device_lawful
+
+pub os_laws : HasLaws os_kind
+os_laws = has_laws os_kind os_lawful
+
+pub runtime_laws : HasLaws runtime_kind
+runtime_laws = has_laws runtime_kind runtime_lawful
+
+pub app_laws : HasLaws app_kind
+app_laws = has_laws app_kind app_lawful
+
+pub browser_laws : HasLaws browser_kind
+browser_laws = has_laws browser_kind browser_lawful
+
+pub tracing_laws : HasLaws tracing_kind
+tracing_laws = has_laws tracing_kind tracing_lawful
+
+pub gpu_laws : HasLaws gpu_kind
+gpu_laws = has_laws gpu_kind gpu_lawful
+
+pub otel_laws : HasLaws otel_kind
+otel_laws = has_laws otel_kind otel_lawful
+
+pub response_laws : HasLaws response_kind
+response_laws = has_laws response_kind response_lawful
+
+pub context_laws : HasLaws context_kind
+context_laws = has_laws context_kind context_lawful
+
+pub contexts_laws : HasLaws contexts_kind
+contexts_laws = has_laws contexts_kind contexts_lawful
+
+-- ---- bodies of responses
+
+pub null_is_no_body : (size cookies headers status : Cell) → norm response_kind (response_with size cookies (present (any null)) headers status) ≡ norm response_kind (response_with size cookies absent headers status)
+unfolding response_fields
+null_is_no_body size cookies headers status = refl

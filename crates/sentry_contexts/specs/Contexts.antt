@@ -1,0 +1,107 @@
+-- Contexts by their tag, and maps of contexts.
+use Rattle.std.specs.Prelude.{◌≡◌, ℕ, List, codes}
+use Rattle.serde_json.specs.View.{members_view}
+use Rattle.sentry_tables.specs.Cell.{Cell, choice, fields, no_cells}
+use Rattle.sentry_tables.specs.Fields.{rows_of}
+use Rattle.sentry_tables.specs.Kind.{Kind, ignored, no_rows, Cases, no_cases, case, tagged, tagged_map}
+use Rattle.sentry_rows.specs.Cased.{but_tag}
+use Rattle.sentry_contexts.specs.Devices.{device_cell, device_fields, gpu_cell, gpu_fields}
+use Rattle.sentry_contexts.specs.Systems.{os_cell, os_fields, runtime_cell, runtime_fields}
+use Rattle.sentry_contexts.specs.Programs.{app_cell, app_fields, browser_cell, browser_fields}
+use Rattle.sentry_contexts.specs.Telemetry.{otel_cell, otel_fields, tracing_cell, tracing_fields}
+use Rattle.sentry_contexts.specs.Responses.{response_cell, response_fields}
+use Rattle.sentry_contexts.specs.declared.context.Context.{Context}
+use Rattle.sentry_contexts.specs.declared.context.Context.TheVariants as Variant
+use Rattle.sentry_contexts.specs.declared.device.DeviceContext.{DeviceContext}
+use Rattle.sentry_contexts.specs.declared.os.OsContext.{OsContext}
+use Rattle.sentry_contexts.specs.declared.runtime.RuntimeContext.{RuntimeContext}
+use Rattle.sentry_contexts.specs.declared.app.AppContext.{AppContext}
+use Rattle.sentry_contexts.specs.declared.browser.BrowserContext.{BrowserContext}
+use Rattle.sentry_contexts.specs.declared.gpu.GpuContext.{GpuContext}
+use Rattle.sentry_contexts.specs.declared.otel.OtelContext.{OtelContext}
+use Rattle.sentry_contexts.specs.declared.response.ResponseContext.{ResponseContext}
+use Rattle.sentry_contexts.specs.declared.trace.TraceContext.{TraceContext}
+
+-- the word of each case, its table, and what becomes of members of other keys
+abbrev pub context_cases : Cases
+context_cases =
+    case (codes "device") (rows_of device_fields) but_tag
+    (case (codes "os") (rows_of os_fields) but_tag
+    (case (codes "runtime") (rows_of runtime_fields) but_tag
+    (case (codes "app") (rows_of app_fields) but_tag
+    (case (codes "browser") (rows_of browser_fields) but_tag
+    (case (codes "trace") (rows_of tracing_fields) ignored
+    (case (codes "gpu") (rows_of gpu_fields) but_tag
+    (case (codes "otel") (rows_of otel_fields) but_tag
+    (case (codes "response") (rows_of response_fields) ignored
+    (case (codes "unknown") no_rows but_tag no_cases)))))))))
+
+abbrev pub context_kind : Kind
+context_kind = tagged context_cases
+
+-- in a map a context without a tag is of the case of its key, if there is one, and else an unknown one
+abbrev pub contexts_kind : Kind
+contexts_kind = tagged_map context_cases (codes "unknown")
+
+abbrev pub context_cell : Context → Cell
+context_cell (Variant.Device b) = choice 0 (device_cell b.value)
+context_cell (Variant.Os b) = choice 1 (os_cell b.value)
+context_cell (Variant.Runtime b) = choice 2 (runtime_cell b.value)
+context_cell (Variant.App b) = choice 3 (app_cell b.value)
+context_cell (Variant.Browser b) = choice 4 (browser_cell b.value)
+context_cell (Variant.Trace b) = choice 5 (tracing_cell b.value)
+context_cell (Variant.Gpu b) = choice 6 (gpu_cell b.value)
+context_cell (Variant.Otel b) = choice 7 (otel_cell b.value)
+context_cell (Variant.Response b) = choice 8 (response_cell b.value)
+context_cell (Variant.Other m) = choice 9 (fields no_cells (members_view m.entries))
+
+-- the tag of a context
+abbrev pub context_word : Context → List ℕ
+context_word (Variant.Device b) = codes "device"
+context_word (Variant.Os b) = codes "os"
+context_word (Variant.Runtime b) = codes "runtime"
+context_word (Variant.App b) = codes "app"
+context_word (Variant.Browser b) = codes "browser"
+context_word (Variant.Trace b) = codes "trace"
+context_word (Variant.Gpu b) = codes "gpu"
+context_word (Variant.Otel b) = codes "otel"
+context_word (Variant.Response b) = codes "response"
+context_word (Variant.Other m) = codes "unknown"
+
+-- ---- the context is this one
+
+abbrev pub IsDevice : DeviceContext → Context → Type 0
+IsDevice x (Variant.Device b) = b.value ≡ x
+IsDevice x _ = ⊥
+
+abbrev pub IsOs : OsContext → Context → Type 0
+IsOs x (Variant.Os b) = b.value ≡ x
+IsOs x _ = ⊥
+
+abbrev pub IsRuntime : RuntimeContext → Context → Type 0
+IsRuntime x (Variant.Runtime b) = b.value ≡ x
+IsRuntime x _ = ⊥
+
+abbrev pub IsApp : AppContext → Context → Type 0
+IsApp x (Variant.App b) = b.value ≡ x
+IsApp x _ = ⊥
+
+abbrev pub IsBrowser : BrowserContext → Context → Type 0
+IsBrowser x (Variant.Browser b) = b.value ≡ x
+IsBrowser x _ = ⊥
+
+abbrev pub IsTrace : TraceContext → Context → Type 0
+IsTrace x (Variant.Trace b) = b.value ≡ x
+IsTrace x _ = ⊥
+
+abbrev pub IsGpu : GpuContext → Context → Type 0
+IsGpu x (Variant.Gpu b) = b.value ≡ x
+IsGpu x _ = ⊥
+
+abbrev pub IsOtel : OtelContext → Context → Type 0
+IsOtel x (Variant.Otel b) = b.value ≡ x
+IsOtel x _ = ⊥
+
+abbrev pub IsResponse : ResponseContext → Context → Type 0
+IsResponse x (Variant.Response b) = b.value ≡ x
+IsResponse x _ = ⊥

@@ -1,0 +1,146 @@
+//! Applications.
+
+ghost use Rattle.std.specs.Prelude.{[], ◌∷◌};
+ghost use Rattle.serde_json.specs.View.{members_view};
+ghost use Rattle.sentry_tables.specs.Kind.{tag};
+ghost use Rattle.sentry_contexts.specs.Programs.{app_fields, app_in_order};
+
+use sentry_members::{Formed, Member};
+use sentry_moments::{Moment, Rfc3339};
+use sentry_rows::{AsKept, Copier, CopyKept, Giver, KeptTable, ReadKept, Reader, Sink, Table};
+use sentry_trees::Node;
+use serde_json::{Map, Value};
+use std::alloc::{AllocError, Global};
+
+/// The application itself.
+///
+/// <https://develop.sentry.dev/sdk/data-model/event-payloads/contexts/#app-context>
+#[derive(Debug, Drop, PartialEq)]
+pub struct AppContext {
+    /// When the application was started, as RFC 3339 text.
+    pub app_start_time: Option<Moment>,
+    /// An id of the device, made by the application.
+    pub device_app_hash: Option<String>,
+    /// What kind of build it is.
+    pub build_type: Option<String>,
+    /// The id of the application, with points.
+    pub app_identifier: Option<String>,
+    /// The name of the application.
+    pub app_name: Option<String>,
+    /// The version of the application.
+    pub app_version: Option<String>,
+    /// The build of the application.
+    pub app_build: Option<String>,
+    /// What else is known, under other keys. Where one of the keys above or `type` is among these, the
+    /// context isn't plain, and can't be written.
+    pub other: Map<String, Value>,
+}
+
+#[tactic(auto, unfolding(crate::specs::Programs::app_fields))]
+impl AppContext {
+    ghost use Rattle.std.specs.Prelude.{◌≡◌, IfOk};
+    ghost use Rattle.serde_json.specs.Data.{no_members};
+    ghost use Rattle.sentry_tables.specs.Defaults.{IsDefault};
+    ghost use Rattle.sentry_contexts.specs.Programs.{app_cell};
+
+    /// An application of which nothing is known.
+    pub fn default_in(alloc: Global) -> AppContext
+        ensures rows { IsDefault app_fields result }
+        ensures other { members_view result.other.entries ≡ no_members }
+    {
+        AppContext {
+            app_start_time: None,
+            device_app_hash: None,
+            build_type: None,
+            app_identifier: None,
+            app_name: None,
+            app_version: None,
+            app_build: None,
+            other: Map::new(alloc),
+        }
+    }
+
+    /// The same application. It fails where memory is refused.
+    pub fn clone(&self) -> Result<AppContext, AllocError>
+        ensures { IfOk result (λ copy. app_cell copy ≡ app_cell self.now) }
+    {
+        self.copy()
+    }
+}
+
+impl Formed for AppContext {
+    type Form = AsKept;
+}
+
+#[tactic(auto, unfolding(crate::specs::Programs::app_fields))]
+impl Table for AppContext {
+    ghost lines = { app_fields };
+
+    fn rows<S: Sink>(&self, to: &mut Giver<'_, S>) {
+        to.optional("app_build", &self.app_build);
+        to.optional("app_identifier", &self.app_identifier);
+        to.optional("app_name", &self.app_name);
+        to.optional_strict_as::<Rfc3339, Moment>("app_start_time", &self.app_start_time);
+        to.optional("app_version", &self.app_version);
+        to.optional("build_type", &self.build_type);
+        to.optional("device_app_hash", &self.device_app_hash);
+    }
+
+    ghost ordered = { app_in_order };
+}
+
+#[tactic(auto, unfolding(crate::specs::Programs::app_fields))]
+impl KeptTable for AppContext {
+    ghost reserved = { tag ∷ [] };
+
+    ghost others_of = { λ a. members_view a.other.entries };
+
+    fn others(&self) -> &Map<String, Value> {
+        &self.other
+    }
+
+    fn names() -> &'static [&'static str] {
+        &[
+            "type",
+            "app_build",
+            "app_identifier",
+            "app_name",
+            "app_start_time",
+            "app_version",
+            "build_type",
+            "device_app_hash",
+        ]
+    }
+}
+
+#[tactic(auto, unfolding(crate::specs::Programs::app_fields))]
+impl ReadKept for AppContext {
+    fn read<N: Node>(from: &mut Reader<'_, N>) -> AppContext {
+        AppContext {
+            app_build: from.optional("app_build"),
+            app_identifier: from.optional("app_identifier"),
+            app_name: from.optional("app_name"),
+            app_start_time: from.optional_strict_as::<Rfc3339, Moment>("app_start_time"),
+            app_version: from.optional("app_version"),
+            build_type: from.optional("build_type"),
+            device_app_hash: from.optional("device_app_hash"),
+            other: from.others(AppContext::names()),
+        }
+    }
+}
+
+#[tactic(auto, unfolding(crate::specs::Programs::app_fields))]
+impl CopyKept for AppContext {
+    fn copied(&self, copies: &mut Copier) -> Result<AppContext, AllocError> {
+        Ok(AppContext {
+            app_build: copies.optional(&self.app_build),
+            app_identifier: copies.optional(&self.app_identifier),
+            app_name: copies.optional(&self.app_name),
+            app_start_time: copies.optional_strict_as::<Rfc3339, Moment>(&self.app_start_time),
+            app_version: copies.optional(&self.app_version),
+            build_type: copies.optional(&self.build_type),
+            device_app_hash: copies.optional(&self.device_app_hash),
+            other: copies.others(&self.other)?,
+        })
+    }
+}

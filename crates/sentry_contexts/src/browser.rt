@@ -1,0 +1,106 @@
+//! Browsers.
+
+ghost use Rattle.std.specs.Prelude.{[], ◌∷◌};
+ghost use Rattle.serde_json.specs.View.{members_view};
+ghost use Rattle.sentry_tables.specs.Kind.{tag};
+ghost use Rattle.sentry_contexts.specs.Programs.{browser_fields, browser_in_order};
+
+use sentry_members::{Formed, Member};
+use sentry_rows::{AsKept, Copier, CopyKept, Giver, KeptTable, ReadKept, Reader, Sink, Table};
+use sentry_trees::Node;
+use serde_json::{Map, Value};
+use std::alloc::{AllocError, Global};
+
+/// The browser that a program ran in.
+///
+/// <https://develop.sentry.dev/sdk/data-model/event-payloads/contexts/#browser-context>
+#[derive(Debug, Drop, PartialEq)]
+pub struct BrowserContext {
+    /// The name of the browser.
+    pub name: Option<String>,
+    /// The version of the browser.
+    pub version: Option<String>,
+    /// What else is known, under other keys. Where one of the keys above or `type` is among these, the
+    /// context isn't plain, and can't be written.
+    pub other: Map<String, Value>,
+}
+
+#[tactic(auto, unfolding(crate::specs::Programs::browser_fields))]
+impl BrowserContext {
+    ghost use Rattle.std.specs.Prelude.{◌≡◌, IfOk};
+    ghost use Rattle.serde_json.specs.Data.{no_members};
+    ghost use Rattle.sentry_tables.specs.Defaults.{IsDefault};
+    ghost use Rattle.sentry_contexts.specs.Programs.{browser_cell};
+
+    /// A browser of which nothing is known.
+    pub fn default_in(alloc: Global) -> BrowserContext
+        ensures rows { IsDefault browser_fields result }
+        ensures other { members_view result.other.entries ≡ no_members }
+    {
+        BrowserContext {
+            name: None,
+            version: None,
+            other: Map::new(alloc),
+        }
+    }
+
+    /// The same browser. It fails where memory is refused.
+    pub fn clone(&self) -> Result<BrowserContext, AllocError>
+        ensures { IfOk result (λ copy. browser_cell copy ≡ browser_cell self.now) }
+    {
+        self.copy()
+    }
+}
+
+impl Formed for BrowserContext {
+    type Form = AsKept;
+}
+
+#[tactic(auto, unfolding(crate::specs::Programs::browser_fields))]
+impl Table for BrowserContext {
+    ghost lines = { browser_fields };
+
+    fn rows<S: Sink>(&self, to: &mut Giver<'_, S>) {
+        to.optional("name", &self.name);
+        to.optional("version", &self.version);
+    }
+
+    ghost ordered = { browser_in_order };
+}
+
+#[tactic(auto, unfolding(crate::specs::Programs::browser_fields))]
+impl KeptTable for BrowserContext {
+    ghost reserved = { tag ∷ [] };
+
+    ghost others_of = { λ b. members_view b.other.entries };
+
+    fn others(&self) -> &Map<String, Value> {
+        &self.other
+    }
+
+    fn names() -> &'static [&'static str] {
+        &["type", "name", "version"]
+    }
+}
+
+#[tactic(auto, unfolding(crate::specs::Programs::browser_fields))]
+impl ReadKept for BrowserContext {
+    fn read<N: Node>(from: &mut Reader<'_, N>) -> BrowserContext {
+        BrowserContext {
+            name: from.optional("name"),
+            version: from.optional("version"),
+            other: from.others(BrowserContext::names()),
+        }
+    }
+}
+
+#[tactic(auto, unfolding(crate::specs::Programs::browser_fields))]
+impl CopyKept for BrowserContext {
+    fn copied(&self, copies: &mut Copier) -> Result<BrowserContext, AllocError> {
+        Ok(BrowserContext {
+            name: copies.optional(&self.name),
+            version: copies.optional(&self.version),
+            other: copies.others(&self.other)?,
+        })
+    }
+}

@@ -1,0 +1,211 @@
+//! Graphics processors.
+
+ghost use Rattle.std.specs.Prelude.{[], ◌∷◌};
+ghost use Rattle.serde_json.specs.View.{members_view};
+ghost use Rattle.sentry_tables.specs.Kind.{tag};
+ghost use Rattle.sentry_contexts.specs.Devices.{gpu_fields, gpu_in_order};
+
+use sentry_members::{Formed, Member};
+use sentry_rows::{AsKept, Copier, CopyKept, Giver, KeptTable, ReadKept, Reader, Sink, Table};
+use sentry_trees::Node;
+use serde_json::{Map, Value};
+use std::alloc::{AllocError, Global};
+
+/// The graphics processor of a device.
+///
+/// <https://develop.sentry.dev/sdk/data-model/event-payloads/contexts/#gpu-context>
+#[derive(Debug, Drop, PartialEq)]
+pub struct GpuContext {
+    /// The name of the processor.
+    pub name: String,
+    /// The version of the processor.
+    pub version: Option<String>,
+    /// The version of its driver.
+    pub driver_version: Option<String>,
+    /// The id of the processor on its bus.
+    pub id: Option<String>,
+    /// The id of the maker on the bus.
+    pub vendor_id: Option<String>,
+    /// The name of the maker, as the processor tells it.
+    pub vendor_name: Option<String>,
+    /// The memory of the processor, in megabytes.
+    pub memory_size: Option<u32>,
+    /// The interface of the device, as `Direct3D11`.
+    pub api_type: Option<String>,
+    /// Whether several threads may draw.
+    pub multi_threaded_rendering: Option<bool>,
+    /// Whether the sides of a texture need be no powers of two.
+    pub npot_support: Option<bool>,
+    /// The longest side of a texture.
+    pub max_texture_size: Option<u32>,
+    /// What its shaders can do, by a name.
+    pub graphics_shader_level: Option<String>,
+    /// Whether one call may draw many instances.
+    pub supports_draw_call_instancing: Option<bool>,
+    /// Whether it can trace rays.
+    pub supports_ray_tracing: Option<bool>,
+    /// Whether it has shaders that compute.
+    pub supports_compute_shaders: Option<bool>,
+    /// Whether it has shaders of geometry.
+    pub supports_geometry_shaders: Option<bool>,
+    /// What else is known, under other keys. Where one of the keys above or `type` is among these, the
+    /// context isn't plain, and can't be written.
+    pub other: Map<String, Value>,
+}
+
+#[tactic(auto, unfolding(crate::specs::Devices::gpu_fields))]
+impl GpuContext {
+    ghost use Rattle.std.specs.Prelude.{◌≡◌, IfOk};
+    ghost use Rattle.serde_json.specs.Data.{no_members};
+    ghost use Rattle.sentry_tables.specs.Defaults.{IsDefault};
+    ghost use Rattle.sentry_contexts.specs.Devices.{gpu_cell};
+
+    /// A processor with an empty name, of which nothing else is known.
+    pub fn default_in(alloc: Global) -> GpuContext
+        ensures rows { IsDefault gpu_fields result }
+        ensures other { members_view result.other.entries ≡ no_members }
+    {
+        GpuContext {
+            name: String::new(alloc),
+            version: None,
+            driver_version: None,
+            id: None,
+            vendor_id: None,
+            vendor_name: None,
+            memory_size: None,
+            api_type: None,
+            multi_threaded_rendering: None,
+            npot_support: None,
+            max_texture_size: None,
+            graphics_shader_level: None,
+            supports_draw_call_instancing: None,
+            supports_ray_tracing: None,
+            supports_compute_shaders: None,
+            supports_geometry_shaders: None,
+            other: Map::new(alloc),
+        }
+    }
+
+    /// The same processor. It fails where memory is refused.
+    pub fn clone(&self) -> Result<GpuContext, AllocError>
+        ensures { IfOk result (λ copy. gpu_cell copy ≡ gpu_cell self.now) }
+    {
+        self.copy()
+    }
+}
+
+impl Formed for GpuContext {
+    type Form = AsKept;
+}
+
+#[tactic(auto, unfolding(crate::specs::Devices::gpu_fields))]
+impl Table for GpuContext {
+    ghost lines = { gpu_fields };
+
+    fn rows<S: Sink>(&self, to: &mut Giver<'_, S>) {
+        to.optional("api_type", &self.api_type);
+        to.optional("driver_version", &self.driver_version);
+        to.optional("graphics_shader_level", &self.graphics_shader_level);
+        to.optional("id", &self.id);
+        to.optional("max_texture_size", &self.max_texture_size);
+        to.optional("memory_size", &self.memory_size);
+        to.optional("multi_threaded_rendering", &self.multi_threaded_rendering);
+        to.required("name", &self.name);
+        to.optional("npot_support", &self.npot_support);
+        to.optional("supports_compute_shaders", &self.supports_compute_shaders);
+        to.optional(
+            "supports_draw_call_instancing",
+            &self.supports_draw_call_instancing,
+        );
+        to.optional("supports_geometry_shaders", &self.supports_geometry_shaders);
+        to.optional("supports_ray_tracing", &self.supports_ray_tracing);
+        to.optional("vendor_id", &self.vendor_id);
+        to.optional("vendor_name", &self.vendor_name);
+        to.optional("version", &self.version);
+    }
+
+    ghost ordered = { gpu_in_order };
+}
+
+#[tactic(auto, unfolding(crate::specs::Devices::gpu_fields))]
+impl KeptTable for GpuContext {
+    ghost reserved = { tag ∷ [] };
+
+    ghost others_of = { λ g. members_view g.other.entries };
+
+    fn others(&self) -> &Map<String, Value> {
+        &self.other
+    }
+
+    fn names() -> &'static [&'static str] {
+        &[
+            "type",
+            "api_type",
+            "driver_version",
+            "graphics_shader_level",
+            "id",
+            "max_texture_size",
+            "memory_size",
+            "multi_threaded_rendering",
+            "name",
+            "npot_support",
+            "supports_compute_shaders",
+            "supports_draw_call_instancing",
+            "supports_geometry_shaders",
+            "supports_ray_tracing",
+            "vendor_id",
+            "vendor_name",
+            "version",
+        ]
+    }
+}
+
+#[tactic(auto, unfolding(crate::specs::Devices::gpu_fields))]
+impl ReadKept for GpuContext {
+    fn read<N: Node>(from: &mut Reader<'_, N>) -> GpuContext {
+        GpuContext {
+            api_type: from.optional("api_type"),
+            driver_version: from.optional("driver_version"),
+            graphics_shader_level: from.optional("graphics_shader_level"),
+            id: from.optional("id"),
+            max_texture_size: from.optional("max_texture_size"),
+            memory_size: from.optional("memory_size"),
+            multi_threaded_rendering: from.optional("multi_threaded_rendering"),
+            name: from.text("name"),
+            npot_support: from.optional("npot_support"),
+            supports_compute_shaders: from.optional("supports_compute_shaders"),
+            supports_draw_call_instancing: from.optional("supports_draw_call_instancing"),
+            supports_geometry_shaders: from.optional("supports_geometry_shaders"),
+            supports_ray_tracing: from.optional("supports_ray_tracing"),
+            vendor_id: from.optional("vendor_id"),
+            vendor_name: from.optional("vendor_name"),
+            version: from.optional("version"),
+            other: from.others(GpuContext::names()),
+        }
+    }
+}
+
+#[tactic(auto, unfolding(crate::specs::Devices::gpu_fields))]
+impl CopyKept for GpuContext {
+    fn copied(&self, copies: &mut Copier) -> Result<GpuContext, AllocError> {
+        Ok(GpuContext {
+            api_type: copies.optional(&self.api_type),
+            driver_version: copies.optional(&self.driver_version),
+            graphics_shader_level: copies.optional(&self.graphics_shader_level),
+            id: copies.optional(&self.id),
+            max_texture_size: copies.optional(&self.max_texture_size),
+            memory_size: copies.optional(&self.memory_size),
+            multi_threaded_rendering: copies.optional(&self.multi_threaded_rendering),
+            name: copies.text(&self.name),
+            npot_support: copies.optional(&self.npot_support),
+            supports_compute_shaders: copies.optional(&self.supports_compute_shaders),
+            supports_draw_call_instancing: copies.optional(&self.supports_draw_call_instancing),
+            supports_geometry_shaders: copies.optional(&self.supports_geometry_shaders),
+            supports_ray_tracing: copies.optional(&self.supports_ray_tracing),
+            vendor_id: copies.optional(&self.vendor_id),
+            vendor_name: copies.optional(&self.vendor_name),
+            version: copies.optional(&self.version),
+            other: copies.others(&self.other)?,
+        })
+    }
+}

@@ -1,0 +1,131 @@
+//! Operating systems.
+
+ghost use Rattle.std.specs.Prelude.{[], ◌∷◌};
+ghost use Rattle.serde_json.specs.View.{members_view};
+ghost use Rattle.sentry_tables.specs.Kind.{tag};
+ghost use Rattle.sentry_contexts.specs.Systems.{os_fields, os_in_order};
+
+use sentry_members::{Formed, Member};
+use sentry_rows::{AsKept, Copier, CopyKept, Giver, KeptTable, ReadKept, Reader, Sink, Table};
+use sentry_trees::Node;
+use serde_json::{Map, Value};
+use std::alloc::{AllocError, Global};
+
+/// The operating system of a device.
+///
+/// <https://develop.sentry.dev/sdk/data-model/event-payloads/contexts/#os-context>
+#[derive(Debug, Drop, PartialEq)]
+pub struct OsContext {
+    /// The name of the system.
+    pub name: Option<String>,
+    /// The version of the system.
+    pub version: Option<String>,
+    /// The build of the system.
+    pub build: Option<String>,
+    /// The version of the kernel.
+    pub kernel_version: Option<String>,
+    /// Whether programs may take all rights.
+    pub rooted: Option<bool>,
+    /// What else is known, under other keys. Where one of the keys above or `type` is among these, the
+    /// context isn't plain, and can't be written.
+    pub other: Map<String, Value>,
+}
+
+#[tactic(auto, unfolding(crate::specs::Systems::os_fields))]
+impl OsContext {
+    ghost use Rattle.std.specs.Prelude.{◌≡◌, IfOk};
+    ghost use Rattle.serde_json.specs.Data.{no_members};
+    ghost use Rattle.sentry_tables.specs.Defaults.{IsDefault};
+    ghost use Rattle.sentry_contexts.specs.Systems.{os_cell};
+
+    /// A system of which nothing is known.
+    pub fn default_in(alloc: Global) -> OsContext
+        ensures rows { IsDefault os_fields result }
+        ensures other { members_view result.other.entries ≡ no_members }
+    {
+        OsContext {
+            name: None,
+            version: None,
+            build: None,
+            kernel_version: None,
+            rooted: None,
+            other: Map::new(alloc),
+        }
+    }
+
+    /// The same system. It fails where memory is refused.
+    pub fn clone(&self) -> Result<OsContext, AllocError>
+        ensures { IfOk result (λ copy. os_cell copy ≡ os_cell self.now) }
+    {
+        self.copy()
+    }
+}
+
+impl Formed for OsContext {
+    type Form = AsKept;
+}
+
+#[tactic(auto, unfolding(crate::specs::Systems::os_fields))]
+impl Table for OsContext {
+    ghost lines = { os_fields };
+
+    fn rows<S: Sink>(&self, to: &mut Giver<'_, S>) {
+        to.optional("build", &self.build);
+        to.optional("kernel_version", &self.kernel_version);
+        to.optional("name", &self.name);
+        to.optional("rooted", &self.rooted);
+        to.optional("version", &self.version);
+    }
+
+    ghost ordered = { os_in_order };
+}
+
+#[tactic(auto, unfolding(crate::specs::Systems::os_fields))]
+impl KeptTable for OsContext {
+    ghost reserved = { tag ∷ [] };
+
+    ghost others_of = { λ s. members_view s.other.entries };
+
+    fn others(&self) -> &Map<String, Value> {
+        &self.other
+    }
+
+    fn names() -> &'static [&'static str] {
+        &[
+            "type",
+            "build",
+            "kernel_version",
+            "name",
+            "rooted",
+            "version",
+        ]
+    }
+}
+
+#[tactic(auto, unfolding(crate::specs::Systems::os_fields))]
+impl ReadKept for OsContext {
+    fn read<N: Node>(from: &mut Reader<'_, N>) -> OsContext {
+        OsContext {
+            build: from.optional("build"),
+            kernel_version: from.optional("kernel_version"),
+            name: from.optional("name"),
+            rooted: from.optional("rooted"),
+            version: from.optional("version"),
+            other: from.others(OsContext::names()),
+        }
+    }
+}
+
+#[tactic(auto, unfolding(crate::specs::Systems::os_fields))]
+impl CopyKept for OsContext {
+    fn copied(&self, copies: &mut Copier) -> Result<OsContext, AllocError> {
+        Ok(OsContext {
+            build: copies.optional(&self.build),
+            kernel_version: copies.optional(&self.kernel_version),
+            name: copies.optional(&self.name),
+            rooted: copies.optional(&self.rooted),
+            version: copies.optional(&self.version),
+            other: copies.others(&self.other)?,
+        })
+    }
+}

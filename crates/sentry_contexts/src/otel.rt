@@ -1,0 +1,106 @@
+//! What OpenTelemetry tells.
+
+ghost use Rattle.std.specs.Prelude.{[], ◌∷◌};
+ghost use Rattle.serde_json.specs.View.{members_view};
+ghost use Rattle.sentry_tables.specs.Kind.{tag};
+ghost use Rattle.sentry_contexts.specs.Telemetry.{otel_fields, otel_in_order};
+
+use sentry_members::{Formed, Member};
+use sentry_rows::{AsKept, Copier, CopyKept, Giver, KeptTable, ReadKept, Reader, Sink, Table};
+use sentry_trees::Node;
+use serde_json::{Map, Value};
+use std::alloc::{AllocError, Global};
+
+/// What OpenTelemetry tells of a program.
+///
+/// <https://develop.sentry.dev/sdk/data-model/event-payloads/contexts/>
+#[derive(Debug, Drop, PartialEq)]
+pub struct OtelContext {
+    /// The general attributes: <https://opentelemetry.io/docs/specs/semconv/general/attributes/>.
+    pub attributes: Map<String, Value>,
+    /// The attributes of what makes the telemetry: <https://opentelemetry.io/docs/specs/semconv/resource/>.
+    pub resource: Map<String, Value>,
+    /// What else is known, under other keys. Where one of the keys above or `type` is among these, the
+    /// context isn't plain, and can't be written.
+    pub other: Map<String, Value>,
+}
+
+#[tactic(auto, unfolding(crate::specs::Telemetry::otel_fields))]
+impl OtelContext {
+    ghost use Rattle.std.specs.Prelude.{◌≡◌, IfOk};
+    ghost use Rattle.serde_json.specs.Data.{no_members};
+    ghost use Rattle.sentry_tables.specs.Defaults.{IsDefault};
+    ghost use Rattle.sentry_contexts.specs.Telemetry.{otel_cell};
+
+    /// No attributes.
+    pub fn default_in(alloc: Global) -> OtelContext
+        ensures rows { IsDefault otel_fields result }
+        ensures other { members_view result.other.entries ≡ no_members }
+    {
+        OtelContext {
+            attributes: Map::new(alloc),
+            resource: Map::new(alloc),
+            other: Map::new(alloc),
+        }
+    }
+
+    /// The same attributes. It fails where memory is refused.
+    pub fn clone(&self) -> Result<OtelContext, AllocError>
+        ensures { IfOk result (λ copy. otel_cell copy ≡ otel_cell self.now) }
+    {
+        self.copy()
+    }
+}
+
+impl Formed for OtelContext {
+    type Form = AsKept;
+}
+
+#[tactic(auto, unfolding(crate::specs::Telemetry::otel_fields))]
+impl Table for OtelContext {
+    ghost lines = { otel_fields };
+
+    fn rows<S: Sink>(&self, to: &mut Giver<'_, S>) {
+        to.map("attributes", &self.attributes);
+        to.map("resource", &self.resource);
+    }
+
+    ghost ordered = { otel_in_order };
+}
+
+#[tactic(auto, unfolding(crate::specs::Telemetry::otel_fields))]
+impl KeptTable for OtelContext {
+    ghost reserved = { tag ∷ [] };
+
+    ghost others_of = { λ o. members_view o.other.entries };
+
+    fn others(&self) -> &Map<String, Value> {
+        &self.other
+    }
+
+    fn names() -> &'static [&'static str] {
+        &["type", "attributes", "resource"]
+    }
+}
+
+#[tactic(auto, unfolding(crate::specs::Telemetry::otel_fields))]
+impl ReadKept for OtelContext {
+    fn read<N: Node>(from: &mut Reader<'_, N>) -> OtelContext {
+        OtelContext {
+            attributes: from.map("attributes"),
+            resource: from.map("resource"),
+            other: from.others(OtelContext::names()),
+        }
+    }
+}
+
+#[tactic(auto, unfolding(crate::specs::Telemetry::otel_fields))]
+impl CopyKept for OtelContext {
+    fn copied(&self, copies: &mut Copier) -> Result<OtelContext, AllocError> {
+        Ok(OtelContext {
+            attributes: copies.map(&self.attributes)?,
+            resource: copies.map(&self.resource)?,
+            other: copies.others(&self.other)?,
+        })
+    }
+}

@@ -1,0 +1,98 @@
+//! Responses by HTTP.
+
+ghost use Rattle.sentry_contexts.specs.Responses.{response_fields, response_in_order};
+
+use sentry_members::{Formed, Member};
+use sentry_rows::{AsTable, Copier, CopyTable, Giver, ReadTable, Reader, Sink, Table};
+use sentry_trees::Node;
+use serde_json::{Map, Value};
+use std::alloc::{AllocError, Global};
+
+/// A response to a request by HTTP.
+///
+/// <https://develop.sentry.dev/sdk/data-model/event-payloads/contexts/#response-context>
+#[derive(Debug, Drop, PartialEq)]
+pub struct ResponseContext {
+    /// The cookies, as they were sent.
+    pub cookies: Option<String>,
+    /// The headers, by name; those of one name joined, as HTTP joins them.
+    pub headers: Map<String, String>,
+    /// The status.
+    pub status_code: Option<u64>,
+    /// The size of the body, in bytes.
+    pub body_size: Option<u64>,
+    /// The body, in any form. Its key is `data`. The tree null is written as null, and is read as no body.
+    pub data_: Option<Value>,
+}
+
+#[tactic(auto, unfolding(crate::specs::Responses::response_fields))]
+impl ResponseContext {
+    ghost use Rattle.std.specs.Prelude.{◌≡◌, IfOk};
+    ghost use Rattle.sentry_tables.specs.Defaults.{IsDefault};
+    ghost use Rattle.sentry_contexts.specs.Responses.{response_cell};
+
+    /// A response of which nothing is known.
+    pub fn default_in(alloc: Global) -> ResponseContext
+        ensures { IsDefault response_fields result }
+    {
+        ResponseContext {
+            cookies: None,
+            headers: Map::new(alloc),
+            status_code: None,
+            body_size: None,
+            data_: None,
+        }
+    }
+
+    /// The same response. It fails where memory is refused.
+    pub fn clone(&self) -> Result<ResponseContext, AllocError>
+        ensures { IfOk result (λ copy. response_cell copy ≡ response_cell self.now) }
+    {
+        self.copy()
+    }
+}
+
+impl Formed for ResponseContext {
+    type Form = AsTable;
+}
+
+#[tactic(auto, unfolding(crate::specs::Responses::response_fields))]
+impl Table for ResponseContext {
+    ghost lines = { response_fields };
+
+    fn rows<S: Sink>(&self, to: &mut Giver<'_, S>) {
+        to.optional("body_size", &self.body_size);
+        to.optional("cookies", &self.cookies);
+        to.optional("data", &self.data_);
+        to.map("headers", &self.headers);
+        to.optional("status_code", &self.status_code);
+    }
+
+    ghost ordered = { response_in_order };
+}
+
+#[tactic(auto, unfolding(crate::specs::Responses::response_fields))]
+impl ReadTable for ResponseContext {
+    fn read<N: Node>(from: &mut Reader<'_, N>) -> ResponseContext {
+        ResponseContext {
+            body_size: from.optional("body_size"),
+            cookies: from.optional("cookies"),
+            data_: from.optional("data"),
+            headers: from.map("headers"),
+            status_code: from.optional("status_code"),
+        }
+    }
+}
+
+#[tactic(auto, unfolding(crate::specs::Responses::response_fields))]
+impl CopyTable for ResponseContext {
+    fn copied(&self, copies: &mut Copier) -> Result<ResponseContext, AllocError> {
+        Ok(ResponseContext {
+            body_size: copies.optional(&self.body_size),
+            cookies: copies.optional(&self.cookies),
+            data_: copies.optional(&self.data_),
+            headers: copies.map(&self.headers)?,
+            status_code: copies.optional(&self.status_code),
+        })
+    }
+}

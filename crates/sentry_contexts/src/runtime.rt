@@ -1,0 +1,106 @@
+//! What runs the code of programs.
+
+ghost use Rattle.std.specs.Prelude.{[], ◌∷◌};
+ghost use Rattle.serde_json.specs.View.{members_view};
+ghost use Rattle.sentry_tables.specs.Kind.{tag};
+ghost use Rattle.sentry_contexts.specs.Systems.{runtime_fields, runtime_in_order};
+
+use sentry_members::{Formed, Member};
+use sentry_rows::{AsKept, Copier, CopyKept, Giver, KeptTable, ReadKept, Reader, Sink, Table};
+use sentry_trees::Node;
+use serde_json::{Map, Value};
+use std::alloc::{AllocError, Global};
+
+/// What runs the code of a program, as a virtual machine or an interpreter.
+///
+/// <https://develop.sentry.dev/sdk/data-model/event-payloads/contexts/#runtime-context>
+#[derive(Debug, Drop, PartialEq)]
+pub struct RuntimeContext {
+    /// The name of the runtime.
+    pub name: Option<String>,
+    /// The version of the runtime.
+    pub version: Option<String>,
+    /// What else is known, under other keys. Where one of the keys above or `type` is among these, the
+    /// context isn't plain, and can't be written.
+    pub other: Map<String, Value>,
+}
+
+#[tactic(auto, unfolding(crate::specs::Systems::runtime_fields))]
+impl RuntimeContext {
+    ghost use Rattle.std.specs.Prelude.{◌≡◌, IfOk};
+    ghost use Rattle.serde_json.specs.Data.{no_members};
+    ghost use Rattle.sentry_tables.specs.Defaults.{IsDefault};
+    ghost use Rattle.sentry_contexts.specs.Systems.{runtime_cell};
+
+    /// A runtime of which nothing is known.
+    pub fn default_in(alloc: Global) -> RuntimeContext
+        ensures rows { IsDefault runtime_fields result }
+        ensures other { members_view result.other.entries ≡ no_members }
+    {
+        RuntimeContext {
+            name: None,
+            version: None,
+            other: Map::new(alloc),
+        }
+    }
+
+    /// The same runtime. It fails where memory is refused.
+    pub fn clone(&self) -> Result<RuntimeContext, AllocError>
+        ensures { IfOk result (λ copy. runtime_cell copy ≡ runtime_cell self.now) }
+    {
+        self.copy()
+    }
+}
+
+impl Formed for RuntimeContext {
+    type Form = AsKept;
+}
+
+#[tactic(auto, unfolding(crate::specs::Systems::runtime_fields))]
+impl Table for RuntimeContext {
+    ghost lines = { runtime_fields };
+
+    fn rows<S: Sink>(&self, to: &mut Giver<'_, S>) {
+        to.optional("name", &self.name);
+        to.optional("version", &self.version);
+    }
+
+    ghost ordered = { runtime_in_order };
+}
+
+#[tactic(auto, unfolding(crate::specs::Systems::runtime_fields))]
+impl KeptTable for RuntimeContext {
+    ghost reserved = { tag ∷ [] };
+
+    ghost others_of = { λ r. members_view r.other.entries };
+
+    fn others(&self) -> &Map<String, Value> {
+        &self.other
+    }
+
+    fn names() -> &'static [&'static str] {
+        &["type", "name", "version"]
+    }
+}
+
+#[tactic(auto, unfolding(crate::specs::Systems::runtime_fields))]
+impl ReadKept for RuntimeContext {
+    fn read<N: Node>(from: &mut Reader<'_, N>) -> RuntimeContext {
+        RuntimeContext {
+            name: from.optional("name"),
+            version: from.optional("version"),
+            other: from.others(RuntimeContext::names()),
+        }
+    }
+}
+
+#[tactic(auto, unfolding(crate::specs::Systems::runtime_fields))]
+impl CopyKept for RuntimeContext {
+    fn copied(&self, copies: &mut Copier) -> Result<RuntimeContext, AllocError> {
+        Ok(RuntimeContext {
+            name: copies.optional(&self.name),
+            version: copies.optional(&self.version),
+            other: copies.others(&self.other)?,
+        })
+    }
+}
