@@ -1,0 +1,97 @@
+-- The tables of spans, transactions and events are lawful.
+use Rattle.std.proofs.Common.{codes, refl}
+use Rattle.std.proofs.lemmas.Option.{none-some}
+use Rattle.json.proofs.Printed.Utf8.{IsUtf8-are_ascii}
+use Rattle.sentry_tables.proofs.Basic.{text_laws, truth_laws, any_laws}
+use Rattle.sentry_tables.proofs.ByRows.{laws_by_rows, empty_map_stands, empty_values_stand}
+use Rattle.sentry_tables.proofs.Laws.{has_laws}
+use Rattle.sentry_tables.specs.Cell.{text}
+use Rattle.sentry_tables.specs.Fields.{rows_of}
+use Rattle.sentry_tables.specs.Kind.{default, draw, may_strict}
+use Rattle.sentry_tables.specs.Laws.{HasLaws}
+use Rattle.sentry_tables.specs.Lawful.{RuleLaws, IsLawful}
+use Rattle.sentry_members.specs.Kinds.{text_kind}
+use Rattle.sentry_members.proofs.Spellings.{spelled_laws, spelled_refuses_null}
+use Rattle.sentry_words.specs.Level.{level_kind, level_spelling}
+use Rattle.sentry_words.specs.SpanStatus.{span_status_kind, span_status_spelling}
+use Rattle.sentry_words.specs.declared.level.Level.TheVariants as level
+use Rattle.sentry_words.proofs.Enumerations.{level_laws, span_status_laws}
+use Rattle.sentry_moments.specs.MomentForms.{rfc3339_kind}
+use Rattle.sentry_moments.proofs.MomentSpellings.{rfc3339_scalar_laws, rfc3339_refuses_null, seconds_laws, seconds_at_once}
+use Rattle.sentry_identifiers.specs.HexIdTree.{IsOctets, hex_id_spelling, span_kind, trace_kind}
+use Rattle.sentry_identifiers.specs.Uuids.{IsRandomUuid, simple, simple_kind}
+use Rattle.sentry_identifiers.proofs.HexIdTrees.{hex_id_laws, drawn_id_laws}
+use Rattle.sentry_identifiers.proofs.UuidLaws.{simple_laws, drawn_uuid_laws}
+use Rattle.sentry_frames.proofs.TableLaws.{entry_lawful, stacktrace_lawful, template_lawful, thread_lawful, exception_lawful}
+use Rattle.sentry_parts.proofs.ClientSdkLaws.{sdk_lawful}
+use Rattle.sentry_parts.proofs.DebugLaws.{meta_lawful, meta_stands}
+use Rattle.sentry_parts.proofs.TableLaws.{breadcrumb_lawful, user_lawful, request_lawful}
+use Rattle.sentry_contexts.proofs.ContextLaws.{contexts_lawful, no_contexts_stand}
+use Rattle.sentry_event.specs.Events.{event_fields, event_kind}
+use Rattle.sentry_event.specs.Fingerprints.{fingerprint_kind}
+use Rattle.sentry_event.specs.Spans.{span_table_fields, span_table_kind}
+use Rattle.sentry_event.specs.Transactions.{transaction_fields, transaction_kind}
+use Rattle.sentry_event.proofs.FingerprintLaws.{fingerprint_default, fingerprint_lawful}
+
+-- ---- scalars and defaults
+
+level_lawful : IsLawful level_kind
+level_lawful = spelled_laws level_spelling level_laws
+
+status_lawful : IsLawful span_status_kind
+status_lawful = spelled_laws span_status_spelling span_status_laws
+
+ended_lawful : IsLawful rfc3339_kind
+ended_lawful = rfc3339_scalar_laws
+
+ended_stands : RuleLaws may_strict rfc3339_kind
+ended_stands = rfc3339_refuses_null
+
+span_lawful : IsLawful span_kind
+span_lawful = spelled_laws (hex_id_spelling 8) (hex_id_laws 8)
+
+trace_lawful : IsLawful trace_kind
+trace_lawful = spelled_laws (hex_id_spelling 16) (hex_id_laws 16)
+
+span_drawn : RuleLaws (draw (IsOctets 8)) span_kind
+span_drawn = drawn_id_laws 8
+
+trace_drawn : RuleLaws (draw (IsOctets 16)) trace_kind
+trace_drawn = drawn_id_laws 16
+
+id_drawn : RuleLaws (draw IsRandomUuid) simple_kind
+id_drawn = drawn_uuid_laws simple
+
+error_stands : RuleLaws (default (text (codes "error"))) level_kind
+error_stands = (spelled_refuses_null level_spelling, ((level.Error, refl), tt, tt, refl))
+
+other_stands : RuleLaws (default (text (codes "other"))) text_kind
+other_stands = ((λ now c h. none-some c h), (IsUtf8-are_ascii (codes "other") refl, tt, tt, refl))
+
+-- ---- tables
+
+span_table_lawful : IsLawful span_table_kind
+unfolding span_table_fields
+span_table_lawful = laws_by_rows (rows_of span_table_fields) refl (search (text_laws, truth_laws, any_laws, span_lawful, trace_lawful, span_drawn, trace_drawn, status_lawful, seconds_laws, seconds_at_once, ended_lawful, ended_stands, empty_map_stands))
+
+transaction_lawful : IsLawful transaction_kind
+unfolding transaction_fields
+transaction_lawful = laws_by_rows (rows_of transaction_fields) refl (search (text_laws, any_laws, simple_laws, id_drawn, user_lawful, request_lawful, sdk_lawful, span_table_lawful, contexts_lawful, no_contexts_stand, other_stands, seconds_laws, seconds_at_once, ended_lawful, ended_stands, empty_map_stands))
+
+event_lawful : IsLawful event_kind
+unfolding event_fields
+event_lawful = laws_by_rows (rows_of event_fields) refl (search (text_laws, any_laws, simple_laws, id_drawn, level_lawful, error_stands, fingerprint_lawful, fingerprint_default, entry_lawful, stacktrace_lawful, template_lawful, thread_lawful, exception_lawful, breadcrumb_lawful, user_lawful, request_lawful, meta_lawful, meta_stands, sdk_lawful, contexts_lawful, no_contexts_stand, other_stands, seconds_laws, seconds_at_once, empty_map_stands, empty_values_stand))
+
+-- ---- their laws
+
+pub span_table_laws : HasLaws span_table_kind
+span_table_laws = has_laws span_table_kind span_table_lawful
+
+pub transaction_laws : HasLaws transaction_kind
+transaction_laws = has_laws transaction_kind transaction_lawful
+
+pub event_laws : HasLaws event_kind
+event_laws = has_laws event_kind event_lawful
+
+pub fingerprint_laws : HasLaws fingerprint_kind
+fingerprint_laws = has_laws fingerprint_kind fingerprint_lawful

@@ -1,0 +1,3 @@
+pub mod EventLaws
+pub mod FingerprintForms
+pub mod FingerprintLaws

@@ -1,0 +1,4 @@
+pub mod Events
+pub mod Fingerprints
+pub mod Spans
+pub mod Transactions

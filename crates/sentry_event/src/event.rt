@@ -1,0 +1,342 @@
+//! Events.
+
+ghost use Rattle.sentry_event.specs.Events.{event_fields, event_in_order};
+
+use crate::fingerprint::{AsFingerprint, owned_texts};
+use crate::owned::{owned_option, owned_text};
+use rand_core::Rng;
+use sentry_contexts::Context;
+use sentry_frames::{Exception, LogEntry, Stacktrace, TemplateInfo, Thread};
+use sentry_identifiers::{Simple, random_uuid};
+use sentry_members::{Formed, Member};
+use sentry_moments::{Moment, Seconds};
+use sentry_parts::{Breadcrumb, ClientSdkInfo, DebugMeta, Request, User};
+use sentry_readers::MadeCodec;
+use sentry_rows::{
+    AsCaseMap, AsTable, Copier, CopyTable, Giver, ReadTableAt, Reader, Sink, Table, Values,
+};
+use sentry_trees::Node;
+use sentry_words::Level;
+use serde_json::{Map, Value};
+use std::alloc::{AllocError, Global};
+use std::borrow::CowStr;
+use std::fmt;
+use uuid::Uuid;
+
+/// An event: something that happened in a program, as an error.
+///
+/// An event that is read without `event_id` takes an id from the generator, and one without `timestamp`
+/// the moment of reading.
+///
+/// <https://develop.sentry.dev/sdk/data-model/event-payloads/>
+#[derive(Debug, Drop, PartialEq)]
+pub struct Event<'a> {
+    /// The id of the event.
+    pub event_id: Uuid,
+    /// How grave it is; `error` where it is absent.
+    pub level: Level,
+    /// What the event is grouped by; `["{{ default }}"]` where it is absent.
+    ///
+    /// The one text `{{default}}` is another spelling of that.
+    pub fingerprint: Vec<CowStr<'a>>,
+    /// What in the program is to blame.
+    pub culprit: Option<String>,
+    /// The name of the transaction that the event came about in.
+    pub transaction: Option<String>,
+    /// A message for people.
+    pub message: Option<String>,
+    /// A message with parameters.
+    pub logentry: Option<LogEntry>,
+    /// The name of the logger that made the event.
+    pub logger: Option<String>,
+    /// The versions of the modules, by name.
+    pub modules: Map<String, String>,
+    /// The platform of the program; `other` where it is absent.
+    pub platform: CowStr<'a>,
+    /// When the event was made.
+    pub timestamp: Moment,
+    /// The name of the server or device.
+    pub server_name: Option<CowStr<'a>>,
+    /// The release of the program.
+    pub release: Option<CowStr<'a>>,
+    /// The distribution of the release.
+    pub dist: Option<CowStr<'a>>,
+    /// The environment that the program runs in, as `production`.
+    pub environment: Option<CowStr<'a>>,
+    /// Whom it happened to.
+    pub user: Option<User>,
+    /// The request that the program was answering.
+    pub request: Option<Request>,
+    /// What was around the program, by name.
+    pub contexts: Map<String, Context>,
+    /// What happened before.
+    pub breadcrumbs: Values<Breadcrumb>,
+    /// The exceptions, each before the one that it caused.
+    pub exception: Values<Exception>,
+    /// A stack trace of no thread or exception.
+    pub stacktrace: Option<Stacktrace>,
+    /// Where in a template the error came about.
+    pub template: Option<TemplateInfo>,
+    /// The threads of the program.
+    pub threads: Values<Thread>,
+    /// What it can be searched by.
+    pub tags: Map<String, String>,
+    /// What else is known of it.
+    pub extra: Map<String, Value>,
+    /// What debuggers need to read the addresses.
+    pub debug_meta: DebugMeta,
+    /// The software that sends it.
+    pub sdk: Option<ClientSdkInfo>,
+}
+
+#[tactic(auto, unfolding(crate::specs::Events::event_fields))]
+impl<'a> Event<'a> {
+    ghost use Rattle.std.specs.Prelude.{◌≡◌, IfErr, IfOk};
+    ghost use Rattle.rand_core.specs.Stream.{fill_bytes};
+    ghost use Rattle.uuid.specs.Parts.{v4_of_fill};
+    ghost use Rattle.sentry_tables.specs.Defaults.{IsDefaultAt};
+    ghost use Rattle.sentry_moments.specs.Moments.{moment_cell};
+    ghost use Rattle.sentry_event.specs.Events.{event_cell};
+
+    /// A new event of this moment, of the level `error` and the usual fingerprint, of which nothing else
+    /// is known.
+    ///
+    /// Its id is drawn from the generator. It fails where memory is refused, and draws nothing then.
+    pub fn new<R: Rng>(alloc: Global, now: Moment, ids: &mut R) -> Result<Event<'a>, AllocError>
+        ensures rows { IfOk result (λ e. IsDefaultAt (moment_cell now) event_fields e) }
+        ensures id { IfOk result (λ e. (e.event_id, R.stream ids.new) ≡ v4_of_fill (fill_bytes 16 (R.stream ids.old))) }
+        ensures refused { IfErr result (λ e. R.stream ids.new ≡ R.stream ids.old) }
+    {
+        let fingerprint = AsFingerprint::make(alloc)?;
+        let event_id = random_uuid(ids);
+        Ok(Event {
+            event_id,
+            level: Level::Error,
+            fingerprint,
+            culprit: None,
+            transaction: None,
+            message: None,
+            logentry: None,
+            logger: None,
+            modules: Map::new(alloc),
+            platform: CowStr::Borrowed("other"),
+            timestamp: now,
+            server_name: None,
+            release: None,
+            dist: None,
+            environment: None,
+            user: None,
+            request: None,
+            contexts: Map::new(alloc),
+            breadcrumbs: Values {
+                values: Vec::new(alloc),
+            },
+            exception: Values {
+                values: Vec::new(alloc),
+            },
+            stacktrace: None,
+            template: None,
+            threads: Values {
+                values: Vec::new(alloc),
+            },
+            tags: Map::new(alloc),
+            extra: Map::new(alloc),
+            debug_meta: DebugMeta::default_in(alloc),
+            sdk: None,
+        })
+    }
+
+    /// The same event, which borrows nothing. Where memory is refused it is handed back.
+    pub fn into_owned(self, alloc: Global) -> Result<Event<'static>, Event<'a>>
+        ensures owned { IfOk result (λ e. event_cell e ≡ event_cell self.entry) }
+        ensures handed_back { IfErr result (λ back. back ≡ self.entry) }
+    {
+        let Ok(fingerprint_owned) = owned_texts(alloc, &self.fingerprint) else {
+            return Err(self);
+        };
+        let Ok(platform_owned) = owned_text(alloc, &self.platform) else {
+            return Err(self);
+        };
+        let Ok(server_name_owned) = owned_option(alloc, &self.server_name) else {
+            return Err(self);
+        };
+        let Ok(release_owned) = owned_option(alloc, &self.release) else {
+            return Err(self);
+        };
+        let Ok(dist_owned) = owned_option(alloc, &self.dist) else {
+            return Err(self);
+        };
+        let Ok(environment_owned) = owned_option(alloc, &self.environment) else {
+            return Err(self);
+        };
+        Ok(Event {
+            event_id: self.event_id,
+            level: self.level,
+            fingerprint: fingerprint_owned,
+            culprit: self.culprit,
+            transaction: self.transaction,
+            message: self.message,
+            logentry: self.logentry,
+            logger: self.logger,
+            modules: self.modules,
+            platform: platform_owned,
+            timestamp: self.timestamp,
+            server_name: server_name_owned,
+            release: release_owned,
+            dist: dist_owned,
+            environment: environment_owned,
+            user: self.user,
+            request: self.request,
+            contexts: self.contexts,
+            breadcrumbs: self.breadcrumbs,
+            exception: self.exception,
+            stacktrace: self.stacktrace,
+            template: self.template,
+            threads: self.threads,
+            tags: self.tags,
+            extra: self.extra,
+            debug_meta: self.debug_meta,
+            sdk: self.sdk,
+        })
+    }
+
+    /// The same event. It fails where memory is refused.
+    pub fn clone(&self) -> Result<Event<'a>, AllocError>
+        ensures { IfOk result (λ copy. event_cell copy ≡ event_cell self.now) }
+    {
+        self.copy()
+    }
+}
+
+/// The id of the event, with hyphens, and its moment:
+/// `Event(id: d43e86c9-6e42-4a93-a4fb-da156dd17341, ts: 2017-12-24T08:12:00Z)`.
+impl fmt::Display for Event<'_> {
+    ghost use Rattle.std.specs.Prelude.{Some};
+    ghost use Rattle.sentry_event.specs.Events.{event_text};
+
+    ghost output = { λ e. Some (event_text e) };
+
+    fn fmt<W: fmt::Write>(&self, f: &mut fmt::Formatter<W>) -> fmt::Result {
+        let id = self.event_id.hyphenated();
+        write!(f, "Event(id: {}, ts: {})", id, self.timestamp)
+    }
+}
+
+impl<'a> Formed for Event<'a> {
+    type Form = AsTable;
+}
+
+#[tactic(auto, unfolding(crate::specs::Events::event_fields))]
+impl<'a> Table for Event<'a> {
+    ghost lines = { event_fields };
+
+    fn rows<S: Sink>(&self, to: &mut Giver<'_, S>) {
+        to.values("breadcrumbs", &self.breadcrumbs);
+        to.unless_usual_as::<AsCaseMap, Map<String, Context>>("contexts", &self.contexts);
+        to.optional("culprit", &self.culprit);
+        to.unless_usual("debug_meta", &self.debug_meta);
+        to.optional("dist", &self.dist);
+        to.optional("environment", &self.environment);
+        to.drawn_as::<Simple, Uuid>("event_id", &self.event_id);
+        to.values("exception", &self.exception);
+        to.map("extra", &self.extra);
+        to.unless_usual_as::<AsFingerprint, Vec<CowStr<'a>>>("fingerprint", &self.fingerprint);
+        to.unless("level", &self.level, &Level::Error);
+        to.optional("logentry", &self.logentry);
+        to.optional("logger", &self.logger);
+        to.optional("message", &self.message);
+        to.map("modules", &self.modules);
+        to.text_unless("platform", &self.platform, "other");
+        to.optional("release", &self.release);
+        to.optional("request", &self.request);
+        to.optional("sdk", &self.sdk);
+        to.optional("server_name", &self.server_name);
+        to.optional("stacktrace", &self.stacktrace);
+        to.map("tags", &self.tags);
+        to.optional("template", &self.template);
+        to.values("threads", &self.threads);
+        to.at_once_as::<Seconds, Moment>("timestamp", &self.timestamp);
+        to.optional("transaction", &self.transaction);
+        to.optional("user", &self.user);
+    }
+
+    ghost ordered = { event_in_order };
+}
+
+#[tactic(auto, unfolding(crate::specs::Events::event_fields))]
+impl<'a> ReadTableAt for Event<'a> {
+    fn read<N: Node, R: Rng>(from: &mut Reader<'_, N>, now: Moment, ids: &mut R) -> Event<'a> {
+        Event {
+            breadcrumbs: from.values_at("breadcrumbs", now, ids),
+            contexts: from.or_as_at::<AsCaseMap, Map<String, Context>, R>(
+                "contexts",
+                Map::new(from.alloc),
+                now,
+                ids,
+            ),
+            culprit: from.optional("culprit"),
+            debug_meta: from.or("debug_meta", DebugMeta::default_in(from.alloc)),
+            dist: from.optional("dist"),
+            environment: from.optional("environment"),
+            event_id: from.drawn_as::<Simple, Uuid, R>("event_id", ids),
+            exception: from.values("exception"),
+            extra: from.map("extra"),
+            fingerprint: from.made_as::<AsFingerprint, Vec<CowStr<'a>>>(
+                "fingerprint",
+                Vec::new(from.alloc),
+            ),
+            level: from.or("level", Level::Error),
+            logentry: from.optional("logentry"),
+            logger: from.optional("logger"),
+            message: from.optional("message"),
+            modules: from.map("modules"),
+            platform: from.cow_or("platform", "other"),
+            release: from.optional("release"),
+            request: from.optional("request"),
+            sdk: from.optional("sdk"),
+            server_name: from.optional("server_name"),
+            stacktrace: from.optional("stacktrace"),
+            tags: from.map("tags"),
+            template: from.optional("template"),
+            threads: from.values("threads"),
+            timestamp: from.at_once_as::<Seconds>("timestamp", now),
+            transaction: from.optional("transaction"),
+            user: from.optional("user"),
+        }
+    }
+}
+
+#[tactic(auto, unfolding(crate::specs::Events::event_fields))]
+impl<'a> CopyTable for Event<'a> {
+    fn copied(&self, copies: &mut Copier) -> Result<Event<'a>, AllocError> {
+        Ok(Event {
+            breadcrumbs: copies.values(&self.breadcrumbs),
+            contexts: copies.of_as::<AsCaseMap, Map<String, Context>>(&self.contexts)?,
+            culprit: copies.optional(&self.culprit),
+            debug_meta: copies.of(&self.debug_meta)?,
+            dist: copies.optional(&self.dist),
+            environment: copies.optional(&self.environment),
+            event_id: copies.plain_as::<Simple, Uuid>(&self.event_id),
+            exception: copies.values(&self.exception),
+            extra: copies.map(&self.extra)?,
+            fingerprint: copies.of_as::<AsFingerprint, Vec<CowStr<'a>>>(&self.fingerprint)?,
+            level: copies.plain(&self.level),
+            logentry: copies.optional(&self.logentry),
+            logger: copies.optional(&self.logger),
+            message: copies.optional(&self.message),
+            modules: copies.map(&self.modules)?,
+            platform: copies.cow(&self.platform),
+            release: copies.optional(&self.release),
+            request: copies.optional(&self.request),
+            sdk: copies.optional(&self.sdk),
+            server_name: copies.optional(&self.server_name),
+            stacktrace: copies.optional(&self.stacktrace),
+            tags: copies.map(&self.tags)?,
+            template: copies.optional(&self.template),
+            threads: copies.values(&self.threads),
+            timestamp: copies.plain_as::<Seconds, Moment>(&self.timestamp),
+            transaction: copies.optional(&self.transaction),
+            user: copies.optional(&self.user),
+        })
+    }
+}

@@ -1,0 +1,143 @@
+//! The form of fingerprints of events.
+
+ghost use Rattle.std.specs.Prelude.{◌≡◌, OnOk, IfOk};
+ghost use Rattle.serde_json.specs.View.{view};
+ghost use Rattle.sentry_tables.specs.Cell.{same_cell};
+ghost use Rattle.sentry_tables.specs.Kind.{list as list_kind};
+ghost use Rattle.sentry_members.specs.Kinds.{text_kind};
+ghost use Rattle.sentry_members.specs.Written.{written, WritesTree};
+ghost use Rattle.sentry_event.specs.Fingerprints.{fingerprint_kind, fingerprint_cell, one_text, usual_fingerprint};
+
+use crate::owned::owned_text;
+use json::Writer;
+use sentry_members::codec::DefaultedCodec;
+use sentry_members::{Codec, FromTree, Member, ReadCodec, TreeError, Way};
+use sentry_readers::MadeCodec;
+use sentry_trees::Node;
+use serde_json::Value;
+use std::alloc::{AllocError, Global};
+use std::borrow::CowStr;
+
+/// The form of a fingerprint: a list of texts, of which `["{{default}}"]` is written as
+/// `["{{ default }}"]`, the usual one.
+///
+/// <https://develop.sentry.dev/sdk/data-model/event-payloads/>
+pub struct AsFingerprint;
+
+// Whether the list is of this one text.
+#[tactic(auto, using(crate::proofs::FingerprintForms::not_one))]
+fn is_one<'a>(texts: &Vec<CowStr<'a>>, text: &str) -> bool
+    ensures { result ≡ same_cell (fingerprint_cell texts.now.items) (one_text text.now) }
+{
+    match texts.as_slice().split_first() {
+        Some((first, rest)) => rest.is_empty() && first.as_str() == text,
+        None => false,
+    }
+}
+
+// The tree of the usual fingerprint.
+fn usual_tree(alloc: Global) -> Result<Value, AllocError>
+    ensures { IfOk result (λ t. view t ≡ written (list_kind text_kind) usual_fingerprint) }
+{
+    let mut items = Vec::with_capacity(alloc, 1)?;
+    items.push(Value::try_from_str(alloc, "{{ default }}")?)?;
+    Ok(Value::Array(items))
+}
+
+// Writes the text of that tree.
+fn write_usual(out: &mut Writer) -> Result<(), AllocError>
+    ensures { OnOk result (WritesTree (written (list_kind text_kind) usual_fingerprint) out.old out.new) }
+{
+    out.begin_array()?;
+    out.string("{{ default }}")?;
+    out.end_array()
+}
+
+// The usual fingerprint.
+fn usual<'a>(alloc: Global) -> Result<Vec<CowStr<'a>>, AllocError>
+    ensures { IfOk result (λ v. fingerprint_cell v.items ≡ usual_fingerprint) }
+{
+    let mut texts = Vec::with_capacity(alloc, 1)?;
+    texts.push(CowStr::Borrowed("{{ default }}"))?;
+    Ok(texts)
+}
+
+impl<'a> Codec<Vec<CowStr<'a>>> for AsFingerprint {
+    ghost kind = { fingerprint_kind };
+
+    ghost cell_of = { λ v. fingerprint_cell v.items };
+
+    fn to_tree(value: &Vec<CowStr<'a>>, alloc: Global) -> Result<Value, AllocError> {
+        if is_one(value, "{{default}}") {
+            usual_tree(alloc)
+        } else {
+            value.to_tree(alloc)
+        }
+    }
+
+    fn write(value: &Vec<CowStr<'a>>, out: &mut Writer) -> Result<(), AllocError> {
+        if is_one(value, "{{default}}") {
+            write_usual(out)
+        } else {
+            value.write(out)
+        }
+    }
+
+    fn remade(value: &Vec<CowStr<'a>>, way: Way) -> Result<Vec<CowStr<'a>>, AllocError> {
+        match way {
+            Way::Same => value.copy(),
+            Way::Normal => {
+                if is_one(value, "{{default}}") {
+                    usual(*value.allocator())
+                } else {
+                    value.copy()
+                }
+            }
+        }
+    }
+
+    #[tactic(auto, unfolding(crate::specs::Fingerprints::fingerprint_kind))]
+    fn is_null_tree(_value: &Vec<CowStr<'a>>) -> bool {
+        false
+    }
+
+    #[tactic(auto, unfolding(crate::specs::Fingerprints::fingerprint_kind))]
+    fn is_plain(value: &Vec<CowStr<'a>>) -> bool {
+        value.is_plain()
+    }
+}
+
+impl<'a> DefaultedCodec<Vec<CowStr<'a>>> for AsFingerprint {
+    ghost usual = { usual_fingerprint };
+
+    fn is_usual(value: &Vec<CowStr<'a>>) -> bool {
+        is_one(value, "{{ default }}") || is_one(value, "{{default}}")
+    }
+}
+
+impl<'a> ReadCodec<Vec<CowStr<'a>>> for AsFingerprint {
+    #[tactic(auto, using(crate::proofs::FingerprintForms::fingerprint_read))]
+    fn from_node<N: Node>(alloc: Global, node: &N) -> Result<Vec<CowStr<'a>>, TreeError> {
+        FromTree::from_node(alloc, node)
+    }
+}
+
+impl<'a> MadeCodec<Vec<CowStr<'a>>> for AsFingerprint {
+    fn make(alloc: Global) -> Result<Vec<CowStr<'a>>, AllocError> {
+        usual(alloc)
+    }
+}
+
+/// A fingerprint of the same texts, which borrows nothing. It fails where memory is refused.
+pub fn owned_texts<'a>(
+    alloc: Global,
+    texts: &Vec<CowStr<'a>>,
+) -> Result<Vec<CowStr<'static>>, AllocError>
+    ensures { IfOk result (λ v. fingerprint_cell v.items ≡ fingerprint_cell texts.now.items) }
+{
+    let mut list = Vec::with_capacity(alloc, texts.len())?;
+    for text in texts {
+        list.push(owned_text(alloc, text)?)?;
+    }
+    Ok(list)
+}

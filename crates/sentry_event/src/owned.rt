@@ -1,0 +1,27 @@
+//! Texts that borrow nothing.
+
+ghost use Rattle.std.specs.Prelude.{◌≡◌, IfOk};
+ghost use Rattle.sentry_members.specs.Cells.{cow_cell, option_cell};
+
+use std::alloc::{AllocError, Global};
+use std::borrow::CowStr;
+
+/// The same text, which borrows nothing. It fails where memory is refused.
+pub fn owned_text<'a>(alloc: Global, text: &CowStr<'a>) -> Result<CowStr<'static>, AllocError>
+    ensures { IfOk result (λ t. cow_cell t ≡ cow_cell text.now) }
+{
+    Ok(CowStr::Owned(String::from_str(alloc, text.as_str())?))
+}
+
+/// The same text, if there is one, which borrows nothing. It fails where memory is refused.
+pub fn owned_option<'a>(
+    alloc: Global,
+    text: &Option<CowStr<'a>>,
+) -> Result<Option<CowStr<'static>>, AllocError>
+    ensures { IfOk result (λ t. option_cell cow_cell t ≡ option_cell cow_cell text.now) }
+{
+    match text {
+        Some(text) => Ok(Some(owned_text(alloc, text)?)),
+        None => Ok(None),
+    }
+}

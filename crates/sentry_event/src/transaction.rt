@@ -1,0 +1,251 @@
+//! Transactions.
+
+ghost use Rattle.sentry_event.specs.Transactions.{transaction_fields, transaction_in_order};
+
+use crate::owned::{owned_option, owned_text};
+use crate::span::Span;
+use rand_core::Rng;
+use sentry_contexts::Context;
+use sentry_identifiers::{Simple, random_uuid};
+use sentry_members::{Formed, Member};
+use sentry_moments::{Moment, Rfc3339, Seconds};
+use sentry_parts::{ClientSdkInfo, Request, User};
+use sentry_rows::{AsCaseMap, AsTable, Copier, CopyTable, Giver, ReadTableAt, Reader, Sink, Table};
+use sentry_trees::Node;
+use serde_json::{Map, Value};
+use std::alloc::{AllocError, Global};
+use std::borrow::CowStr;
+use std::fmt;
+use uuid::Uuid;
+
+/// A transaction: the spans of one piece of work.
+///
+/// A transaction that is read without `event_id` takes an id from the generator, and one without
+/// `start_timestamp` the moment of reading.
+///
+/// <https://develop.sentry.dev/sdk/data-model/event-payloads/transaction/>
+#[derive(Debug, Drop, PartialEq)]
+pub struct Transaction<'a> {
+    /// The id of the transaction, which is one of an event.
+    pub event_id: Uuid,
+    /// The name of the transaction. Its key is `transaction`.
+    pub name: Option<String>,
+    /// The release of the program.
+    pub release: Option<CowStr<'a>>,
+    /// The environment that the program runs in, as `production`.
+    pub environment: Option<CowStr<'a>>,
+    /// Whom the work was done for.
+    pub user: Option<User>,
+    /// What it can be searched by.
+    pub tags: Map<String, String>,
+    /// What else is known of it.
+    pub extra: Map<String, Value>,
+    /// The software that sends it.
+    pub sdk: Option<ClientSdkInfo>,
+    /// The platform of the program; `other` where it is absent.
+    pub platform: CowStr<'a>,
+    /// When it ended, as RFC 3339 text.
+    pub timestamp: Option<Moment>,
+    /// When it began.
+    pub start_timestamp: Moment,
+    /// Its spans.
+    pub spans: Vec<Span>,
+    /// What was around the program, by name.
+    pub contexts: Map<String, Context>,
+    /// The request that the work was for.
+    pub request: Option<Request>,
+    /// The name of the server or device.
+    pub server_name: Option<CowStr<'a>>,
+}
+
+#[tactic(auto, unfolding(crate::specs::Transactions::transaction_fields))]
+impl<'a> Transaction<'a> {
+    ghost use Rattle.std.specs.Prelude.{◌≡◌, IfErr, IfOk};
+    ghost use Rattle.rand_core.specs.Stream.{fill_bytes};
+    ghost use Rattle.uuid.specs.Parts.{v4_of_fill};
+    ghost use Rattle.sentry_tables.specs.Defaults.{IsDefaultAt};
+    ghost use Rattle.sentry_moments.specs.Moments.{moment_cell};
+    ghost use Rattle.sentry_event.specs.Transactions.{EndsAt, transaction_cell};
+
+    /// A new transaction that begins at this moment, without spans, of which nothing else is known.
+    ///
+    /// Its id is drawn from the generator.
+    pub fn new<R: Rng>(alloc: Global, now: Moment, ids: &mut R) -> Transaction<'a>
+        ensures rows { IsDefaultAt (moment_cell now) transaction_fields result }
+        ensures id { (result.event_id, R.stream ids.new) ≡ v4_of_fill (fill_bytes 16 (R.stream ids.old)) }
+    {
+        let event_id = random_uuid(ids);
+        Transaction {
+            event_id,
+            name: None,
+            release: None,
+            environment: None,
+            user: None,
+            tags: Map::new(alloc),
+            extra: Map::new(alloc),
+            sdk: None,
+            platform: CowStr::Borrowed("other"),
+            timestamp: None,
+            start_timestamp: now,
+            spans: Vec::new(alloc),
+            contexts: Map::new(alloc),
+            request: None,
+            server_name: None,
+        }
+    }
+
+    /// The same transaction, which borrows nothing. Where memory is refused it is handed back.
+    pub fn into_owned(self, alloc: Global) -> Result<Transaction<'static>, Transaction<'a>>
+        ensures owned { IfOk result (λ t. transaction_cell t ≡ transaction_cell self.entry) }
+        ensures handed_back { IfErr result (λ back. back ≡ self.entry) }
+    {
+        let Ok(platform_owned) = owned_text(alloc, &self.platform) else {
+            return Err(self);
+        };
+        let Ok(release_owned) = owned_option(alloc, &self.release) else {
+            return Err(self);
+        };
+        let Ok(environment_owned) = owned_option(alloc, &self.environment) else {
+            return Err(self);
+        };
+        let Ok(server_name_owned) = owned_option(alloc, &self.server_name) else {
+            return Err(self);
+        };
+        Ok(Transaction {
+            event_id: self.event_id,
+            name: self.name,
+            release: release_owned,
+            environment: environment_owned,
+            user: self.user,
+            tags: self.tags,
+            extra: self.extra,
+            sdk: self.sdk,
+            platform: platform_owned,
+            timestamp: self.timestamp,
+            start_timestamp: self.start_timestamp,
+            spans: self.spans,
+            contexts: self.contexts,
+            request: self.request,
+            server_name: server_name_owned,
+        })
+    }
+
+    /// Ends the transaction at the moment at hand.
+    pub fn finish(&mut self, now: Moment)
+        ensures { EndsAt now self.old self.new }
+    {
+        self.timestamp = Some(now);
+    }
+
+    /// Ends the transaction at a moment.
+    pub fn finish_with_timestamp(&mut self, timestamp: Moment)
+        ensures { EndsAt timestamp self.old self.new }
+    {
+        self.timestamp = Some(timestamp);
+    }
+
+    /// The same transaction. It fails where memory is refused.
+    pub fn clone(&self) -> Result<Transaction<'a>, AllocError>
+        ensures { IfOk result (λ copy. transaction_cell copy ≡ transaction_cell self.now) }
+    {
+        self.copy()
+    }
+}
+
+/// The id of the transaction, with hyphens, and when it began:
+/// `Transaction(id: d43e86c9-6e42-4a93-a4fb-da156dd17341, ts: 2017-12-24T08:12:00Z)`.
+impl fmt::Display for Transaction<'_> {
+    ghost use Rattle.std.specs.Prelude.{Some};
+    ghost use Rattle.sentry_event.specs.Transactions.{transaction_text};
+
+    ghost output = { λ t. Some (transaction_text t) };
+
+    fn fmt<W: fmt::Write>(&self, f: &mut fmt::Formatter<W>) -> fmt::Result {
+        let id = self.event_id.hyphenated();
+        write!(f, "Transaction(id: {}, ts: {})", id, self.start_timestamp)
+    }
+}
+
+impl<'a> Formed for Transaction<'a> {
+    type Form = AsTable;
+}
+
+#[tactic(auto, unfolding(crate::specs::Transactions::transaction_fields))]
+impl<'a> Table for Transaction<'a> {
+    ghost lines = { transaction_fields };
+
+    fn rows<S: Sink>(&self, to: &mut Giver<'_, S>) {
+        to.unless_usual_as::<AsCaseMap, Map<String, Context>>("contexts", &self.contexts);
+        to.optional("environment", &self.environment);
+        to.drawn_as::<Simple, Uuid>("event_id", &self.event_id);
+        to.map("extra", &self.extra);
+        to.text_unless("platform", &self.platform, "other");
+        to.optional("release", &self.release);
+        to.optional("request", &self.request);
+        to.optional("sdk", &self.sdk);
+        to.optional("server_name", &self.server_name);
+        to.required("spans", &self.spans);
+        to.at_once_as::<Seconds, Moment>("start_timestamp", &self.start_timestamp);
+        to.map("tags", &self.tags);
+        to.optional_strict_as::<Rfc3339, Moment>("timestamp", &self.timestamp);
+        to.optional("transaction", &self.name);
+        to.optional("user", &self.user);
+    }
+
+    ghost ordered = { transaction_in_order };
+}
+
+#[tactic(auto, unfolding(crate::specs::Transactions::transaction_fields))]
+impl<'a> ReadTableAt for Transaction<'a> {
+    fn read<N: Node, R: Rng>(
+        from: &mut Reader<'_, N>,
+        now: Moment,
+        ids: &mut R,
+    ) -> Transaction<'a> {
+        Transaction {
+            contexts: from.or_as_at::<AsCaseMap, Map<String, Context>, R>(
+                "contexts",
+                Map::new(from.alloc),
+                now,
+                ids,
+            ),
+            environment: from.optional("environment"),
+            event_id: from.drawn_as::<Simple, Uuid, R>("event_id", ids),
+            extra: from.map("extra"),
+            platform: from.cow_or("platform", "other"),
+            release: from.optional("release"),
+            request: from.optional("request"),
+            sdk: from.optional("sdk"),
+            server_name: from.optional("server_name"),
+            spans: from.required_list_at("spans", now, ids),
+            start_timestamp: from.at_once_as::<Seconds>("start_timestamp", now),
+            tags: from.map("tags"),
+            timestamp: from.optional_strict_as::<Rfc3339, Moment>("timestamp"),
+            name: from.optional("transaction"),
+            user: from.optional("user"),
+        }
+    }
+}
+
+#[tactic(auto, unfolding(crate::specs::Transactions::transaction_fields))]
+impl<'a> CopyTable for Transaction<'a> {
+    fn copied(&self, copies: &mut Copier) -> Result<Transaction<'a>, AllocError> {
+        Ok(Transaction {
+            contexts: copies.of_as::<AsCaseMap, Map<String, Context>>(&self.contexts)?,
+            environment: copies.optional(&self.environment),
+            event_id: copies.plain_as::<Simple, Uuid>(&self.event_id),
+            extra: copies.map(&self.extra)?,
+            platform: copies.cow(&self.platform),
+            release: copies.optional(&self.release),
+            request: copies.optional(&self.request),
+            sdk: copies.optional(&self.sdk),
+            server_name: copies.optional(&self.server_name),
+            spans: copies.list(&self.spans),
+            start_timestamp: copies.plain_as::<Seconds, Moment>(&self.start_timestamp),
+            tags: copies.map(&self.tags)?,
+            timestamp: copies.optional_strict_as::<Rfc3339, Moment>(&self.timestamp),
+            name: copies.optional(&self.name),
+            user: copies.optional(&self.user),
+        })
+    }
+}
