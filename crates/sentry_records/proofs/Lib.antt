@@ -1,0 +1,4 @@
+pub mod Attributes
+pub mod Equal
+pub mod Schedules
+pub mod TableLaws

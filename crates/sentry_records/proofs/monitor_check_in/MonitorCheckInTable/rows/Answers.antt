@@ -1,0 +1,7 @@
+use Rattle.std.proofs.Common.{refl}
+use Rattle.sentry_records.specs.Monitors.{check_in_fields}
+use Rattle.sentry_records.proofs.monitor_check_in.MonitorCheckInTable.rows.Goals as goal
+
+pub returns : goal.returns
+unfolding check_in_fields
+returns g c = (_, c.required_as.ensures, (_, c.optional.ensures, (_, c.optional-2.ensures, (_, c.optional-3.ensures, (_, c.required.ensures, (_, c.required-2.ensures, refl))))))

@@ -1,0 +1,28 @@
+//! What envelopes carry beside events: sessions, check-ins of monitors, logs, metrics and what users say;
+//! and what traces are sampled by.
+#![tactic(auto)]
+
+pub mod laws;
+pub mod log_attribute;
+pub mod monitor_check_in;
+pub mod monitor_config;
+pub mod monitor_schedule;
+pub mod sampling;
+mod schedule_rows;
+pub mod session_aggregate_item;
+pub mod session_aggregates;
+pub mod session_attributes;
+pub mod session_update;
+mod stand_in;
+pub mod user_report;
+
+pub use log_attribute::LogAttribute;
+pub use monitor_check_in::MonitorCheckIn;
+pub use monitor_config::MonitorConfig;
+pub use monitor_schedule::{MonitorSchedule, ScheduleError};
+pub use sampling::DynamicSamplingContext;
+pub use session_aggregate_item::SessionAggregateItem;
+pub use session_aggregates::SessionAggregates;
+pub use session_attributes::SessionAttributes;
+pub use session_update::SessionUpdate;
+pub use user_report::UserReport;

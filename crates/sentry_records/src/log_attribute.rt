@@ -1,0 +1,252 @@
+//! Attributes of logs and metrics.
+
+ghost use Rattle.std.specs.Prelude.{◌≡◌, OnOk, None};
+ghost use Rattle.serde_json.specs.Data.{number as number_data, string as string_data, member, no_members};
+ghost use Rattle.serde_json.specs.Find.{as_i64};
+ghost use Rattle.serde_json.specs.View.{view, number_view};
+ghost use Rattle.sentry_tables.specs.Kind.{tag};
+ghost use Rattle.sentry_members.specs.Reading.{Reads};
+ghost use Rattle.sentry_records.specs.LogAttribute.{attribute_cell, attribute_form, attribute_kind, attribute_members, compacted, value_key, ReadsTyped};
+
+use json::Writer;
+use sentry_members::spelled::printed;
+use sentry_members::tree::has_float;
+use sentry_members::{Own, Room, TreeError, text_of};
+use sentry_rows::Sink;
+use sentry_rows::sink::TreeRows;
+use sentry_rows::tagged::tag;
+use sentry_trees::Node;
+use serde_json::{Number, Value};
+use std::alloc::{AllocError, Global};
+use std::str;
+
+/// The value of an attribute.
+///
+/// A text is of the type `string`, a truth value of `boolean`, a whole number below 2^63 of `integer`; all
+/// else is a `string` of its compact text.
+///
+/// <https://develop.sentry.dev/sdk/telemetry/attributes/>
+#[derive(Debug, Drop, PartialEq)]
+pub struct LogAttribute(pub Value);
+
+impl LogAttribute {
+    ghost use Rattle.std.specs.Prelude.{◌↔◌, IfOk, IsTrue};
+    ghost use Rattle.sentry_tables.specs.Meets.{IsPlain, IsStored};
+    ghost use Rattle.sentry_members.specs.Written.{written, WritesTree};
+
+    /// The attribute that a tree shows, by the text at `type` and the value at `value`.
+    ///
+    /// # Errors
+    ///
+    /// - `Misfit`: the tree shows none: the value is not of the type that is named, or is a number from 2^63 on.
+    /// - `Memory`: memory is refused.
+    pub fn from_tree(alloc: Global, tree: &Value) -> Result<LogAttribute, TreeError>
+        ensures { Reads attribute_kind attribute_cell (view tree.now) result }
+    {
+        LogAttribute::from_node(alloc, &tree)
+    }
+
+    // The attribute that a node shows.
+    #[tactic(auto, using(crate::proofs::Attributes::attribute_is, crate::proofs::Attributes::no_type, crate::proofs::Attributes::no_value, crate::proofs::Attributes::another_type))]
+    fn from_node<N: Node>(alloc: Global, node: &N) -> Result<LogAttribute, TreeError>
+        ensures { Reads attribute_kind attribute_cell (N.data_of node.now) result }
+    {
+        let Some(word) = tag(node) else {
+            return Err(TreeError::Misfit);
+        };
+        match node.get("value") {
+            Some(value) => Ok(LogAttribute(typed(alloc, word, &value)?)),
+            None => Err(TreeError::Misfit),
+        }
+    }
+
+    /// The written tree. It fails where memory is refused.
+    pub fn to_tree(&self, alloc: Global) -> Result<Value, AllocError>
+        ensures { IfOk result (λ t. view t ≡ written attribute_kind (attribute_cell self.now)) }
+    {
+        let mut rows = TreeRows::new(alloc);
+        self.give(&mut rows)?;
+        Ok(rows.into_tree())
+    }
+
+    /// Writes the text of that tree. It fails where memory is refused, with a part of the text written.
+    pub fn write(&self, out: &mut Writer) -> Result<(), AllocError>
+        ensures { OnOk result (WritesTree (written attribute_kind (attribute_cell self.now)) out.old out.new) }
+    {
+        out.begin_object()?;
+        self.give(out)?;
+        out.end_object()
+    }
+
+    // Gives a sink the members of the written tree.
+    fn give<S: Sink<Refusal = AllocError>>(&self, sink: &mut S) -> Result<(), AllocError>
+        ensures { OnOk result (S.Adds sink.old sink.new (attribute_members (attribute_form (view self.now.0)))) }
+    {
+        match &self.0 {
+            Value::Null => give_text("null", sink),
+            Value::Bool(_) => give_typed("boolean", &self.0, sink),
+            Value::Number(number) => {
+                if number.as_i64().is_some() {
+                    give_typed("integer", &self.0, sink)
+                } else {
+                    give_large(number, sink)
+                }
+            }
+            Value::String(text) => give_text(text.as_str(), sink),
+            Value::Array(items) => give_compact(*items.allocator(), &self.0, sink),
+            Value::Object(members) => match members.iter().next() {
+                Some((key, _)) => give_compact(*key.allocator(), &self.0, sink),
+                None => give_text("{}", sink),
+            },
+        }
+    }
+
+    /// Whether the value's tree holds no floats.
+    #[tactic(auto, using(sentry_members::proofs::SoundTrees::sound_is_stored), unfolding(crate::specs::LogAttribute::attribute_kind))]
+    pub fn is_plain(&self) -> bool
+        ensures plain { IsTrue result ↔ IsPlain attribute_kind (attribute_cell self.now) }
+        ensures stored { IsTrue result → IsStored attribute_kind (attribute_cell self.now) }
+    {
+        !has_float(&self.0)
+    }
+
+    /// The same attribute. It fails where memory is refused.
+    pub fn clone(&self) -> Result<LogAttribute, AllocError>
+        ensures { IfOk result (λ copy. attribute_cell copy ≡ attribute_cell self.now) }
+    {
+        Ok(LogAttribute(self.0.clone()?))
+    }
+}
+
+// Gives a sink the members of an attribute of a type.
+fn give_typed<S: Sink<Refusal = AllocError>>(
+    word: &str,
+    value: &Value,
+    sink: &mut S,
+) -> Result<(), AllocError>
+    ensures { OnOk result (S.Adds sink.old sink.new
+        (member tag (string_data word.now) (member value_key (view value.now) no_members))) }
+{
+    sink.word("type", word)?;
+    sink.member::<Own, Value>("value", value)
+}
+
+// Gives a sink the members of an attribute that is written as a text.
+fn give_text<S: Sink<Refusal = AllocError>>(text: &str, sink: &mut S) -> Result<(), AllocError>
+    ensures { OnOk result (S.Adds sink.old sink.new (attribute_members (string_data text.now))) }
+{
+    sink.word("type", "string")?;
+    sink.word("value", text)
+}
+
+// Gives a sink the members of an attribute that is written as its compact text.
+fn give_compact<S: Sink<Refusal = AllocError>>(
+    alloc: Global,
+    value: &Value,
+    sink: &mut S,
+) -> Result<(), AllocError>
+    ensures { OnOk result (S.Adds sink.old sink.new (attribute_members (compacted (view value.now)))) }
+{
+    if has_float(value) {
+        return give_text("", sink);
+    }
+    let text = text_of(alloc, value)?;
+    match str::from_utf8(text.as_slice()) {
+        Ok(text) => give_text(text, sink),
+        Err(_) => unreachable!(),
+    }
+}
+
+// Gives a sink the members of an attribute that is a number from 2^63 on, or a float.
+#[tactic(auto, using(sentry_numbers::proofs::Lengths::decimal_size))]
+fn give_large<S: Sink<Refusal = AllocError>>(
+    number: &Number,
+    sink: &mut S,
+) -> Result<(), AllocError>
+    ensures { OnOk result (as_i64 (number_view number.now) ≡ None
+        → S.Adds sink.old sink.new (attribute_members (compacted (number_data (number_view number.now))))) }
+{
+    match number.as_u64() {
+        Some(natural) => {
+            let mut room = Room::new();
+            give_text(printed(&natural, &mut room)?, sink)
+        }
+        None => give_text("", sink),
+    }
+}
+
+// The value, where it is of the type that is named.
+fn typed<N: Node>(alloc: Global, word: &str, value: &N) -> Result<Value, TreeError>
+    ensures { ReadsTyped word.now (N.data_of value.now) result }
+{
+    match word {
+        "string" => match value.as_str() {
+            Some(text) => Ok(Value::try_from_str(alloc, text)?),
+            None => Err(TreeError::Misfit),
+        },
+        "integer" => match value.as_i64() {
+            Some(whole) => Ok(Value::from(whole)),
+            None => Err(TreeError::Misfit),
+        },
+        "boolean" => match value.as_bool() {
+            Some(truth) => Ok(Value::from(truth)),
+            None => Err(TreeError::Misfit),
+        },
+        _ => Err(TreeError::Misfit),
+    }
+}
+
+/// The tree.
+impl From<Value> for LogAttribute {
+    ghost from_gives = { λ tree a. a.0 ≡ tree };
+
+    fn from(value: Value) -> LogAttribute {
+        LogAttribute(value)
+    }
+}
+
+/// The truth value.
+impl From<bool> for LogAttribute {
+    ghost use Rattle.serde_json.specs.Data.{boolean};
+
+    ghost from_gives = { λ truth a. view a.0 ≡ boolean truth };
+
+    fn from(truth: bool) -> LogAttribute {
+        LogAttribute(Value::from(truth))
+    }
+}
+
+/// The number.
+impl From<i64> for LogAttribute {
+    ghost use Rattle.serde_json.specs.Data.{number};
+    ghost use Rattle.serde_json.specs.Find.{of_integer};
+
+    ghost from_gives = { λ n a. view a.0 ≡ number (of_integer n) };
+
+    fn from(number: i64) -> LogAttribute {
+        LogAttribute(Value::from(number))
+    }
+}
+
+/// The number. From 2^63 on it is written as a text.
+impl From<u64> for LogAttribute {
+    ghost use Rattle.serde_json.specs.Data.{number, unsigned};
+
+    ghost from_gives = { λ n a. view a.0 ≡ number (unsigned n) };
+
+    fn from(number: u64) -> LogAttribute {
+        LogAttribute(Value::from(number))
+    }
+}
+
+/// The text.
+impl From<String> for LogAttribute {
+    ghost use Rattle.std.specs.Prelude.{string_bytes};
+    ghost use Rattle.serde_json.specs.Data.{string};
+
+    ghost from_gives = { λ s a. view a.0 ≡ string (string_bytes s) };
+
+    fn from(text: String) -> LogAttribute {
+        LogAttribute(Value::from(text))
+    }
+}

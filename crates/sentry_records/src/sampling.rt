@@ -1,0 +1,218 @@
+//! What traces are sampled by.
+
+ghost use Rattle.sentry_records.specs.Sampling.{sampling_fields, sampling_in_order};
+
+use sentry_identifiers::TraceId;
+use sentry_members::{Formed, Member};
+use sentry_moments::{SampleRand, SampleRate};
+use sentry_numbers::{OrganizationId, OrganizationText};
+use sentry_rows::{AsTable, Copier, CopyTable, Giver, ReadTable, Reader, Sink, Table};
+use sentry_trees::Node;
+use sentry_words::Sampled;
+use std::alloc::{AllocError, Global};
+
+/// What a trace is sampled by, the same for all of its events: the header `trace` of an envelope.
+///
+/// <https://develop.sentry.dev/sdk/telemetry/traces/dynamic-sampling-context/>
+#[derive(Debug, Drop, PartialEq)]
+pub struct DynamicSamplingContext {
+    trace_id: Option<TraceId>,
+    public_key: Option<String>,
+    sample_rate: Option<SampleRate>,
+    sample_rand: Option<SampleRand>,
+    sampled: Option<bool>,
+    release: Option<String>,
+    environment: Option<String>,
+    transaction: Option<String>,
+    org_id: Option<OrganizationId>,
+}
+
+#[tactic(auto, unfolding(crate::specs::Sampling::sampling_fields))]
+impl DynamicSamplingContext {
+    ghost use Rattle.std.specs.Prelude.{◌≡◌, IfOk, codes};
+    ghost use Rattle.sentry_tables.specs.Defaults.{IsDefault};
+    ghost use Rattle.sentry_members.specs.Cells.{text_cell, natural_cell};
+    ghost use Rattle.sentry_identifiers.specs.HexIdTree.{trace_cell};
+    ghost use Rattle.sentry_moments.specs.SamplingTexts.{sample_rand_cell};
+    ghost use Rattle.sentry_numbers.specs.ProjectTree.{organization_cell};
+    ghost use Rattle.sentry_words.specs.Sampled.{sampled_cell};
+    ghost use Rattle.sentry_records.specs.Sampling.{sampling_cell, with_row};
+
+    /// A context of which nothing is known.
+    pub fn new() -> DynamicSamplingContext
+        ensures { IsDefault sampling_fields result }
+    {
+        DynamicSamplingContext {
+            trace_id: None,
+            public_key: None,
+            sample_rate: None,
+            sample_rand: None,
+            sampled: None,
+            release: None,
+            environment: None,
+            transaction: None,
+            org_id: None,
+        }
+    }
+
+    /// A context of which nothing is known.
+    pub fn default_in(_alloc: Global) -> DynamicSamplingContext
+        ensures { IsDefault sampling_fields result }
+    {
+        DynamicSamplingContext::new()
+    }
+
+    /// The same context with this id of the trace.
+    pub fn with_trace_id(self, trace_id: TraceId) -> DynamicSamplingContext
+        ensures { sampling_cell result ≡ with_row (codes "trace_id") (trace_cell trace_id) self }
+    {
+        DynamicSamplingContext {
+            trace_id: Some(trace_id),
+            ..self
+        }
+    }
+
+    /// The same context with this public key, which is that of the DSN.
+    pub fn with_public_key(self, public_key: String) -> DynamicSamplingContext
+        ensures { sampling_cell result ≡ with_row (codes "public_key") (text_cell public_key) self }
+    {
+        DynamicSamplingContext {
+            public_key: Some(public_key),
+            ..self
+        }
+    }
+
+    /// The same context with this sample rate, in billionths: 10^9 of them are a rate of 1.
+    pub fn with_sample_rate(self, billionths: u64) -> DynamicSamplingContext
+        ensures { sampling_cell result ≡ with_row (codes "sample_rate") (natural_cell billionths) self }
+    {
+        DynamicSamplingContext {
+            sample_rate: Some(SampleRate(billionths)),
+            ..self
+        }
+    }
+
+    /// The same context with this random value.
+    pub fn with_sample_rand(self, sample_rand: SampleRand) -> DynamicSamplingContext
+        ensures { sampling_cell result ≡ with_row (codes "sample_rand") (sample_rand_cell sample_rand) self }
+    {
+        DynamicSamplingContext {
+            sample_rand: Some(sample_rand),
+            ..self
+        }
+    }
+
+    /// The same context, of a trace that was sampled or was not.
+    pub fn with_sampled(self, sampled: bool) -> DynamicSamplingContext
+        ensures { sampling_cell result ≡ with_row (codes "sampled") (sampled_cell sampled) self }
+    {
+        DynamicSamplingContext {
+            sampled: Some(sampled),
+            ..self
+        }
+    }
+
+    /// The same context with this release.
+    pub fn with_release(self, release: String) -> DynamicSamplingContext
+        ensures { sampling_cell result ≡ with_row (codes "release") (text_cell release) self }
+    {
+        DynamicSamplingContext {
+            release: Some(release),
+            ..self
+        }
+    }
+
+    /// The same context with this environment.
+    pub fn with_environment(self, environment: String) -> DynamicSamplingContext
+        ensures { sampling_cell result ≡ with_row (codes "environment") (text_cell environment) self }
+    {
+        DynamicSamplingContext {
+            environment: Some(environment),
+            ..self
+        }
+    }
+
+    /// The same context with this name of the transaction.
+    pub fn with_transaction(self, transaction: String) -> DynamicSamplingContext
+        ensures { sampling_cell result ≡ with_row (codes "transaction") (text_cell transaction) self }
+    {
+        DynamicSamplingContext {
+            transaction: Some(transaction),
+            ..self
+        }
+    }
+
+    /// The same context with this id of the organization.
+    pub fn with_org_id(self, org_id: OrganizationId) -> DynamicSamplingContext
+        ensures { sampling_cell result ≡ with_row (codes "org_id") (organization_cell org_id) self }
+    {
+        DynamicSamplingContext {
+            org_id: Some(org_id),
+            ..self
+        }
+    }
+
+    /// The same context. It fails where memory is refused.
+    pub fn clone(&self) -> Result<DynamicSamplingContext, AllocError>
+        ensures { IfOk result (λ copy. sampling_cell copy ≡ sampling_cell self.now) }
+    {
+        self.copy()
+    }
+}
+
+impl Formed for DynamicSamplingContext {
+    type Form = AsTable;
+}
+
+#[tactic(auto, unfolding(crate::specs::Sampling::sampling_fields))]
+impl Table for DynamicSamplingContext {
+    ghost lines = { sampling_fields };
+
+    fn rows<S: Sink>(&self, to: &mut Giver<'_, S>) {
+        to.optional("environment", &self.environment);
+        to.optional_as::<OrganizationText, OrganizationId>("org_id", &self.org_id);
+        to.optional("public_key", &self.public_key);
+        to.optional("release", &self.release);
+        to.optional("sample_rand", &self.sample_rand);
+        to.optional("sample_rate", &self.sample_rate);
+        to.optional_as::<Sampled, bool>("sampled", &self.sampled);
+        to.optional("trace_id", &self.trace_id);
+        to.optional("transaction", &self.transaction);
+    }
+
+    ghost ordered = { sampling_in_order };
+}
+
+#[tactic(auto, unfolding(crate::specs::Sampling::sampling_fields))]
+impl ReadTable for DynamicSamplingContext {
+    fn read<N: Node>(from: &mut Reader<'_, N>) -> DynamicSamplingContext {
+        DynamicSamplingContext {
+            environment: from.optional("environment"),
+            org_id: from.optional_as::<OrganizationText, OrganizationId>("org_id"),
+            public_key: from.optional("public_key"),
+            release: from.optional("release"),
+            sample_rand: from.optional("sample_rand"),
+            sample_rate: from.optional("sample_rate"),
+            sampled: from.optional_as::<Sampled, bool>("sampled"),
+            trace_id: from.optional("trace_id"),
+            transaction: from.optional("transaction"),
+        }
+    }
+}
+
+#[tactic(auto, unfolding(crate::specs::Sampling::sampling_fields))]
+impl CopyTable for DynamicSamplingContext {
+    fn copied(&self, copies: &mut Copier) -> Result<DynamicSamplingContext, AllocError> {
+        Ok(DynamicSamplingContext {
+            environment: copies.optional(&self.environment),
+            org_id: copies.optional_as::<OrganizationText, OrganizationId>(&self.org_id),
+            public_key: copies.optional(&self.public_key),
+            release: copies.optional(&self.release),
+            sample_rand: copies.optional(&self.sample_rand),
+            sample_rate: copies.optional(&self.sample_rate),
+            sampled: copies.optional_as::<Sampled, bool>(&self.sampled),
+            trace_id: copies.optional(&self.trace_id),
+            transaction: copies.optional(&self.transaction),
+        })
+    }
+}

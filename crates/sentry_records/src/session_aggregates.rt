@@ -1,0 +1,69 @@
+//! Sessions that are counted.
+
+ghost use Rattle.sentry_records.specs.Sessions.{groups_fields, groups_in_order};
+
+use crate::session_aggregate_item::SessionAggregateItem;
+use crate::session_attributes::SessionAttributes;
+use sentry_members::{Formed, Member};
+use sentry_rows::{AsTable, Copier, CopyTable, Giver, ReadTable, Reader, Sink, Table};
+use sentry_trees::Node;
+use std::alloc::AllocError;
+
+/// Sessions that are counted, in place of an update for each.
+///
+/// <https://develop.sentry.dev/sdk/telemetry/sessions/>
+#[derive(Debug, Drop, PartialEq)]
+pub struct SessionAggregates<'a> {
+    /// The sessions, in groups.
+    pub aggregates: Vec<SessionAggregateItem>,
+    /// What is common to them. Its key is `attrs`.
+    pub attributes: SessionAttributes<'a>,
+}
+
+impl<'a> SessionAggregates<'a> {
+    ghost use Rattle.std.specs.Prelude.{◌≡◌, IfOk};
+    ghost use Rattle.sentry_records.specs.Sessions.{groups_cell};
+
+    /// The same aggregates. It fails where memory is refused.
+    pub fn clone(&self) -> Result<SessionAggregates<'a>, AllocError>
+        ensures { IfOk result (λ copy. groups_cell copy ≡ groups_cell self.now) }
+    {
+        self.copy()
+    }
+}
+
+impl<'a> Formed for SessionAggregates<'a> {
+    type Form = AsTable;
+}
+
+#[tactic(auto, unfolding(crate::specs::Sessions::groups_fields))]
+impl<'a> Table for SessionAggregates<'a> {
+    ghost lines = { groups_fields };
+
+    fn rows<S: Sink>(&self, to: &mut Giver<'_, S>) {
+        to.written_list("aggregates", &self.aggregates);
+        to.required("attrs", &self.attributes);
+    }
+
+    ghost ordered = { groups_in_order };
+}
+
+#[tactic(auto, unfolding(crate::specs::Sessions::groups_fields))]
+impl<'a> ReadTable for SessionAggregates<'a> {
+    fn read<N: Node>(from: &mut Reader<'_, N>) -> SessionAggregates<'a> {
+        SessionAggregates {
+            aggregates: from.written_list("aggregates"),
+            attributes: from.required("attrs", SessionAttributes::blank()),
+        }
+    }
+}
+
+#[tactic(auto, unfolding(crate::specs::Sessions::groups_fields))]
+impl<'a> CopyTable for SessionAggregates<'a> {
+    fn copied(&self, copies: &mut Copier) -> Result<SessionAggregates<'a>, AllocError> {
+        Ok(SessionAggregates {
+            aggregates: copies.list(&self.aggregates),
+            attributes: copies.of(&self.attributes)?,
+        })
+    }
+}

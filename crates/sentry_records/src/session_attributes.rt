@@ -1,0 +1,92 @@
+//! Attributes of sessions.
+
+ghost use Rattle.sentry_records.specs.Sessions.{attributes_fields, attributes_in_order};
+
+use sentry_addresses::IpText;
+use sentry_members::{Formed, Member};
+use sentry_rows::{AsTable, Copier, CopyTable, Giver, ReadTable, Reader, Sink, Table};
+use sentry_trees::Node;
+use std::alloc::AllocError;
+use std::borrow::CowStr;
+use std::net::IpAddr;
+
+/// What is common to the sessions of an update or of aggregates.
+///
+/// <https://develop.sentry.dev/sdk/telemetry/sessions/>
+#[derive(Debug, Drop, PartialEq)]
+pub struct SessionAttributes<'a> {
+    /// The release.
+    pub release: CowStr<'a>,
+    /// The environment.
+    pub environment: Option<CowStr<'a>>,
+    /// The address of the user, by which sessions are filtered.
+    pub ip_address: Option<IpAddr>,
+    /// The user agent of the user, by which sessions are filtered.
+    pub user_agent: Option<String>,
+}
+
+impl<'a> SessionAttributes<'a> {
+    ghost use Rattle.std.specs.Prelude.{◌≡◌, IfOk, None};
+    ghost use Rattle.sentry_records.specs.Sessions.{attributes_cell};
+
+    // Attributes of an empty release, which stand in for those that could not be read.
+    pub(crate) fn blank() -> SessionAttributes<'a>
+        ensures { result.user_agent ≡ None }
+    {
+        SessionAttributes {
+            release: CowStr::Borrowed(""),
+            environment: None,
+            ip_address: None,
+            user_agent: None,
+        }
+    }
+
+    /// The same attributes. It fails where memory is refused.
+    pub fn clone(&self) -> Result<SessionAttributes<'a>, AllocError>
+        ensures { IfOk result (λ copy. attributes_cell copy ≡ attributes_cell self.now) }
+    {
+        self.copy()
+    }
+}
+
+impl<'a> Formed for SessionAttributes<'a> {
+    type Form = AsTable;
+}
+
+#[tactic(auto, unfolding(crate::specs::Sessions::attributes_fields))]
+impl<'a> Table for SessionAttributes<'a> {
+    ghost lines = { attributes_fields };
+
+    fn rows<S: Sink>(&self, to: &mut Giver<'_, S>) {
+        to.optional("environment", &self.environment);
+        to.optional_as::<IpText, IpAddr>("ip_address", &self.ip_address);
+        to.required("release", &self.release);
+        to.optional("user_agent", &self.user_agent);
+    }
+
+    ghost ordered = { attributes_in_order };
+}
+
+#[tactic(auto, unfolding(crate::specs::Sessions::attributes_fields))]
+impl<'a> ReadTable for SessionAttributes<'a> {
+    fn read<N: Node>(from: &mut Reader<'_, N>) -> SessionAttributes<'a> {
+        SessionAttributes {
+            environment: from.optional("environment"),
+            ip_address: from.optional_as::<IpText, IpAddr>("ip_address"),
+            release: from.cow("release"),
+            user_agent: from.optional("user_agent"),
+        }
+    }
+}
+
+#[tactic(auto, unfolding(crate::specs::Sessions::attributes_fields))]
+impl<'a> CopyTable for SessionAttributes<'a> {
+    fn copied(&self, copies: &mut Copier) -> Result<SessionAttributes<'a>, AllocError> {
+        Ok(SessionAttributes {
+            environment: copies.optional(&self.environment),
+            ip_address: copies.optional_as::<IpText, IpAddr>(&self.ip_address),
+            release: copies.cow(&self.release),
+            user_agent: copies.optional(&self.user_agent),
+        })
+    }
+}

@@ -1,0 +1,79 @@
+//! What users say of events.
+
+ghost use Rattle.sentry_records.specs.UserReports.{user_report_fields, user_report_in_order};
+
+use sentry_identifiers::Simple;
+use sentry_members::{Formed, Member};
+use sentry_rows::{AsTable, Copier, CopyTable, Giver, ReadTable, Reader, Sink, Table};
+use sentry_trees::Node;
+use std::alloc::AllocError;
+use uuid::Uuid;
+
+/// What a user says of an event.
+///
+/// <https://develop.sentry.dev/sdk/data-model/envelope-items/#user-report>
+#[derive(Debug, Drop, PartialEq)]
+pub struct UserReport {
+    /// The id of the event.
+    pub event_id: Uuid,
+    /// The name of the user.
+    pub name: Option<String>,
+    /// The address of the user by mail.
+    pub email: Option<String>,
+    /// What the user says.
+    pub comments: String,
+}
+
+impl UserReport {
+    ghost use Rattle.std.specs.Prelude.{◌≡◌, IfOk};
+    ghost use Rattle.sentry_records.specs.UserReports.{user_report_cell};
+
+    /// The same report. It fails where memory is refused.
+    pub fn clone(&self) -> Result<UserReport, AllocError>
+        ensures { IfOk result (λ copy. user_report_cell copy ≡ user_report_cell self.now) }
+    {
+        self.copy()
+    }
+}
+
+impl Formed for UserReport {
+    type Form = AsTable;
+}
+
+#[tactic(auto, unfolding(crate::specs::UserReports::user_report_fields))]
+impl Table for UserReport {
+    ghost lines = { user_report_fields };
+
+    fn rows<S: Sink>(&self, to: &mut Giver<'_, S>) {
+        to.required("comments", &self.comments);
+        to.optional("email", &self.email);
+        to.required_as::<Simple, Uuid>("event_id", &self.event_id);
+        to.optional("name", &self.name);
+    }
+
+    ghost ordered = { user_report_in_order };
+}
+
+#[tactic(auto, unfolding(crate::specs::UserReports::user_report_fields))]
+impl ReadTable for UserReport {
+    fn read<N: Node>(from: &mut Reader<'_, N>) -> UserReport {
+        UserReport {
+            comments: from.text("comments"),
+            email: from.optional("email"),
+            event_id: from.required_as::<Simple, Uuid>("event_id", Uuid::nil()),
+            name: from.optional("name"),
+        }
+    }
+}
+
+#[tactic(auto, unfolding(crate::specs::UserReports::user_report_fields))]
+impl CopyTable for UserReport {
+    fn copied(&self, copies: &mut Copier) -> Result<UserReport, AllocError> {
+        Ok(UserReport {
+            comments: copies.text(&self.comments),
+            email: copies.optional(&self.email),
+            event_id: copies.plain_as::<Simple, Uuid>(&self.event_id),
+            name: copies.optional(&self.name),
+        })
+    }
+}
