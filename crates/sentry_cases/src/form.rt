@@ -2,7 +2,10 @@
 
 use crate::said::{list, refused, text};
 use json::{Scratch, Writer};
+use rand_pcg::Pcg32;
 use sentry_members::{Codec, FromTree, Own, ReadCodec, TreeError, Way, read_tree};
+use sentry_text::timed::ReadCodecAt;
+use sentry_text::{FromTreeAt, Moment};
 use sentry_trees::{Line, LineError};
 use serde_json::Value;
 use std::alloc::{AllocError, Global};
@@ -41,6 +44,15 @@ fn by_tree<F: ReadCodec<T>, T: Drop>(alloc: Global, line: &[u8]) -> Result<T, Tr
     F::from_node(alloc, &&tree)
 }
 
+// The answer of both readings of a line, which have to agree.
+fn agreed(alloc: Global, by_tree: Value, by_tape: Value) -> Result<Value, AllocError> {
+    if by_tape.to_string(alloc)?.as_str() == by_tree.to_string(alloc)?.as_str() {
+        Ok(by_tree)
+    } else {
+        list(alloc, [text(alloc, "by tape")?, by_tape, by_tree])
+    }
+}
+
 /// What is written of the value that a line shows. The line is read as a tree of values and, where it has one, as a
 /// tape, and both have to give the same answer.
 pub fn form<F: ReadCodec<T>, T: Drop>(alloc: Global, line: &[u8]) -> Result<Value, AllocError> {
@@ -52,17 +64,46 @@ pub fn form<F: ReadCodec<T>, T: Drop>(alloc: Global, line: &[u8]) -> Result<Valu
         Err(LineError::Memory) => Err(TreeError::Memory),
         Err(LineError::Unfit) => return Ok(told),
     };
-    let told_by_tape = answered::<F, T>(alloc, &by_tape)?;
-    if told_by_tape.to_string(alloc)?.as_str() == told.to_string(alloc)?.as_str() {
-        Ok(told)
-    } else {
-        list(alloc, [text(alloc, "by tape")?, told_by_tape, told])
-    }
+    agreed(alloc, told, answered::<F, T>(alloc, &by_tape)?)
 }
 
 /// The same for a type with one form.
 pub fn own<T: FromTree>(alloc: Global, line: &[u8]) -> Result<Value, AllocError> {
     form::<Own, T>(alloc, line)
+}
+
+// The value that a line shows as a tree of values at a moment.
+fn by_tree_at<F: ReadCodecAt<T>, T: Drop>(
+    alloc: Global,
+    line: &[u8],
+    now: Moment,
+) -> Result<T, TreeError> {
+    let tree = read_tree(alloc, line)?;
+    F::from_node(alloc, &&tree, now, &mut Pcg32::new(42, 54))
+}
+
+/// What is written of the value that a line shows at 2020-07-20T14:51:14.296Z. The line is read twice, as by `form`.
+pub fn form_at<F: ReadCodecAt<T>, T: Drop>(
+    alloc: Global,
+    line: &[u8],
+) -> Result<Value, AllocError> {
+    let Some(now) = Moment::new(1_595_256_674, 296_000_000) else {
+        return text(alloc, "no moment");
+    };
+    let told = answered::<F, T>(alloc, &by_tree_at::<F, T>(alloc, line, now))?;
+    let mut scratch = Scratch::new(alloc);
+    let by_tape = match Line::parse(line, &mut scratch, Vec::new(alloc)) {
+        Ok(read) => F::from_node(alloc, &read.root(), now, &mut Pcg32::new(42, 54)),
+        Err(LineError::Misfit) => Err(TreeError::Misfit),
+        Err(LineError::Memory) => Err(TreeError::Memory),
+        Err(LineError::Unfit) => return Ok(told),
+    };
+    agreed(alloc, told, answered::<F, T>(alloc, &by_tape)?)
+}
+
+/// The same for a type with one form.
+pub fn own_at<T: FromTreeAt>(alloc: Global, line: &[u8]) -> Result<Value, AllocError> {
+    form_at::<Own, T>(alloc, line)
 }
 
 /// Whether a line has a tape, or why it has none.

@@ -1,6 +1,10 @@
 //! The types whose values lines of JSON show, by their names.
 
+use crate::contexts::of_context;
+use crate::events::of_event;
 use crate::form::{form, own};
+use crate::parts::of_part;
+use crate::records::of_record;
 use sentry_envelope::EnvelopeHeaders;
 use sentry_items::{AttachmentType, Category, Reason};
 use sentry_keys::{Auth, Dsn};
@@ -120,5 +124,17 @@ pub fn of_tree(alloc: Global, name: &str, line: &[u8]) -> Result<Option<Value>, 
     if let Some(answer) = of_id(alloc, name, line)? {
         return Ok(Some(answer));
     }
-    of_table(alloc, name, line)
+    if let Some(answer) = of_table(alloc, name, line)? {
+        return Ok(Some(answer));
+    }
+    if let Some(answer) = of_context(alloc, name, line)? {
+        return Ok(Some(answer));
+    }
+    if let Some(answer) = of_event(alloc, name, line)? {
+        return Ok(Some(answer));
+    }
+    if let Some(answer) = of_record(alloc, name, line)? {
+        return Ok(Some(answer));
+    }
+    of_part(alloc, name, line)
 }

@@ -1,6 +1,7 @@
 // Ids that are drawn.
 use rand_core::{Rng, SeedableRng};
 use rand_pcg::Pcg32;
+use sentry_text::rows::object;
 use sentry_text::{
     Hyphenated, Own, Simple, SpanId, TraceId, TreeError, or_drawn_as, random_uuid, read_tree,
 };
@@ -54,6 +55,8 @@ fn ids_are_the_next_bytes(rt: HostRuntime) {
 fn absent_ids_are_drawn(rt: HostRuntime) -> Result<(), Fail> {
     let alloc = rt.alloc();
     let tree = read_tree(alloc, b"{\"given\":\"d42cee9fc3e74f5c\",\"none\":null}")?;
+    let node = &tree;
+    let given = object(alloc, &node)?;
     let (span, trace) = first_ids();
     let mut ids = Pcg32::seed_from_u64(1);
     for (key, wanted) in [
@@ -61,10 +64,10 @@ fn absent_ids_are_drawn(rt: HostRuntime) -> Result<(), Fail> {
         ("none", Err(TreeError::Misfit)),
         ("span_id", Ok(span)),
     ] {
-        let read = or_drawn_as::<Own, SpanId, Pcg32, _>(alloc, &&tree, key, &mut ids);
+        let read = or_drawn_as::<Own, SpanId, Pcg32, _>(alloc, &given, key, &mut ids);
         assert!(rt; read == wanted, "{key}");
     }
-    let drawn = or_drawn_as::<Own, TraceId, Pcg32, _>(alloc, &&tree, "trace_id", &mut ids);
+    let drawn = or_drawn_as::<Own, TraceId, Pcg32, _>(alloc, &given, "trace_id", &mut ids);
     assert!(rt; drawn == Ok(trace));
     Ok(())
 }
@@ -74,8 +77,10 @@ fn uuids_are_of_version_4(rt: HostRuntime) -> Result<(), Fail> {
     let alloc = rt.alloc();
     let zeros = Uuid::parse_str("00000000-0000-4000-8000-000000000000")?;
     let tree = read_tree(alloc, b"{}")?;
-    let simple = or_drawn_as::<Simple, Uuid, Zeros, _>(alloc, &&tree, "id", &mut Zeros)?;
-    let hyphenated = or_drawn_as::<Hyphenated, Uuid, Zeros, _>(alloc, &&tree, "id", &mut Zeros)?;
+    let node = &tree;
+    let empty = object(alloc, &node)?;
+    let simple = or_drawn_as::<Simple, Uuid, Zeros, _>(alloc, &empty, "id", &mut Zeros)?;
+    let hyphenated = or_drawn_as::<Hyphenated, Uuid, Zeros, _>(alloc, &empty, "id", &mut Zeros)?;
     assert!(rt; [random_uuid(&mut Zeros), simple, hyphenated] == [zeros, zeros, zeros]);
     Ok(())
 }

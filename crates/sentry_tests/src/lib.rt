@@ -15,6 +15,8 @@ mod indexed;
 #[cfg(test)]
 mod main_path;
 #[cfg(test)]
+mod parts;
+#[cfg(test)]
 mod rows;
 #[cfg(test)]
 mod urls;

@@ -1,17 +1,32 @@
 //! Version 7 of the Sentry protocol: envelopes and their items, and the small texts in them.
 
 // Envelopes: their header, items and filters.
+pub use sentry_contexts::{
+    AppContext, BrowserContext, Context, DeviceContext, GpuContext, OsContext, OtelContext,
+    ResponseContext, RuntimeContext, TraceContext,
+};
 pub use sentry_envelope::{
     AddRefused, CountedReader, CountedWriter, Envelope, EnvelopeError, EnvelopeFilter,
     EnvelopeFilterCallbacks, EnvelopeHeaders, EnvelopeItemIter, EnvelopeWriteError, Frames,
     IntoItems, ItemFrame,
 };
+pub use sentry_event::{Event, Span, Transaction};
 pub use sentry_framing::{ItemHeader, ItemKind, read_item_header};
 pub use sentry_items::{
     Attachment, AttachmentType, AttachmentWriteError, Category, EnvelopeItem, ItemLoss,
     ItemLossIter, LossSlice, LossSource, Reason, ReplayRecording,
 };
-pub use sentry_parts::{ClientSdkInfo, ClientSdkPackage};
+pub use sentry_parts::{
+    AppleDebugImage, Breadcrumb, CError, ClientSdkInfo, ClientSdkPackage, DebugImage, DebugMeta,
+    Exception, Frame, LogEntry, MachException, Mechanism, MechanismMeta, PosixSignal,
+    ProguardDebugImage, Request, Stacktrace, SymbolicDebugImage, SystemSdkInfo, TemplateInfo,
+    Thread, ThreadId, User, WasmDebugImage,
+};
+pub use sentry_records::{
+    DynamicSamplingContext, LogAttribute, MonitorCheckIn, MonitorConfig, MonitorSchedule,
+    ScheduleError, SessionAggregateItem, SessionAggregates, SessionAttributes, SessionUpdate,
+    UserReport,
+};
 pub use sentry_rows::Values;
 
 // Small texts.
