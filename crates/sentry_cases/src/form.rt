@@ -17,7 +17,7 @@ fn written<F: Codec<T>, T: Drop>(alloc: Global, value: &T) -> Result<Value, Allo
     let mut out = Writer::new(Vec::new(alloc));
     F::write(value, &mut out)?;
     let mut same = out.into_inner().as_slice() == line.as_bytes() && F::is_plain(value);
-    for way in [Way::Same, Way::Normal] {
+    for way in [Way::Same, Way::Normal(alloc)] {
         let remade = F::to_tree(&F::remade(value, way)?, alloc)?;
         same = same && remade.to_string(alloc)?.as_str() == line.as_str();
     }

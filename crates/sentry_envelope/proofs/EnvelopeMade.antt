@@ -1,4 +1,5 @@
 -- Envelopes made anew.
+use Rattle.std.specs.declared.alloc.Global.{Global}
 use Rattle.std.proofs.Common.{◌≡◌, ℕ, suc, length, ◌<◌, ◌≤◌, ◌+◌, List, [], ◌∷◌, ◌++◌, true, false, Option, Some, None, Result, Ok, Err, map, drop, drop-cons, add-one, get_or, append_assoc, refl, sym, ap, ap₂, ◌∙◌, subst, if◌then◌else◌}
 use Rattle.std.proofs.Math.ListN.{drop_of_length-le}
 use Rattle.std.proofs.lemmas.List.{append-nil, map-append}
@@ -30,21 +31,21 @@ use Rattle.sentry_envelope.proofs.SentryProfile.{profile_lawful}
 item_then : (way : Way) (v : ItemView) (is : List Item) → stands way (placed v) ≡ true → items_made way (placed v ∷ is) ≡ placed (item_made way v) ∷ items_made way is
 unfolding stands items_made item_made
 item_then Same v is there = refl
-item_then Normal (attachment a) is there = refl
-item_then Normal (replay_recording b) is there = refl
-item_then Normal raw_view is there = absurd cc
+item_then (Normal alloc) (attachment a) is there = refl
+item_then (Normal alloc) (replay_recording b) is there = refl
+item_then (Normal alloc) raw_view is there = absurd cc
 
 -- one that does not, and then the others
 others_then : (way : Way) (i : Item) (is : List Item) → stands way i ≡ false → items_made way (i ∷ is) ≡ items_made way is
 unfolding stands items_made
 others_then Same i is gone = absurd cc
-others_then Normal (item n c) is gone = absurd cc
-others_then Normal raw is gone = refl
+others_then (Normal alloc) (item n c) is gone = absurd cc
+others_then (Normal alloc) raw is gone = refl
 
 nothing_made : (way : Way) → items_made way [] ≡ []
 unfolding items_made
 nothing_made Same = refl
-nothing_made Normal = refl
+nothing_made (Normal alloc) = refl
 
 -- ---- ids
 
@@ -81,13 +82,13 @@ filled_takes h (Some id) r is put = put ∙ rw is refl
 pub header_same : (way : Way) (h r : Cell) (is : List Item) → way ≡ Same → r ≡ made way header_kind h → r ≡ header_made way h is
 unfolding made header_made
 header_same Same h r is same e = e
-header_same Normal h r is same e = absurd cc
+header_same (Normal alloc) h r is same e = absurd cc
 
-pub header_normal : (way : Way) (h m r : Cell) (id : Option Uuid) (xs : List EnvelopeItem) → way ≡ Normal → m ≡ made way header_kind h → id ≡ first_id_of xs → r ≡ fill_id (given_id id) m
+pub header_normal : {alloc : Global} (way : Way) (h m r : Cell) (id : Option Uuid) (xs : List EnvelopeItem) → way ≡ Normal alloc → m ≡ made way header_kind h → id ≡ first_id_of xs → r ≡ fill_id (given_id id) m
     → r ≡ header_made way h (map item_view xs)
 unfolding made header_made
 header_normal Same h m r id xs normal e first filled = absurd cc
-header_normal Normal h m r id xs normal e first filled = filled ∙ ap₂ fill_id (ap given_id first ∙ sym (first_given xs)) e
+header_normal (Normal alloc) h m r id xs normal e first filled = filled ∙ ap₂ fill_id (ap given_id first ∙ sym (first_given xs)) e
 
 -- ---- one item more
 
@@ -127,28 +128,29 @@ module _ (e n : Envelope) where
   pub same_made : IsMade Same e n → IsSame n e
   same_made m = same_by (header_of e) (held e) m
 
-  normal_by : (h : Cell) (x : Held) (m : Model) → structured_by h x ≡ Some m → IsMadeBy Normal h x n → structured n ≡ Some (envelope_norm profile m)
+module _ {alloc : Global} (e n : Envelope) where
+  normal_by : (h : Cell) (x : Held) (m : Model) → structured_by h x ≡ Some m → IsMadeBy (Normal alloc) h x n → structured n ≡ Some (envelope_norm profile m)
   unfolding items_made header_made profile envelope_norm
   normal_by h (items is) m some made =
       ap₂ structured_by made.0 made.1 ∙ ap (λ x. Some (envelope_norm profile x)) (same_Some (record { header = h; items = is }) m some)
   normal_by h (bytes b) m some made = absurd cc
 
-  raw_by : (h : Cell) (x : Held) → IsSome (bytes_in x) → IsMadeBy Normal h x n → (header_of n ≡ h) × (held n ≡ x)
+  raw_by : (h : Cell) (x : Held) → IsSome (bytes_in x) → IsMadeBy (Normal alloc) h x n → (header_of n ≡ h) × (held n ≡ x)
   raw_by h (items is) some made = absurd cc
   raw_by h (bytes b) some made = made
 
   -- a raw envelope gives its copy
-  pub raw_copied : IsMade Normal e n → IsSome (raw_bytes e) → IsSame n e
+  pub raw_copied : IsMade (Normal alloc) e n → IsSome (raw_bytes e) → IsSame n e
   raw_copied made some = raw_by (header_of e) (held e) some made
 
   -- of a structured one
-  pub normal_is : IsMade Normal e n → (m : Model) → structured e ≡ Some m → structured n ≡ Some (envelope_norm profile m)
+  pub normal_is : IsMade (Normal alloc) e n → (m : Model) → structured e ≡ Some m → structured n ≡ Some (envelope_norm profile m)
   normal_is made m some = normal_by (header_of e) (held e) m some made
 
 -- ---- what the normal form is
 
 -- each promise of the normal form n of a stored and plain envelope m
-module _ (e n : Envelope) (made : IsMade Normal e n) (m : Model) (some : structured e ≡ Some m) (s : IsEnvelopeStored profile m) (p : IsEnvelopePlain profile m) where
+module _ {alloc : Global} (e n : Envelope) (made : IsMade (Normal alloc) e n) (m : Model) (some : structured e ≡ Some m) (s : IsEnvelopeStored profile m) (p : IsEnvelopePlain profile m) where
   told : (Q : Model → Type 0) → Q (envelope_norm profile m) → IsSomeAnd (structured n) Q
   told Q q = subst (λ o. IsSomeAnd o Q) (sym (normal_is e n made m some)) q
 
@@ -170,12 +172,12 @@ if_some None Q f = tt
 if_some (Some m) Q f = f m refl
 
 -- what is told of what was made, is told of the answer
-module _ (e : Envelope) (T : Envelope → Type 0) (f : (n : Envelope) → IsMade Normal e n → T n) where
-  answered : {E : Type 0} (r : Result Envelope E) → IfOk r (IsMade Normal e) → IfOk r T
+module _ {alloc : Global} (e : Envelope) (T : Envelope → Type 0) (f : (n : Envelope) → IsMade (Normal alloc) e n → T n) where
+  answered : {E : Type 0} (r : Result Envelope E) → IfOk r (IsMade (Normal alloc) e) → IfOk r T
   answered (Ok n) made = f n made
   answered (Err x) made = tt
 
-module _ {E : Type 0} (e : Envelope) (r : Result Envelope E) (made : IfOk r (IsMade Normal e)) where
+module _ {alloc : Global} {E : Type 0} (e : Envelope) (r : Result Envelope E) (made : IfOk r (IsMade (Normal alloc) e)) where
   pub answers_normal : IfOk r (λ n. IfSome (structured e) (λ m. structured n ≡ Some (envelope_norm profile m)))
   answers_normal = answered e _ (λ n is. if_some (structured e) (λ m. structured n ≡ Some (envelope_norm profile m)) (normal_is e n is)) r made
 

@@ -14,17 +14,17 @@ use Rattle.sentry_envelope.specs.declared.envelope.Envelope.{Envelope}
 -- an item stands in what is made: a raw one, which isn't written, in no normal form
 unfoldable pub stands : Way → Item → Bool
 stands Same i = true
-stands Normal (item n c) = true
-stands Normal raw = false
+stands (Normal alloc) (item n c) = true
+stands (Normal alloc) raw = false
 
 unfoldable pub items_made : Way → List Item → List Item
 items_made Same is = is
-items_made Normal is = items_norm item_types is
+items_made (Normal alloc) is = items_norm item_types is
 
 -- the header above these items
 unfoldable pub header_made : Way → Cell → List Item → Cell
 header_made Same h is = h
-header_made Normal h is = fill_id (first_id item_types is) (norm header_kind h)
+header_made (Normal alloc) h is = fill_id (first_id item_types is) (norm header_kind h)
 
 -- of a structured envelope; a raw one has no other form
 abbrev pub IsMadeBy : Way → Cell → Held → Envelope → Type 0

@@ -123,10 +123,10 @@ impl EnvelopeHeaders {
     }
 
     /// The header's normal form, which has the normal form of each field. It fails where memory is refused.
-    pub fn normalized(&self) -> Result<EnvelopeHeaders, AllocError>
+    pub fn normalized(&self, alloc: Global) -> Result<EnvelopeHeaders, AllocError>
         ensures { IfOk result (λ headers. headers_cell headers ≡ norm header_kind (headers_cell self.now)) }
     {
-        self.normal()
+        self.normal(alloc)
     }
 }
 

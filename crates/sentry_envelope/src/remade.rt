@@ -59,7 +59,11 @@ impl Envelope {
         ensures read_back { IfOk result (λ n. IfSome (structured self.now) (λ m. IsEnvelopeStored profile m → IsEnvelopePlain profile m
             → IsEnvelopeReadable profile m → IsEnvelopeSized profile m → IsSomeAnd (structured n) (SpellsAlone profile (envelope_text profile m)))) }
     {
-        self.remade(Way::Normal)
+        let alloc = match &self.contents {
+            Contents::Items(items) => *items.allocator(),
+            Contents::Raw(bytes) => *bytes.allocator(),
+        };
+        self.remade(Way::Normal(alloc))
     }
 }
 
@@ -75,7 +79,7 @@ fn remade_headers(
     let made = headers.remade(way)?;
     match way {
         Way::Same => Ok(made),
-        Way::Normal => Ok(made.filled(first_id(items))),
+        Way::Normal(_) => Ok(made.filled(first_id(items))),
     }
 }
 
@@ -103,7 +107,7 @@ fn stands(item: &EnvelopeItem, way: Way) -> bool
 {
     match way {
         Way::Same => true,
-        Way::Normal => match item {
+        Way::Normal(_) => match item {
             EnvelopeItem::Attachment(_) | EnvelopeItem::ReplayRecording(_) => true,
             EnvelopeItem::Raw => false,
         },

@@ -86,7 +86,7 @@ impl<'a> Codec<Vec<CowStr<'a>>> for AsFingerprint {
     fn remade(value: &Vec<CowStr<'a>>, way: Way) -> Result<Vec<CowStr<'a>>, AllocError> {
         match way {
             Way::Same => value.copy(),
-            Way::Normal => {
+            Way::Normal(_) => {
                 if is_one(value, "{{default}}") {
                     usual(*value.allocator())
                 } else {

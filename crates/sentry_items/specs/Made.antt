@@ -6,7 +6,7 @@ use Rattle.sentry_items.specs.View.{ItemView, attachment, replay_recording, raw}
 
 unfoldable pub attached_made : Way → Attached → Attached
 attached_made Same a = a
-attached_made Normal a = attached_norm a
+attached_made (Normal alloc) a = attached_norm a
 
 -- the normal form of an item: that of what it holds
 abbrev pub item_norm : ItemView → ItemView
@@ -16,4 +16,4 @@ item_norm raw = raw
 
 unfoldable pub item_made : Way → ItemView → ItemView
 item_made Same i = i
-item_made Normal i = item_norm i
+item_made (Normal alloc) i = item_norm i

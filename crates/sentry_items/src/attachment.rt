@@ -90,7 +90,7 @@ impl Attachment {
             Some(text) => Ok(Some(text.clone()?)),
             None => match way {
                 Way::Same => Ok(None),
-                Way::Normal => {
+                Way::Normal(_) => {
                     let alloc = *self.buffer.allocator();
                     Ok(Some(String::from_str(alloc, USUAL_CONTENT_TYPE)?))
                 }
@@ -107,7 +107,7 @@ impl Attachment {
             Some(ty) => Ok(Some(ty.remade(way)?)),
             None => match way {
                 Way::Same => Ok(None),
-                Way::Normal => Ok(Some(AttachmentType::Attachment)),
+                Way::Normal(_) => Ok(Some(AttachmentType::Attachment)),
             },
         }
     }
@@ -126,7 +126,7 @@ impl Attachment {
     pub fn normalized(&self) -> Result<Attachment, AllocError>
         ensures { IfOk result (λ attachment. attachment_view attachment ≡ attached_norm (attachment_view self.now)) }
     {
-        self.remade(Way::Normal)
+        self.remade(Way::Normal(*self.buffer.allocator()))
     }
 
     /// Whether the attachment can be written: always, since its texts are UTF-8.

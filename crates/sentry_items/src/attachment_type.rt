@@ -99,7 +99,7 @@ impl Spelled for AttachmentType {
     fn copied(&self, way: Way) -> Result<AttachmentType, AllocError> {
         match way {
             Way::Same => self.clone(),
-            Way::Normal => match self {
+            Way::Normal(_) => match self {
                 AttachmentType::Attachment => Ok(AttachmentType::Attachment),
                 AttachmentType::Minidump => Ok(AttachmentType::Minidump),
                 AttachmentType::AppleCrashReport => Ok(AttachmentType::AppleCrashReport),

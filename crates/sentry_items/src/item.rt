@@ -3,7 +3,7 @@
 use crate::attachment::Attachment;
 use crate::replay_recording::ReplayRecording;
 use sentry_members::Way;
-use std::alloc::AllocError;
+use std::alloc::{AllocError, Global};
 
 /// One item of an envelope.
 ///
@@ -49,10 +49,10 @@ impl EnvelopeItem {
 
     /// The item's normal form. It fails where memory is refused.
     #[tactic(auto, unfolding(crate::specs::Made::item_made))]
-    pub fn normalized(&self) -> Result<EnvelopeItem, AllocError>
+    pub fn normalized(&self, alloc: Global) -> Result<EnvelopeItem, AllocError>
         ensures { IfOk result (λ item. item_held item ≡ item_norm (item_held self.now)) }
     {
-        self.remade(Way::Normal)
+        self.remade(Way::Normal(alloc))
     }
 }
 

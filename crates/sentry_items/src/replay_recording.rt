@@ -44,6 +44,6 @@ impl ReplayRecording {
     pub fn normalized(&self) -> Result<ReplayRecording, AllocError>
         ensures { IfOk result (λ recording. recording.buffer.items ≡ self.now.buffer.items) }
     {
-        self.remade(Way::Normal)
+        self.remade(Way::Normal(*self.buffer.allocator()))
     }
 }

@@ -62,7 +62,7 @@ fn custom_types(rt: HostRuntime) -> Result<(), Fail> {
         AttachmentType::from_text(alloc, "event.attachment")? == AttachmentType::default(),
         custom.as_str() == "event.minidump" && custom != AttachmentType::Minidump,
         custom.clone()? == custom,
-        custom.remade(Way::Normal)? == AttachmentType::Minidump,
+        custom.remade(Way::Normal(alloc))? == AttachmentType::Minidump,
     ] {
         assert!(rt; holds);
     }

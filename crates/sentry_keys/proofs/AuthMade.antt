@@ -26,9 +26,9 @@ rows_stay a = let client = text_stays a.client in let secret = text_stays a.secr
 pub copy_made : (way : Way) (a b : Auth) → way ≡ Same → parts_of b ≡ parts_of a → auth_cell b ≡ made way auth_kind (auth_cell a)
 unfolding made
 copy_made Same a b is same = same_cells b a same
-copy_made Normal a b is same = absurd cc
+copy_made (Normal alloc) a b is same = absurd cc
 
-pub normal_made : (way : Way) (a b : Auth) → way ≡ Normal → parts_of b ≡ parts_of a → beside absent (rows_cell b) ≡ made way auth_kind (auth_cell a)
+pub normal_made : {alloc : Global} (way : Way) (a b : Auth) → way ≡ Normal alloc → parts_of b ≡ parts_of a → beside absent (rows_cell b) ≡ made way auth_kind (auth_cell a)
 unfolding made auth_kind
 normal_made Same a b is same = absurd cc
-normal_made Normal a b is same = ap (λ c. beside absent (rows_part c)) (same_cells b a same) ∙ ap (beside absent) (sym (rows_stay a))
+normal_made (Normal alloc) a b is same = ap (λ c. beside absent (rows_part c)) (same_cells b a same) ∙ ap (beside absent) (sym (rows_stay a))

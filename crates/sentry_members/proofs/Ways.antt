@@ -8,7 +8,7 @@ use Rattle.sentry_tables.specs.Cell.{Cell, Cells, no_cells, cell, Entries, no_en
 use Rattle.sentry_tables.specs.Kind.{Kind, list, map, may, may_null, may_strict}
 use Rattle.sentry_tables.specs.Norm.{norm, each_cell, each_entry, is_null_of}
 use Rattle.sentry_members.specs.Cells.{cells, entries, list_cell, map_cell}
-use Rattle.sentry_members.specs.Made.{made, row_made}
+use Rattle.sentry_members.specs.Made.{made, row_made, is_normal}
 use Rattle.sentry_members.specs.declared.way.Way.{Way}
 use Rattle.sentry_members.specs.declared.way.Way.TheVariants.{Same, Normal}
 
@@ -16,7 +16,7 @@ use Rattle.sentry_members.specs.declared.way.Way.TheVariants.{Same, Normal}
 pub unchanged : (way : Way) (K : Kind) (c d : Cell) → d ≡ c → norm K c ≡ c → d ≡ made way K c
 unfolding made
 unchanged Same K c d is own = is
-unchanged Normal K c d is own = is ∙ sym own
+unchanged (Normal alloc) K c d is own = is ∙ sym own
 
 same_cells_each : (cs : Cells) → each_cell (λ c. c) cs ≡ cs
 same_cells_each no_cells = refl
@@ -37,12 +37,12 @@ each_entry_of h f (e ∷ es) = ap (entry (string_bytes e.0) (h (f e.1))) (each_e
 cells_made : (way : Way) (K : Kind) (cs ds : Cells) → ds ≡ each_cell (made way K) cs → sequence ds ≡ made way (list K) (sequence cs)
 unfolding made
 cells_made Same K cs ds h = ap sequence (h ∙ same_cells_each cs)
-cells_made Normal K cs ds h = ap sequence h
+cells_made (Normal alloc) K cs ds h = ap sequence h
 
 entries_made : (way : Way) (K : Kind) (es ds : Entries) → ds ≡ each_entry (made way K) es → mapping ds ≡ made way (map K) (mapping es)
 unfolding made
 entries_made Same K es ds h = ap mapping (h ∙ same_entries_each es)
-entries_made Normal K es ds h = ap mapping h
+entries_made (Normal alloc) K es ds h = ap mapping h
 
 pub list_made : {A : Type 0} (way : Way) (K : Kind) (f : A → Cell) (xs ys : List A) → cells f ys ≡ cells (λ x. made way K (f x)) xs → list_cell f ys ≡ made way (list K) (list_cell f xs)
 list_made way K f xs ys h = cells_made way K (cells f xs) (cells f ys) (h ∙ each_of (made way K) f xs)
@@ -52,35 +52,35 @@ map_made way K f es ds h = entries_made way K (entries f es) (entries f ds) (h �
 
 -- ---- rows that may be absent
 
-pub null_made : (way : Way) (K : Kind) (c : Cell) → way ≡ Normal → is_null_of K c ≡ true → absent ≡ row_made way may K (present c)
+pub null_made : (way : Way) (K : Kind) (c : Cell) → is_normal way ≡ true → is_null_of K c ≡ true → absent ≡ row_made way may K (present c)
 unfolding row_made
 null_made Same K c is e = absurd cc
-null_made Normal K c is e = rw e refl
+null_made (Normal alloc) K c is e = rw e refl
 
-pub there_made : (way : Way) (K : Kind) (c d : Cell) → (way ≡ Normal → is_null_of K c ≡ false) → d ≡ made way K c → present d ≡ row_made way may K (present c)
+pub there_made : (way : Way) (K : Kind) (c d : Cell) → (is_normal way ≡ true → is_null_of K c ≡ false) → d ≡ made way K c → present d ≡ row_made way may K (present c)
 unfolding row_made made
 there_made Same K c d e is = ap present is
-there_made Normal K c d e is = rw (e refl) (ap present is)
+there_made (Normal alloc) K c d e is = rw (e refl) (ap present is)
 
 pub absent_made : (way : Way) (K : Kind) → absent ≡ row_made way may K absent
 unfolding row_made
 absent_made Same K = refl
-absent_made Normal K = refl
+absent_made (Normal alloc) K = refl
 
 pub null_or_made : (way : Way) (K : Kind) (c d : Cell) → d ≡ row_made way may K c → d ≡ row_made way may_null K c
 unfolding row_made
 null_or_made Same K c d is = is
-null_or_made Normal K c d is = is
+null_or_made (Normal alloc) K c d is = is
 
 pub strict_made : (way : Way) (K : Kind) (c d : Cell) → d ≡ made way K c → present d ≡ row_made way may_strict K (present c)
 unfolding row_made made
 strict_made Same K c d is = ap present is
-strict_made Normal K c d is = ap present is
+strict_made (Normal alloc) K c d is = ap present is
 
 pub strict_absent_made : (way : Way) (K : Kind) → absent ≡ row_made way may_strict K absent
 unfolding row_made
 strict_absent_made Same K = refl
-strict_absent_made Normal K = refl
+strict_absent_made (Normal alloc) K = refl
 
 -- ---- trees
 
@@ -97,9 +97,9 @@ tree_null (object ms) = refl
 pub made_same : (way : Way) (K : Kind) (c d : Cell) → way ≡ Same → d ≡ c → d ≡ made way K c
 unfolding made
 made_same Same K c d e is = is
-made_same Normal K c d e is = absurd cc
+made_same (Normal alloc) K c d e is = absurd cc
 
-pub made_normal : (way : Way) (K : Kind) (c d : Cell) → way ≡ Normal → d ≡ norm K c → d ≡ made way K c
+pub made_normal : {alloc : Global} (way : Way) (K : Kind) (c d : Cell) → way ≡ Normal alloc → d ≡ norm K c → d ≡ made way K c
 unfolding made
 made_normal Same K c d e is = absurd cc
-made_normal Normal K c d e is = is
+made_normal (Normal alloc) K c d e is = is

@@ -109,7 +109,7 @@ pub fn remade_option_as<F: Codec<T>, T>(
 {
     match value {
         Some(value) => {
-            if way == Way::Normal && F::is_null_tree(value) {
+            if way.is_normal() && F::is_null_tree(value) {
                 Ok(None)
             } else {
                 Ok(Some(F::remade(value, way)?))

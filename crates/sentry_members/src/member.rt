@@ -48,10 +48,10 @@ pub trait Member: Sized + Drop {
 
     /// The value's normal form. It fails where memory runs out.
     #[tactic(auto, unfolding(crate::specs::Made::made))]
-    final fn normal(&self) -> Result<Self, AllocError>
+    final fn normal(&self, alloc: Global) -> Result<Self, AllocError>
         ensures { IfOk result (λ v. cell_of v ≡ norm kind (cell_of self.now)) }
     {
-        self.remade(Way::Normal)
+        self.remade(Way::Normal(alloc))
     }
 
     /// Whether the value's trees hold no floats, and no member that no row names clashes with a row.

@@ -142,7 +142,7 @@ impl Spelled for SampleRand {
     fn copied(&self, way: Way) -> Result<SampleRand, AllocError> {
         match way {
             Way::Same => Ok(*self),
-            Way::Normal => Ok(SampleRand {
+            Way::Normal(_) => Ok(SampleRand {
                 billionths: 1_000 * millionths(self.billionths),
             }),
         }

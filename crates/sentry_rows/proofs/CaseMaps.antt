@@ -38,7 +38,7 @@ map_written cases fallback f es = refl
 pub map_made : {A : Type 0} (way : Way) (cases : Cases) (fallback : List ℕ) (f : A → Cell) (es : List (MapEntry A)) (d : Cell) → d ≡ made way (map (tagged cases)) (map_cell f es) → d ≡ made way (tagged_map cases fallback) (map_cell f es)
 unfolding made
 map_made Same cases fallback f es d is = is
-map_made Normal cases fallback f es d is = is
+map_made (Normal alloc) cases fallback f es d is = is
 
 usual_at : {A : Type 0} (cases : Cases) (fallback : List ℕ) (f : A → Cell) (es : List (MapEntry A)) → (length es == 0) ≡ same_cell (norm (tagged_map cases fallback) (map_cell f es)) empty_map
 usual_at cases fallback f [] = refl

@@ -1,4 +1,5 @@
 -- From the case that was given to the value.
+use Rattle.std.specs.declared.alloc.Global.{Global}
 use Rattle.std.proofs.Common.{◌≡◌, ◌↔◌, ℕ, zero, suc, Bool, ap, ◌∙◌, Result, IfOk, OnOk, IsTrue}
 use Rattle.std.specs.declared.alloc.AllocError.{AllocError}
 use Rattle.json.specs.Written.{Written}
@@ -66,7 +67,7 @@ same_at no_cases n c d h = absurd h
 same_at (case w rows o cases) zero c d h = h
 same_at (case w rows o cases) (suc n) c d h = same_at cases n c d h
 
-normal_at : (cases : Cases) (n : ℕ) (c d : Cell) → CaseMade Normal cases n c d → d ≡ case_norm cases n c
+normal_at : {alloc : Global} (cases : Cases) (n : ℕ) (c d : Cell) → CaseMade (Normal alloc) cases n c d → d ≡ case_norm cases n c
 unfolding made
 normal_at no_cases n c d h = absurd h
 normal_at (case w rows o cases) zero c d h = h
@@ -75,7 +76,7 @@ normal_at (case w rows o cases) (suc n) c d h = normal_at cases n c d h
 made_at : (way : Way) (cases : Cases) (n m : ℕ) (c d : Cell) → m ≡ n → CaseMade way cases n c d → choice m d ≡ made way (tagged cases) (choice n c)
 unfolding made
 made_at Same cases n m c d is h = ap (λ k. choice k d) is ∙ ap (choice n) (same_at cases n c d h)
-made_at Normal cases n m c d is h = ap (λ k. choice k d) is ∙ ap (choice n) (normal_at cases n c d h)
+made_at (Normal alloc) cases n m c d is h = ap (λ k. choice k d) is ∙ ap (choice n) (normal_at cases n c d h)
 
 pub case_made : (way : Way) (cases : Cases) (c d : Cell) → MakesCase way cases c d → d ≡ made way (tagged cases) c
 case_made way cases (choice n c) (choice m d) h = made_at way cases n m c d h.0 h.1
@@ -85,4 +86,4 @@ case_made way cases _ d h = absurd h
 pub members_made : (way : Way) (ms ns : Members) → ns ≡ ms → fields no_cells ns ≡ made way (table no_rows but_tag) (fields no_cells ms)
 unfolding made
 members_made Same ms ns is = ap (fields no_cells) is
-members_made Normal ms ns is = ap (fields no_cells) is
+members_made (Normal alloc) ms ns is = ap (fields no_cells) is

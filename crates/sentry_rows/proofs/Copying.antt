@@ -1,4 +1,5 @@
 -- From the rows that a copier has copied to the table.
+use Rattle.std.specs.declared.alloc.Global.{Global}
 use Rattle.std.proofs.Common.{◌≡◌, List, [], ◌∷◌, None, refl, ap, ◌∙◌, subst, true}
 use Rattle.std.specs.Prelude.{is_some, Bool}
 use Rattle.serde_json.specs.Data.{Members, no_members}
@@ -15,7 +16,7 @@ use Rattle.sentry_rows.specs.Copied.{copied_by, CopiesField, CopiesFields, Copie
 whole_made : (way : Way) (K : Kind) (c : Cell) → made way K c ≡ row_made way must K c
 unfolding made row_made
 whole_made Same K c = refl
-whole_made Normal K c = refl
+whole_made (Normal alloc) K c = refl
 
 -- a row that always holds a value
 pub whole_copied : (K : Kind) (c d : Cell) (a : Copier) → d ≡ made a.way K c → CopiesField must K c d a a
@@ -54,7 +55,7 @@ by_rule (always D) n f c = refl
 by_rule (draw Drawn) n f c = refl
 by_rule at_once n f c = refl
 
-row_normal : (r : Rule) (K : Kind) (c d : Cell) (a b : Copier) → a.way ≡ Normal → CopiesField (copied_by r) K c d a b → b.failed ≡ None → (a.failed ≡ None) × (d ≡ row_norm r (is_null_of K) (norm K) c)
+row_normal : {alloc : Global} (r : Rule) (K : Kind) (c d : Cell) (a b : Copier) → a.way ≡ Normal alloc → CopiesField (copied_by r) K c d a b → b.failed ≡ None → (a.failed ≡ None) × (d ≡ row_norm r (is_null_of K) (norm K) c)
 unfolding CopiesField row_made
 row_normal r K c d a b way h none = let p = h.1 none in (p.0, subst (λ w. d ≡ row_made w (copied_by r) K c) way p.1 ∙ by_rule r (is_null_of K) (norm K) c)
 
@@ -70,7 +71,7 @@ rows_same (f ∷ fs) v w a z way h none =
     let first = row_same (copied_by f.rule) f.kind (f.part v) (f.part w) a h.0 way h.1 rest.0 in
     (first.0, ap (λ c. cell c (cells_by fs w)) first.1 ∙ ap (cell (f.part v)) rest.1)
 
-rows_normal : {A : Type 0} (fs : List (Field A)) (v w : A) (a z : Copier) → a.way ≡ Normal → CopiesFields fs v w a z → z.failed ≡ None → (a.failed ≡ None) × (cells_by fs w ≡ rows_norm (rows_of fs) (cells_by fs v))
+rows_normal : {alloc : Global} {A : Type 0} (fs : List (Field A)) (v w : A) (a z : Copier) → a.way ≡ Normal alloc → CopiesFields fs v w a z → z.failed ≡ None → (a.failed ≡ None) × (cells_by fs w ≡ rows_norm (rows_of fs) (cells_by fs v))
 rows_normal [] v w a z way same none = (ap (λ s. s.failed) same ∙ none, refl)
 rows_normal (f ∷ fs) v w a z way h none =
     let kept = way_kept (copied_by f.rule) f.kind (f.part v) (f.part w) a h.0 h.1 in
@@ -82,7 +83,7 @@ by_way : {A : Type 0} (way : Way) (fs : List (Field A)) (o : Other) (v w : A) (m
     → fields (cells_by fs w) ns ≡ made way (table (rows_of fs) o) (fields (cells_by fs v) ms)
 unfolding made
 by_way Same fs o v w ms ns a z way h none others = ap (λ cs. fields cs ns) (rows_same fs v w a z way h none).1 ∙ ap (fields (cells_by fs v)) others
-by_way Normal fs o v w ms ns a z way h none others = ap (λ cs. fields cs ns) (rows_normal fs v w a z way h none).1 ∙ ap (fields (rows_norm (rows_of fs) (cells_by fs v))) others
+by_way (Normal alloc) fs o v w ms ns a z way h none others = ap (λ cs. fields cs ns) (rows_normal fs v w a z way h none).1 ∙ ap (fields (rows_norm (rows_of fs) (cells_by fs v))) others
 
 -- what is copied of a table that ignores other members
 pub table_copied : {A : Type 0} (way : Way) (fs : List (Field A)) (v w : A) (a z : Copier) → a.way ≡ way → CopiesFields fs v w a z → z.failed ≡ None → fields_by fs w ≡ made way (table_of fs) (fields_by fs v)

@@ -9,4 +9,4 @@ use Rattle.sentry_members.specs.declared.way.Way.TheVariants.{Same, Normal}
 pub values_made : (way : Way) (K : Kind) (c d : Cell) → d ≡ made way (list K) c → d ≡ made way (values K) c
 unfolding made
 values_made Same K c d is = is
-values_made Normal K c d is = is
+values_made (Normal alloc) K c d is = is

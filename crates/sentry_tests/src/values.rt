@@ -73,7 +73,7 @@ fn another_unit_of_a_known_text(rt: HostRuntime) -> Result<(), Fail> {
         unit != Unit::Millisecond && unit.clone()? == unit,
         line.as_slice() == b"\"ms\"".as_slice(),
         read_line::<Unit>(alloc, line.as_slice())? == Unit::Millisecond,
-        unit.remade(Way::Normal)? == Unit::Millisecond,
+        unit.remade(Way::Normal(alloc))? == Unit::Millisecond,
     ] {
         assert!(rt; holds);
     }

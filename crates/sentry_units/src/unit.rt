@@ -256,7 +256,7 @@ impl Spelled for Unit {
     fn copied(&self, way: Way) -> Result<Unit, AllocError> {
         match way {
             Way::Same => self.clone(),
-            Way::Normal => match Unit::known(self.as_str()) {
+            Way::Normal(_) => match Unit::known(self.as_str()) {
                 Some(unit) => Ok(unit),
                 None => self.clone(),
             },

@@ -52,7 +52,7 @@ impl Member for Auth {
         let mut copy = self.clone()?;
         match way {
             Way::Same => Ok(copy),
-            Way::Normal => {
+            Way::Normal(_) => {
                 copy.timestamp = None;
                 Ok(copy)
             }
