@@ -201,8 +201,8 @@ normal_is (TheVariants.Other word) = refl
 normal_by : (unit : Unit) (s : List ℕ) (o : Option Unit) → s ≡ unit_text (unit_cell unit) → option_map unit_cell o ≡ found units s → unit_norm (unit_cell unit) ≡ unwrap_or (option_map unit_cell o) (unit_cell unit)
 normal_by unit s o is known = normal_is unit ∙ ap (λ x. unwrap_or (found units x) (unit_cell unit)) (sym is) ∙ ap (λ x. unwrap_or x (unit_cell unit)) (sym known)
 
-pub known_normal : {alloc : Global} (way : Way) (unit v : Unit) (s : List ℕ) (o : Option Unit) → way ≡ Normal alloc → o ≡ Some v → option_map unit_cell o ≡ found units s → s ≡ unit_text (unit_cell unit) → unit_cell v ≡ made way (spelled_kind unit_spelling) (unit_cell unit)
-known_normal way unit v s o normal there known is = made_normal way unit_kind (unit_cell unit) (unit_cell v) normal (sym (normal_by unit s o is known ∙ ap (λ x. unwrap_or (option_map unit_cell x) (unit_cell unit)) there))
+pub known_normal : (alloc : Global) (way : Way) (unit v : Unit) (s : List ℕ) (o : Option Unit) → way ≡ Normal alloc → o ≡ Some v → option_map unit_cell o ≡ found units s → s ≡ unit_text (unit_cell unit) → unit_cell v ≡ made way (spelled_kind unit_spelling) (unit_cell unit)
+known_normal alloc way unit v s o normal there known is = made_normal way unit_kind (unit_cell unit) (unit_cell v) normal (sym (normal_by unit s o is known ∙ ap (λ x. unwrap_or (option_map unit_cell x) (unit_cell unit)) there))
 
-pub other_normal : {alloc : Global} (way : Way) (unit v : Unit) (s : List ℕ) (o : Option Unit) → way ≡ Normal alloc → o ≡ None → option_map unit_cell o ≡ found units s → s ≡ unit_text (unit_cell unit) → unit_cell v ≡ unit_cell unit → unit_cell v ≡ made way (spelled_kind unit_spelling) (unit_cell unit)
-other_normal way unit v s o normal none known is same = made_normal way unit_kind (unit_cell unit) (unit_cell v) normal (same ∙ sym (normal_by unit s o is known ∙ ap (λ x. unwrap_or (option_map unit_cell x) (unit_cell unit)) none))
+pub other_normal : (alloc : Global) (way : Way) (unit v : Unit) (s : List ℕ) (o : Option Unit) → way ≡ Normal alloc → o ≡ None → option_map unit_cell o ≡ found units s → s ≡ unit_text (unit_cell unit) → unit_cell v ≡ unit_cell unit → unit_cell v ≡ made way (spelled_kind unit_spelling) (unit_cell unit)
+other_normal alloc way unit v s o normal none known is same = made_normal way unit_kind (unit_cell unit) (unit_cell v) normal (same ∙ sym (normal_by unit s o is known ∙ ap (λ x. unwrap_or (option_map unit_cell x) (unit_cell unit)) none))
