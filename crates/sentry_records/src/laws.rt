@@ -5,6 +5,8 @@ ghost use Rattle.std.specs.Prelude.{◌≡◌, ◌↔◌, true};
 ghost use Rattle.sentry_tables.specs.Laws.{HasLaws};
 ghost use Rattle.sentry_tables.specs.Lawful.{RefusesNull};
 ghost use Rattle.sentry_records.specs.LogAttribute.{attribute_kind};
+ghost use Rattle.sentry_records.specs.Logs.{log_kind};
+ghost use Rattle.sentry_records.specs.Metrics.{metric_kind};
 ghost use Rattle.sentry_records.specs.Monitors.{schedule_cell, schedule_kind, config_cell, config_kind, check_in_cell, check_in_kind};
 ghost use Rattle.sentry_records.specs.Sampling.{sampling_cell, sampling_kind};
 ghost use Rattle.sentry_records.specs.Sessions.{attributes_kind, session_kind, group_cell, group_kind, groups_kind};
@@ -22,7 +24,7 @@ use crate::{
 };
 
 /// The laws of each table, and of schedules by their tag.
-#[tactic(auto, using(crate::proofs::TableLaws::sampling_laws, crate::proofs::TableLaws::attributes_laws, crate::proofs::TableLaws::session_laws, crate::proofs::TableLaws::group_laws, crate::proofs::TableLaws::groups_laws, crate::proofs::TableLaws::schedule_laws, crate::proofs::TableLaws::config_laws, crate::proofs::TableLaws::check_in_laws, crate::proofs::TableLaws::user_report_laws))]
+#[tactic(auto, using(crate::proofs::TableLaws::sampling_laws, crate::proofs::TableLaws::attributes_laws, crate::proofs::TableLaws::session_laws, crate::proofs::TableLaws::group_laws, crate::proofs::TableLaws::groups_laws, crate::proofs::TableLaws::schedule_laws, crate::proofs::TableLaws::config_laws, crate::proofs::TableLaws::check_in_laws, crate::proofs::TableLaws::user_report_laws, crate::proofs::TableLaws::log_laws, crate::proofs::TableLaws::metric_laws))]
 pub fn tables()
     ensures sampling_contexts { HasLaws sampling_kind }
     ensures session_attributes { HasLaws attributes_kind }
@@ -33,6 +35,8 @@ pub fn tables()
     ensures configurations { HasLaws config_kind }
     ensures check_ins { HasLaws check_in_kind }
     ensures reports { HasLaws user_report_kind }
+    ensures logs { HasLaws log_kind }
+    ensures metrics { HasLaws metric_kind }
 {}
 
 /// Attributes of logs and metrics in trees; null is none.
