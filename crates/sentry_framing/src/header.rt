@@ -1,15 +1,15 @@
 // What an item header says.
-ghost use Rattle.std.specs.Prelude.{◌≡◌, ◌⊎◌, Some, None, IfOk, IfErr, OnOk, option_map, string_bytes};
+ghost use Rattle.std.specs.Prelude.{◌≡◌, ◌≢◌, ◌⊎◌, Some, None, IfOk, IfErr, OnOk, option_map, string_bytes};
 ghost use Rattle.serde_json.specs.Find.{as_str};
-ghost use Rattle.sentry_framing.specs.ItemHeader.{header_of, read_header, optional, whole_number};
-ghost use Rattle.sentry_framing.specs.ItemWords.{item_words};
+ghost use Rattle.sentry_framing.specs.ItemHeader.{◌>>=◌, header_of, read_header, optional, place_of, whole_number};
+ghost use Rattle.sentry_framing.specs.ItemWords.{item_words, kind_place};
 ghost use Rattle.sentry_framing.specs.HeaderView.{header_view};
 
 use crate::error::EnvelopeError;
 use crate::kind::ItemKind;
 use json::Scratch;
 use sentry_members::{TreeError, read_tree};
-use sentry_trees::{Line, LineError, Node};
+use sentry_trees::{Line, LineError, Node, scratch};
 use std::alloc::Global;
 
 /// The fields of an item header.
@@ -41,6 +41,23 @@ impl ItemHeader {
             filename: None,
             attachment_type: None,
         }
+    }
+}
+
+/// What the word at a place stands for.
+fn kind<N: Node>(place: &Option<N>) -> Result<ItemKind, TreeError>
+    ensures ok { IfOk result (λ kind. (option_map N.data_of place.now >>= as_str)
+        >>= (λ word. place_of word item_words) ≡ Some (kind_place kind)) }
+    ensures misfit { result ≡ Err TreeError.Misfit
+        → (option_map N.data_of place.now >>= as_str) >>= (λ word. place_of word item_words) ≡ None }
+    ensures never_memory { result ≢ Err TreeError.Memory }
+{
+    match place {
+        None => Err(TreeError::Misfit),
+        Some(node) => match node.as_str() {
+            Some(word) => ItemKind::from_word(word).ok_or(TreeError::Misfit),
+            None => Err(TreeError::Misfit),
+        },
     }
 }
 
@@ -80,17 +97,16 @@ fn fill_header<N: Node>(alloc: Global, node: &N, fields: &mut ItemHeader) -> Res
     ensures ok { OnOk result (header_of item_words (N.data_of node.now) ≡ Some (header_view fields.new)) }
     ensures misfit { result ≡ Err TreeError.Misfit → header_of item_words (N.data_of node.now) ≡ None }
 {
-    let Some(word) = node.text_at("type") else {
-        return Err(TreeError::Misfit);
-    };
-    let Some(kind) = ItemKind::from_word(word) else {
-        return Err(TreeError::Misfit);
-    };
-    fields.kind = kind;
-    fields.length = optional_number(&node.get("length"))?;
-    fields.content_type = optional_text(alloc, &node.get("content_type"))?;
-    fields.filename = optional_text(alloc, &node.get("filename"))?;
-    fields.attachment_type = optional_text(alloc, &node.get("attachment_type"))?;
+    let mut places = [None, None, None, None, None];
+    node.get_each(
+        &["type", "length", "content_type", "filename", "attachment_type"],
+        &mut places,
+    );
+    fields.kind = kind(&places[0])?;
+    fields.length = optional_number(&places[1])?;
+    fields.content_type = optional_text(alloc, &places[2])?;
+    fields.filename = optional_text(alloc, &places[3])?;
+    fields.attachment_type = optional_text(alloc, &places[4])?;
     Ok(())
 }
 
@@ -145,7 +161,7 @@ pub fn read_item_header(alloc: Global, header: &[u8]) -> Result<ItemHeader, Enve
     ensures err { IfErr result (λ e. (e ≡ EnvelopeError.OutOfMemory)
         ⊎ ((e ≡ EnvelopeError.InvalidItemHeader) × (read_header item_words header.now ≡ None))) }
 {
-    let mut scratch = Scratch::new(alloc);
+    let mut scratch = scratch(alloc);
     read_item_header_with(alloc, header, &mut scratch)
 }
 
