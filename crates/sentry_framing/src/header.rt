@@ -1,7 +1,7 @@
 // What an item header says.
-ghost use Rattle.std.specs.Prelude.{◌≡◌, ◌≢◌, ◌⊎◌, Some, None, IfOk, IfErr, OnOk, option_map, string_bytes};
+ghost use Rattle.std.specs.Prelude.{◌≡◌, [], ◌∷◌, ◌⊎◌, Some, None, IfOk, IfErr, OnOk, option_map, string_bytes};
 ghost use Rattle.serde_json.specs.Find.{as_str};
-ghost use Rattle.sentry_framing.specs.ItemHeader.{◌>>=◌, header_of, read_header, optional, place_of, whole_number};
+ghost use Rattle.sentry_framing.specs.ItemHeader.{header_of, kind_of, read_header, optional, whole_number};
 ghost use Rattle.sentry_framing.specs.ItemWords.{item_words, kind_place};
 ghost use Rattle.sentry_framing.specs.HeaderView.{header_view};
 
@@ -46,11 +46,9 @@ impl ItemHeader {
 
 /// What the word at a place stands for.
 fn kind<N: Node>(place: &Option<N>) -> Result<ItemKind, TreeError>
-    ensures ok { IfOk result (λ kind. (option_map N.data_of place.now >>= as_str)
-        >>= (λ word. place_of word item_words) ≡ Some (kind_place kind)) }
-    ensures misfit { result ≡ Err TreeError.Misfit
-        → (option_map N.data_of place.now >>= as_str) >>= (λ word. place_of word item_words) ≡ None }
-    ensures never_memory { result ≢ Err TreeError.Memory }
+    ensures ok { IfOk result (λ kind. kind_of item_words (option_map N.data_of place.now) ≡ Some (kind_place kind)) }
+    ensures misfit { IfErr result (λ e. (e ≡ TreeError.Misfit)
+        × (kind_of item_words (option_map N.data_of place.now) ≡ None)) }
 {
     match place {
         None => Err(TreeError::Misfit),
@@ -92,15 +90,22 @@ fn optional_text<N: Node>(alloc: Global, place: &Option<N>) -> Result<Option<Str
 }
 
 /// Sets the fields to those that a tree shows. After a refusal some of them may be set.
+///
+/// Where they stand goes into `places`, which is empty before.
 #[tactic(auto, unfolding(crate::specs::ItemHeader::header_of))]
-fn fill_header<N: Node>(alloc: Global, node: &N, fields: &mut ItemHeader) -> Result<(), TreeError>
+fn fill_header<N: Node>(
+    alloc: Global,
+    node: &N,
+    places: &mut [Option<N>],
+    fields: &mut ItemHeader,
+) -> Result<(), TreeError>
+    requires { places.old ≡ None ∷ None ∷ None ∷ None ∷ None ∷ [] }
     ensures ok { OnOk result (header_of item_words (N.data_of node.now) ≡ Some (header_view fields.new)) }
     ensures misfit { result ≡ Err TreeError.Misfit → header_of item_words (N.data_of node.now) ≡ None }
 {
-    let mut places = [None, None, None, None, None];
     node.get_each(
         &["type", "length", "content_type", "filename", "attachment_type"],
-        &mut places,
+        places,
     );
     fields.kind = kind(&places[0])?;
     fields.length = optional_number(&places[1])?;
@@ -126,7 +131,7 @@ fn fill_from_line(
     match Line::parse(line, scratch, Vec::new(alloc)) {
         Ok(read) => {
             let root = read.root();
-            fill_header(alloc, &root, fields)
+            fill_header(alloc, &root, &mut [None, None, None, None, None], fields)
         }
         Err(LineError::Misfit) => Err(TreeError::Misfit),
         Err(LineError::Memory) => Err(TreeError::Memory),
@@ -143,7 +148,7 @@ fn fill_from_tree(alloc: Global, line: &[u8], fields: &mut ItemHeader) -> Result
     ensures misfit { result ≡ Err TreeError.Misfit → read_header item_words line.now ≡ None }
 {
     let tree = read_tree(alloc, line)?;
-    fill_header(alloc, &&tree, fields)
+    fill_header(alloc, &&tree, &mut [None, None, None, None, None], fields)
 }
 
 /// The fields of the item header that stands in these bytes. Other keys are ignored.
