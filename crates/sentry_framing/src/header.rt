@@ -1,6 +1,7 @@
 // What an item header says.
 ghost use Rattle.std.specs.Prelude.{◌≡◌, [], ◌∷◌, ◌⊎◌, Some, None, IfOk, IfErr, OnOk, option_map, string_bytes};
 ghost use Rattle.serde_json.specs.Find.{as_str};
+ghost use Rattle.sentry_trees.specs.Tree.{data_at};
 ghost use Rattle.sentry_framing.specs.ItemHeader.{header_of, kind_of, read_header, optional, whole_number};
 ghost use Rattle.sentry_framing.specs.ItemWords.{item_words, kind_place};
 ghost use Rattle.sentry_framing.specs.HeaderView.{header_view};
@@ -9,7 +10,7 @@ use crate::error::EnvelopeError;
 use crate::kind::ItemKind;
 use json::Scratch;
 use sentry_members::{TreeError, read_tree};
-use sentry_trees::{Line, LineError, Node, scratch};
+use sentry_trees::{Branch, Line, LineError, Node, scratch};
 use std::alloc::Global;
 
 /// The fields of an item header.
@@ -115,6 +116,19 @@ fn fill_header<N: Node>(
     Ok(())
 }
 
+/// Sets the fields to those that a place in a tape shows.
+fn fill_from_branch<'t, 'a>(
+    alloc: Global,
+    root: &Branch<'t, 'a>,
+    fields: &mut ItemHeader,
+) -> Result<(), TreeError>
+    ensures ok { OnOk result (header_of item_words (data_at root.now.at) ≡ Some (header_view fields.new)) }
+    ensures misfit { result ≡ Err TreeError.Misfit → header_of item_words (data_at root.now.at) ≡ None }
+{
+    let mut places: [Option<Branch<'t, 'a>>; 5] = [None, None, None, None, None];
+    fill_header(alloc, root, &mut places, fields)
+}
+
 /// Sets the fields to those that a line shows.
 ///
 /// The line is read through a tape, and through a tree of values where a tape doesn't serve.
@@ -131,7 +145,7 @@ fn fill_from_line(
     match Line::parse(line, scratch, Vec::new(alloc)) {
         Ok(read) => {
             let root = read.root();
-            fill_header(alloc, &root, &mut [None, None, None, None, None], fields)
+            fill_from_branch(alloc, &root, fields)
         }
         Err(LineError::Misfit) => Err(TreeError::Misfit),
         Err(LineError::Memory) => Err(TreeError::Memory),
