@@ -23,6 +23,10 @@ optional fits (Some d) = if is_some (as_null d) then Some None else option_map S
 abbrev pub whole_number : Data → Option ℕ
 whole_number d = as_number d >>= as_u64
 
+-- the place of the word that stands there in the list of item words
+abbrev pub kind_of : List (List ℕ) → Option Data → Option ℕ
+kind_of words there = there >>= as_str >>= (λ word. place_of word words)
+
 -- the type is the place of its word in the list of item words
 pub record Header : Type 0 where
   pub kind : ℕ

@@ -1,15 +1,16 @@
 // What an item header says.
-ghost use Rattle.std.specs.Prelude.{◌≡◌, ◌⊎◌, Some, None, IfOk, IfErr, OnOk, option_map, string_bytes};
+ghost use Rattle.std.specs.Prelude.{◌≡◌, [], ◌∷◌, ◌⊎◌, Some, None, IfOk, IfErr, OnOk, option_map, string_bytes};
 ghost use Rattle.serde_json.specs.Find.{as_str};
-ghost use Rattle.sentry_framing.specs.ItemHeader.{header_of, read_header, optional, whole_number};
-ghost use Rattle.sentry_framing.specs.ItemWords.{item_words};
+ghost use Rattle.sentry_trees.specs.Tree.{data_at};
+ghost use Rattle.sentry_framing.specs.ItemHeader.{header_of, kind_of, read_header, optional, whole_number};
+ghost use Rattle.sentry_framing.specs.ItemWords.{item_words, kind_place};
 ghost use Rattle.sentry_framing.specs.HeaderView.{header_view};
 
 use crate::error::EnvelopeError;
 use crate::kind::ItemKind;
 use json::Scratch;
 use sentry_members::{TreeError, read_tree};
-use sentry_trees::{Line, LineError, Node};
+use sentry_trees::{Branch, Line, LineError, Node, scratch};
 use std::alloc::Global;
 
 /// The fields of an item header.
@@ -44,6 +45,21 @@ impl ItemHeader {
     }
 }
 
+/// What the word at a place stands for.
+fn kind<N: Node>(place: &Option<N>) -> Result<ItemKind, TreeError>
+    ensures ok { IfOk result (λ kind. kind_of item_words (option_map N.data_of place.now) ≡ Some (kind_place kind)) }
+    ensures misfit { IfErr result (λ e. (e ≡ TreeError.Misfit)
+        × (kind_of item_words (option_map N.data_of place.now) ≡ None)) }
+{
+    match place {
+        None => Err(TreeError::Misfit),
+        Some(node) => match node.as_str() {
+            Some(word) => ItemKind::from_word(word).ok_or(TreeError::Misfit),
+            None => Err(TreeError::Misfit),
+        },
+    }
+}
+
 /// A number that may be absent or null.
 fn optional_number<N: Node>(place: &Option<N>) -> Result<Option<u64>, TreeError>
     ensures ok { IfOk result (λ number. optional whole_number (option_map N.data_of place.now) ≡ Some number) }
@@ -75,23 +91,42 @@ fn optional_text<N: Node>(alloc: Global, place: &Option<N>) -> Result<Option<Str
 }
 
 /// Sets the fields to those that a tree shows. After a refusal some of them may be set.
+///
+/// Where they stand goes into `places`, which is empty before.
 #[tactic(auto, unfolding(crate::specs::ItemHeader::header_of))]
-fn fill_header<N: Node>(alloc: Global, node: &N, fields: &mut ItemHeader) -> Result<(), TreeError>
+fn fill_header<N: Node>(
+    alloc: Global,
+    node: &N,
+    places: &mut [Option<N>],
+    fields: &mut ItemHeader,
+) -> Result<(), TreeError>
+    requires { places.old ≡ None ∷ None ∷ None ∷ None ∷ None ∷ [] }
     ensures ok { OnOk result (header_of item_words (N.data_of node.now) ≡ Some (header_view fields.new)) }
     ensures misfit { result ≡ Err TreeError.Misfit → header_of item_words (N.data_of node.now) ≡ None }
 {
-    let Some(word) = node.text_at("type") else {
-        return Err(TreeError::Misfit);
-    };
-    let Some(kind) = ItemKind::from_word(word) else {
-        return Err(TreeError::Misfit);
-    };
-    fields.kind = kind;
-    fields.length = optional_number(&node.get("length"))?;
-    fields.content_type = optional_text(alloc, &node.get("content_type"))?;
-    fields.filename = optional_text(alloc, &node.get("filename"))?;
-    fields.attachment_type = optional_text(alloc, &node.get("attachment_type"))?;
+    node.get_each(
+        &["type", "length", "content_type", "filename", "attachment_type"],
+        places,
+    );
+    fields.kind = kind(&places[0])?;
+    fields.length = optional_number(&places[1])?;
+    fields.content_type = optional_text(alloc, &places[2])?;
+    fields.filename = optional_text(alloc, &places[3])?;
+    fields.attachment_type = optional_text(alloc, &places[4])?;
     Ok(())
+}
+
+/// Sets the fields to those that a place in a tape shows.
+fn fill_from_branch<'t, 'a>(
+    alloc: Global,
+    root: &Branch<'t, 'a>,
+    fields: &mut ItemHeader,
+) -> Result<(), TreeError>
+    ensures ok { OnOk result (header_of item_words (data_at root.now.at) ≡ Some (header_view fields.new)) }
+    ensures misfit { result ≡ Err TreeError.Misfit → header_of item_words (data_at root.now.at) ≡ None }
+{
+    let mut places: [Option<Branch<'t, 'a>>; 5] = [None, None, None, None, None];
+    fill_header(alloc, root, &mut places, fields)
 }
 
 /// Sets the fields to those that a line shows.
@@ -110,7 +145,7 @@ fn fill_from_line(
     match Line::parse(line, scratch, Vec::new(alloc)) {
         Ok(read) => {
             let root = read.root();
-            fill_header(alloc, &root, fields)
+            fill_from_branch(alloc, &root, fields)
         }
         Err(LineError::Misfit) => Err(TreeError::Misfit),
         Err(LineError::Memory) => Err(TreeError::Memory),
@@ -127,7 +162,7 @@ fn fill_from_tree(alloc: Global, line: &[u8], fields: &mut ItemHeader) -> Result
     ensures misfit { result ≡ Err TreeError.Misfit → read_header item_words line.now ≡ None }
 {
     let tree = read_tree(alloc, line)?;
-    fill_header(alloc, &&tree, fields)
+    fill_header(alloc, &&tree, &mut [None, None, None, None, None], fields)
 }
 
 /// The fields of the item header that stands in these bytes. Other keys are ignored.
@@ -145,7 +180,7 @@ pub fn read_item_header(alloc: Global, header: &[u8]) -> Result<ItemHeader, Enve
     ensures err { IfErr result (λ e. (e ≡ EnvelopeError.OutOfMemory)
         ⊎ ((e ≡ EnvelopeError.InvalidItemHeader) × (read_header item_words header.now ≡ None))) }
 {
-    let mut scratch = Scratch::new(alloc);
+    let mut scratch = scratch(alloc);
     read_item_header_with(alloc, header, &mut scratch)
 }
 

@@ -12,7 +12,7 @@ use crate::error::TreeError;
 use crate::read::FromTree;
 use crate::tree::has_float;
 use json::Scratch;
-use sentry_trees::{Line, LineError, Node};
+use sentry_trees::{Line, LineError, Node, scratch};
 use serde_json::Value;
 use std::alloc::Global;
 
@@ -118,7 +118,7 @@ impl<T: FromTree> ReadsNode<T> for Plainly {
 pub fn read_line<T: FromTree>(alloc: Global, line: &[u8]) -> Result<T, TreeError>
     ensures { ReadsText T.kind T.cell_of line.now result }
 {
-    let mut scratch = Scratch::new(alloc);
+    let mut scratch = scratch(alloc);
     read_line_with(alloc, line, &mut scratch)
 }
 

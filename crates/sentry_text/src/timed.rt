@@ -11,7 +11,7 @@ use sentry_rows::FromTreeAt;
 pub use sentry_rows::timed::{
     ReadCodecAt, now_or_as, optional_at, read_list_at, read_map_at, read_values_at, required_at,
 };
-use sentry_trees::Node;
+use sentry_trees::{Node, scratch};
 use std::alloc::Global;
 
 /// The reader of a type at a moment, with ids at hand.
@@ -45,7 +45,7 @@ pub fn read_line_at<T: FromTreeAt, R: Rng>(
 ) -> Result<T, TreeError>
     ensures { ReadsTextAt (moment_cell now) T.kind T.cell_of line.now result }
 {
-    let mut scratch = Scratch::new(alloc);
+    let mut scratch = scratch(alloc);
     read_line_at_with(alloc, line, now, ids, &mut scratch)
 }
 

@@ -4,3 +4,4 @@ pub mod Trees
 pub mod Numbers
 pub mod Lines
 pub mod Beside
+pub mod Each

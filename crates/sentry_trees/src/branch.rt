@@ -6,6 +6,7 @@ ghost use Rattle.serde_json.specs.View.{view, items_view, members_view};
 ghost use Rattle.sentry_trees.specs.Nodes.{items_by, members_by};
 ghost use Rattle.sentry_trees.specs.Tree.{data_at, is_tree};
 
+use crate::keys::place;
 use crate::node::Node;
 use crate::number;
 use crate::object::Named;
@@ -70,6 +71,17 @@ impl<'t, 'a> Node for Branch<'t, 'a> {
         match self.at.get(key) {
             Some(at) => Some(Branch { at }),
             None => None,
+        }
+    }
+
+    fn get_each(&self, keys: &[&str], places: &mut [Option<Branch<'t, 'a>>]) {
+        let Some(mut members) = self.at.members() else {
+            return;
+        };
+        while let Some((key, at)) = members.next() {
+            if let Some(i) = place(keys, key) {
+                places[i] = Some(Branch { at });
+            }
         }
     }
 

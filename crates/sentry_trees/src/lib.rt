@@ -10,6 +10,6 @@ pub mod object;
 
 pub use branch::Branch;
 pub use keys::is_among;
-pub use line::{Line, LineError};
+pub use line::{Line, LineError, scratch};
 pub use node::Node;
 pub use object::{Named, Object};

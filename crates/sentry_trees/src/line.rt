@@ -13,6 +13,7 @@ ghost use Rattle.sentry_trees.specs.Tree.{data_at, is_tree, fits};
 use crate::branch::Branch;
 use crate::number;
 use json::{Error, MAX_LEN, Node, Scratch, Tape};
+use std::alloc::Global;
 use std::str;
 
 /// Why a line gives no tape.
@@ -25,6 +26,14 @@ pub enum LineError {
     /// Only a tree of values can tell: the line is longer than 4 GiB less 256 bytes, or it nests 128 deep,
     /// or a number in it is not whole or is more than 64 bits hold.
     Unfit,
+}
+
+/// The memory that reading lines needs, to be lent to each read.
+///
+/// It is large, and cleared when it is made: a call of its own keeps that out of its callers.
+#[inline(never)]
+pub fn scratch(alloc: Global) -> Scratch {
+    Scratch::new(alloc)
 }
 
 /// A line of JSON as a tape.

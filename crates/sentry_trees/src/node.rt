@@ -1,10 +1,11 @@
 //! A place in a tree of JSON.
 
-ghost use Rattle.std.specs.Prelude.{◌≡◌, is_some, option_map, option_and_then, IfOk, IfSome};
+ghost use Rattle.std.specs.Prelude.{◌≡◌, true, None, map, is_some, option_map, option_and_then, IfOk, IfSome};
 ghost use Rattle.serde_json.specs.Data.{Data};
 ghost use Rattle.serde_json.specs.Find as find;
 ghost use Rattle.serde_json.specs.View.{view, number_view};
 ghost use Rattle.sentry_json.specs.Sound.{IsRanged};
+ghost use Rattle.sentry_trees.specs.Keys.{are_distinct};
 ghost use Rattle.sentry_trees.specs.Nodes.{items_by, members_by, named_by};
 
 use crate::object::Named;
@@ -47,6 +48,15 @@ pub trait Node: Sized + Drop {
     /// The place at a key of the object that stands here.
     fn get(&self, key: &str) -> Option<Self>
         ensures { option_map data_of result ≡ find.get key.now (data_of self.now) };
+
+    /// The places at several keys of the object that stands here, found in one walk.
+    ///
+    /// Each key takes the place of its own number in `places`, all of which are empty before.
+    fn get_each(&self, keys: &[&str], places: &mut [Option<Self>])
+        requires distinct { are_distinct (map (λ key. key.now) keys.now) ≡ true }
+        requires empty { map (option_map data_of) places.old ≡ map (λ key. None) keys.now }
+        ensures { map (option_map data_of) places.new
+            ≡ map (λ key. find.get key.now (data_of self.now)) keys.now };
 
     /// The text at a key of the object that stands here.
     fn text_at(&self, key: &str) -> Option<&str>
@@ -112,6 +122,12 @@ impl<'v> Node for &'v Value {
 
     fn get(&self, key: &str) -> Option<&'v Value> {
         Value::get(*self, key)
+    }
+
+    fn get_each(&self, keys: &[&str], places: &mut [Option<&'v Value>]) {
+        for i in 0..keys.len() {
+            places[i] = Value::get(*self, keys[i]);
+        }
     }
 
     fn text_at(&self, key: &str) -> Option<&str> {
