@@ -1,7 +1,7 @@
 -- The tables of contexts are lawful, and so are contexts by their tag, and maps of them.
 use Rattle.std.proofs.Common.{◌≡◌, ◌^◌, refl, arith}
 use Rattle.serde_json.specs.Data.{null}
-use Rattle.sentry_tables.proofs.Basic.{text_laws, truth_laws, unsigned_laws, any_laws}
+use Rattle.sentry_tables.proofs.Basic.{text_laws, truth_laws, u32_laws, u64_laws, any_laws}
 use Rattle.sentry_tables.proofs.ByRows.{laws_by_rows, empty_map_stands}
 use Rattle.sentry_tables.proofs.Laws.{has_laws}
 use Rattle.sentry_tables.specs.Basic.{unsigned_scalar}
@@ -28,12 +28,6 @@ use Rattle.sentry_contexts.specs.Systems.{os_fields, os_kind, runtime_fields, ru
 use Rattle.sentry_contexts.specs.Telemetry.{otel_fields, otel_kind, tracing_fields, tracing_kind}
 
 -- ---- scalars and defaults
-
-u32_laws : ScalarLaws (unsigned_scalar (2 ^ 32))
-u32_laws = unsigned_laws (2 ^ 32) (omega arith)
-
-u64_laws : ScalarLaws (unsigned_scalar (2 ^ 64))
-u64_laws = unsigned_laws (2 ^ 64) (omega arith)
 
 orientation_lawful : IsLawful orientation_kind
 orientation_lawful = spelled_laws orientation_spelling orientation_laws

@@ -6,7 +6,7 @@ use Rattle.std.specs.Ordering.{int_eq}
 use Rattle.std.specs.String.{string_eq}
 use Rattle.sentry_tables.specs.Cell.{whole}
 use Rattle.sentry_members.specs.Cells.{text_cell, natural_cell}
-use Rattle.sentry_members.proofs.Equal.{texts_decide, options_decide, lists_decide}
+use Rattle.sentry_members.proofs.Equal.{texts_decide, naturals_decide, wholes_decide, options_decide, lists_decide}
 use Rattle.sentry_frames.specs.Causes.{c_error_fields, c_error_cell, mach_fields, mach_cell, signal_fields, signal_cell}
 use Rattle.sentry_frames.specs.Frames.{template_fields, template_cell}
 use Rattle.sentry_frames.specs.Mechanisms.{meta_fields, meta_cell}
@@ -24,12 +24,6 @@ use Rattle.sentry_frames.specs.declared.posix_signal.PosixSignal.{PosixSignal}
 use Rattle.sentry_frames.specs.declared.template_info.TemplateInfo.{TemplateInfo}
 use Rattle.sentry_frames.specs.declared.thread_id.ThreadId.{ThreadId}
 use Rattle.sentry_frames.specs.declared.thread_id.ThreadId.TheVariants.{Int, String}
-
-naturals_decide : (m n : ℕ) → Decides (eqb m n) (natural_cell m ≡ natural_cell n)
-naturals_decide m n = Decides-like (eqb m n) (λ same. ap natural_cell same) (λ same. cc) (Decides-eqb m n)
-
-wholes_decide : (m n : ℤ) → Decides (int_eq m n) (whole m ≡ whole n)
-wholes_decide m n = Decides-like (int_eq m n) (λ same. ap whole same) (λ same. cc) (Decides-int_eq m n)
 
 pub thread_ids_decide : (a b : ThreadId) → Decides (of_thread_ids.it a b) (thread_id_cell a ≡ thread_id_cell b)
 thread_ids_decide (Int m) (Int n) = naturals_decide m n

@@ -1,7 +1,7 @@
 -- The tables of messages, frames, stack traces, threads and exceptions are lawful.
 use Rattle.std.proofs.Common.{◌^◌, false, refl, arith}
-use Rattle.sentry_tables.proofs.Basic.{text_laws, truth_laws, truth_refuses_null, unsigned_laws, signed_laws, pair_laws, any_laws}
-use Rattle.sentry_tables.proofs.ByRows.{laws_by_rows, empty_list_stands, empty_map_stands}
+use Rattle.sentry_tables.proofs.Basic.{text_laws, truth_laws, u64_laws, i32_laws, pair_laws, any_laws}
+use Rattle.sentry_tables.proofs.ByRows.{laws_by_rows, empty_list_stands, empty_map_stands, empty_list_stays, false_stands}
 use Rattle.sentry_tables.proofs.Laws.{has_laws}
 use Rattle.sentry_tables.proofs.Nulls.{table_refuses_null}
 use Rattle.sentry_tables.specs.Basic.{truth_scalar, unsigned_scalar, signed_scalar}
@@ -14,7 +14,7 @@ use Rattle.sentry_members.specs.Cells.{empty_list}
 use Rattle.sentry_addresses.proofs.AddressTrees.{address_laws}
 use Rattle.sentry_members.proofs.Spellings.{spelled_laws}
 use Rattle.sentry_urls.specs.UrlTree.{url_kind, url_spelling}
-use Rattle.sentry_urls.proofs.UrlTrees.{url_laws}
+use Rattle.sentry_urls.proofs.UrlTrees.{url_lawful}
 use Rattle.sentry_frames.specs.Causes.{c_error_fields, c_error_kind, mach_fields, mach_kind, signal_fields, signal_kind}
 use Rattle.sentry_frames.specs.Exceptions.{exception_fields, exception_kind}
 use Rattle.sentry_frames.specs.Frames.{frame_fields, frame_kind, stacktrace_fields, stacktrace_kind, template_fields, template_kind}
@@ -23,23 +23,6 @@ use Rattle.sentry_frames.specs.Mechanisms.{mechanism_fields, mechanism_kind, met
 use Rattle.sentry_frames.specs.ThreadIds.{thread_id_kind}
 use Rattle.sentry_frames.specs.Threads.{thread_fields, thread_kind}
 use Rattle.sentry_frames.proofs.ThreadIds.{thread_id_lawful}
-
--- ---- scalars and defaults
-
-u64_laws : ScalarLaws (unsigned_scalar (2 ^ 64))
-u64_laws = unsigned_laws (2 ^ 64) (omega arith)
-
-i32_laws : ScalarLaws (signed_scalar (2 ^ 31))
-i32_laws = signed_laws (2 ^ 31) (omega arith)
-
-url_lawful : IsLawful url_kind
-url_lawful = spelled_laws url_spelling url_laws
-
-false_stands : RuleLaws (default (truth false)) (scalar truth_scalar)
-false_stands = (truth_refuses_null, (tt, tt, tt, refl))
-
-empty_list_stays : (K : Kind) → RuleLaws (always empty_list) (list K)
-empty_list_stays K = empty_list_stands K
 
 -- ---- tables
 

@@ -1,6 +1,6 @@
 -- The tables of debug images, and of what debuggers need, are lawful.
 use Rattle.std.proofs.Common.{◌^◌, refl, arith}
-use Rattle.sentry_tables.proofs.Basic.{text_laws, unsigned_laws}
+use Rattle.sentry_tables.proofs.Basic.{text_laws, u32_laws, u64_laws}
 use Rattle.sentry_tables.proofs.ByRows.{laws_by_rows, empty_list_stands}
 use Rattle.sentry_tables.proofs.Laws.{has_laws}
 use Rattle.sentry_tables.specs.Basic.{unsigned_scalar}
@@ -18,12 +18,6 @@ use Rattle.sentry_parts.specs.DebugImages.{apple_fields, apple_kind, symbolic_fi
 use Rattle.sentry_parts.specs.Debugging.{empty_meta, meta_fields, meta_kind, system_fields, system_kind}
 
 -- ---- scalars and defaults
-
-u32_laws : ScalarLaws (unsigned_scalar (2 ^ 32))
-u32_laws = unsigned_laws (2 ^ 32) (omega arith)
-
-u64_laws : ScalarLaws (unsigned_scalar (2 ^ 64))
-u64_laws = unsigned_laws (2 ^ 64) (omega arith)
 
 zero_stands : RuleLaws (default (natural_cell 0)) address_kind
 zero_stands = (address_refuses_null, address_is_normal 0 (omega arith))

@@ -4,7 +4,7 @@ use Rattle.std.proofs.lemmas.Bool.Decides.{Decides-and, Decides-like}
 use Rattle.std.specs.String.{string_eq}
 use Rattle.sentry_tables.specs.Cell.{choice, text}
 use Rattle.sentry_members.specs.Cells.{text_cell, natural_cell}
-use Rattle.sentry_members.proofs.Equal.{texts_decide, options_decide, lists_decide}
+use Rattle.sentry_members.proofs.Equal.{texts_decide, naturals_decide, options_decide, lists_decide}
 use Rattle.sentry_addresses.specs.contracts.addr.AddrPartialEq.TheImpl.{eq-value as of_addresses}
 use Rattle.sentry_addresses.specs.declared.addr.Addr.{Addr}
 use Rattle.sentry_identifiers.specs.CodeId.{code_text}
@@ -31,7 +31,7 @@ use Rattle.sentry_parts.specs.declared.native_images.SymbolicDebugImage.{Symboli
 use Rattle.sentry_parts.specs.declared.other_images.ProguardDebugImage.{ProguardDebugImage}
 use Rattle.sentry_parts.specs.declared.other_images.WasmDebugImage.{WasmDebugImage}
 use Rattle.sentry_parts.specs.declared.system_sdk_info.SystemSdkInfo.{SystemSdkInfo}
-use Rattle.sentry_parts.proofs.EqualParts.{naturals_decide, ids_decide}
+use Rattle.sentry_parts.proofs.EqualParts.{ids_decide}
 
 -- ---- ids and addresses
 

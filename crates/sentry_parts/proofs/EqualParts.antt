@@ -1,4 +1,4 @@
--- What `==` says of scalars, maps and requests: they are equal exactly where their cells are the same.
+-- What `==` says of ids and requests: they are equal exactly where their cells are the same.
 use Rattle.std.proofs.Common.{rules, Global, String, ◌≡◌, ◌&&◌, ◌==◌, ℕ, Bool, List, [], ◌∷◌, Option, Some, None, refl, ap, subst, Decides}
 use Rattle.std.proofs.lemmas.Bool.Decides.{Decides-and, Decides-like, Decides-eqb}
 use lib.Pointwise.{pointwise}
@@ -11,36 +11,17 @@ use Rattle.uuid.specs.declared.Uuid.{Uuid}
 use Rattle.sentry_tables.specs.Cell.{Cell, octets, mapping, present}
 use Rattle.sentry_tables.specs.Meets.{IsReadable, IsOptional}
 use Rattle.sentry_members.specs.Cells.{text_cell, natural_cell, option_cell, entries, map_cell}
-use Rattle.sentry_members.proofs.Equal.{texts_decide, options_decide}
+use Rattle.sentry_members.proofs.Equal.{texts_decide, options_decide, maps_decide}
 use Rattle.sentry_urls.specs.UrlTree.{url_cell, url_kind, UrlReadsBack}
 use Rattle.sentry_urls.proofs.UrlTrees.{one_url, urls_decide}
 use Rattle.sentry_parts.specs.Requests.{request_fields, request_cell, request_kind}
 use Rattle.sentry_parts.specs.contracts.request.RequestPartialEq.TheImpl.{eq-value as of_requests}
 use Rattle.sentry_parts.specs.declared.request.Request.{Request}
 
--- ---- scalars and maps
-
-pub naturals_decide : (m n : ℕ) → Decides (m == n) (natural_cell m ≡ natural_cell n)
-naturals_decide m n = Decides-like (m == n) (λ same. ap natural_cell same) (λ same. cc) (Decides-eqb m n)
+-- ---- ids
 
 pub ids_decide : (a b : Uuid) → Decides (of_ids.it a b) (octets a ≡ octets b)
 ids_decide a b = search rules
-
--- of maps, where `E` decides which of their values are the same
-module _ {A : Type 0} (E : A → A → Bool) (f : A → Cell) (each : (a b : A) → Decides (E a b) (f a ≡ f b)) where
-  abbrev same_entry : String Global × A → String Global × A → Bool
-  same_entry p q = string_eq p.0 q.0 && E p.1 q.1
-
-  entries_decide : (xs ys : List (String Global × A)) → Decides (pointwise same_entry xs ys) (entries f xs ≡ entries f ys)
-  entries_decide [] [] = (λ same. refl, λ same. refl)
-  entries_decide [] (y ∷ ys) = (λ same. cc, λ same. cc)
-  entries_decide (x ∷ xs) [] = (λ same. cc, λ same. cc)
-  entries_decide (x ∷ xs) (y ∷ ys) =
-      let both = Decides-and _ _ (Decides-and _ _ (texts_decide x.0 y.0) (each x.1 y.1)) (entries_decide xs ys) in
-      (λ same. let e = both.0 same in let key = e.0.0 in let value = e.0.1 in let rest = e.1 in cc, λ same. both.1 ((cc, cc), cc))
-
-  pub maps_decide : (xs ys : List (String Global × A)) → Decides (pointwise same_entry xs ys) (map_cell f xs ≡ map_cell f ys)
-  maps_decide xs ys = Decides-like (pointwise same_entry xs ys) (λ same. ap mapping same) (λ same. cc) (entries_decide xs ys)
 
 -- ---- URLs that are read back
 

@@ -18,7 +18,7 @@ use Rattle.sentry_words.proofs.Enumerations.{level_laws}
 use Rattle.sentry_moments.proofs.MomentSpellings.{seconds_laws, seconds_at_once}
 use Rattle.sentry_addresses.proofs.IpTrees.{ip_address_lawful}
 use Rattle.sentry_urls.specs.UrlTree.{url_kind, url_spelling}
-use Rattle.sentry_urls.proofs.UrlTrees.{url_laws}
+use Rattle.sentry_urls.proofs.UrlTrees.{url_lawful}
 use Rattle.sentry_parts.specs.Breadcrumbs.{breadcrumb_fields, breadcrumb_kind}
 use Rattle.sentry_parts.specs.Requests.{request_fields, request_kind}
 use Rattle.sentry_parts.specs.Users.{user_fields, user_kind}
@@ -27,9 +27,6 @@ use Rattle.sentry_parts.specs.Users.{user_fields, user_kind}
 
 level_lawful : IsLawful level_kind
 level_lawful = spelled_laws level_spelling level_laws
-
-url_lawful : IsLawful url_kind
-url_lawful = spelled_laws url_spelling url_laws
 
 info_stands : RuleLaws (default (text (codes "info"))) level_kind
 info_stands = (spelled_refuses_null level_spelling, ((level.Info, refl), tt, tt, refl))

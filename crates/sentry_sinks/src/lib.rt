@@ -6,6 +6,7 @@
 
 pub mod draw;
 pub mod kept;
+pub mod laws;
 pub mod sink;
 pub mod values;
 

@@ -168,6 +168,30 @@ impl<'a, T: Drop> IntoIterator for &'a Values<T> {
     }
 }
 
+impl<'a, T: Drop> IntoIterator for &'a mut Values<T> {
+    ghost use Rattle.std.specs.Prelude.{◌≡◌};
+    ghost use Rattle.std.specs.Borrow.{sem};
+    ghost use Rattle.std.specs.Iterator.Runs.{EveryRun, ItemsMapTo};
+    ghost use Rattle.std.specs.Slice.Iter.{iter_mut_rest, iter_mut_steps};
+    ghost use Rattle.sentry_sinks.specs.Lent.{lends_iter};
+
+    type Item = &'a mut T;
+
+    type IntoIter = IterMut<'a, T>;
+
+    ghost into_iter_gives = { λ v it. (iter_mut_rest it ≡ v.now.values.items)
+        × EveryRun (iter_mut_steps {A = T}) (λ p. ItemsMapTo p (λ x. x.now) (iter_mut_rest p.from)) };
+
+    /// The values in order, each lent to be changed.
+    fn into_iter(self) -> IterMut<'a, T>
+        ensures* writes_back { sem 𝓛 (lends_iter T.row self.entry result) }
+        ensures into_iter_gives { (iter_mut_rest result ≡ self.old.values.items)
+            × EveryRun (iter_mut_steps {A = T}) (λ p. ItemsMapTo p (λ x. x.now) (iter_mut_rest p.from)) }
+    {
+        self.iter_mut()
+    }
+}
+
 impl<T: Drop> From<Vec<T>> for Values<T> {
     ghost use Rattle.std.specs.Prelude.{◌≡◌};
 

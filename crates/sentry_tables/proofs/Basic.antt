@@ -172,6 +172,15 @@ module _ (bound : ℕ) where
   pub signed_refuses_null : RefusesNull (scalar (signed_scalar bound))
   signed_refuses_null = reader_refuses_null reads_signed whole_tree (IsWithin bound) refl
 
+pub u32_laws : ScalarLaws (unsigned_scalar (2 ^ 32))
+u32_laws = unsigned_laws (2 ^ 32) (omega arith)
+
+pub u64_laws : ScalarLaws (unsigned_scalar (2 ^ 64))
+u64_laws = unsigned_laws (2 ^ 64) (omega arith)
+
+pub i32_laws : ScalarLaws (signed_scalar (2 ^ 31))
+i32_laws = signed_laws (2 ^ 31) (omega arith)
+
 -- ---- pairs of whole numbers
 
 abbrev reads_pair : Data → Option Cell

@@ -1,9 +1,11 @@
 -- A table is lawful row by row.
 use Rattle.std.proofs.Common.{◌≡◌, ◌&&◌, List, [], ◌∷◌, ℕ, Bool, true, false, refl}
 use Rattle.std.proofs.lemmas.Bool.{and_parts}
-use Rattle.sentry_tables.specs.Cell.{sequence, mapping, no_cells, no_entries}
-use Rattle.sentry_tables.specs.Kind.{default, Kind, list, map, values, Rows, no_rows, row, keys, has_key}
+use Rattle.sentry_tables.specs.Basic.{truth_scalar}
+use Rattle.sentry_tables.specs.Cell.{sequence, mapping, no_cells, no_entries, truth}
+use Rattle.sentry_tables.specs.Kind.{default, always, Kind, scalar, list, map, values, Rows, no_rows, row, keys, has_key}
 use Rattle.sentry_tables.specs.Lawful.{is_ascii, RuleLaws, IsLawful, RowsLawful}
+use Rattle.sentry_tables.proofs.Basic.{truth_refuses_null}
 
 -- each key stands once, and is ASCII
 abbrev pub is_new : Bool → Bool
@@ -39,3 +41,11 @@ empty_map_stands K = ((λ now c h. h), ((tt, tt), (tt, tt), (tt, tt), refl))
 
 pub empty_values_stand : (K : Kind) → RuleLaws (default (sequence no_cells)) (values K)
 empty_values_stand K = ((λ now c h. h), (tt, tt, tt, refl))
+
+-- the same where it is always written
+pub empty_list_stays : (K : Kind) → RuleLaws (always (sequence no_cells)) (list K)
+empty_list_stays K = empty_list_stands K
+
+-- false is its own normal form, and null is no truth value
+pub false_stands : RuleLaws (default (truth false)) (scalar truth_scalar)
+false_stands = (truth_refuses_null, (tt, tt, tt, refl))

@@ -17,7 +17,7 @@ use Rattle.url.proofs.Theorems.{parse_url-serialize, parse_url_idempotent}
 use Rattle.url.proofs.ValidLemmas.{IsAscii-serialize}
 use Rattle.sentry_json.specs.Sound.{IsSound}
 use Rattle.sentry_tables.specs.Cell.{Cell, text}
-use Rattle.sentry_tables.specs.Lawful.{RefusesNull, IsNormal}
+use Rattle.sentry_tables.specs.Lawful.{RefusesNull, IsLawful, IsNormal}
 use Rattle.sentry_tables.specs.Laws.{HasLaws}
 use Rattle.sentry_tables.specs.Meets.{IsStored, IsReadable}
 use Rattle.sentry_tables.specs.Shows.{Shows}
@@ -96,11 +96,14 @@ url_laws = record {
   decide = λ s. some_spelled s (parse_url None s) refl;
 }
 
+pub url_lawful : IsLawful url_kind
+url_lawful = spelled_laws url_spelling url_laws
+
 pub url_has_laws : HasLaws url_kind
 url_has_laws = spelled_has_laws url_spelling url_laws
 
 pub url_shown_readable : (now : Cell) (d : Data) (c : Cell) → IsSound d → Shows url_kind now d c → IsReadable url_kind c
-url_shown_readable now = (spelled_laws url_spelling url_laws).shown_readable
+url_shown_readable now = url_lawful.shown_readable
 
 pub url_refuses_null : RefusesNull url_kind
 url_refuses_null = spelled_refuses_null url_spelling
