@@ -6,4 +6,4 @@ pub returns : goal.returns
 unfolding metric_fields
 returns c =
     let fits : SFits w64 c.plain-3.result = search rules in
-    rw (to_z-of_z fits) (_, c.in_ok-map.ensures, (_, c.cow.ensures, (_, c.optional.ensures, (_, c.plain_as.ensures, (_, c.plain.ensures, (_, c.plain-2.ensures, (_, c.optional-2.ensures, (_, c.plain-3.ensures, refl))))))))
+    (_, c.in_ok-map.ensures, (_, c.cow.ensures, (_, c.optional.ensures, (_, c.plain_as.ensures, (_, c.plain.ensures, (_, c.plain-2.ensures, (_, c.optional-2.ensures, (_, rw (to_z-of_z fits) c.plain-3.ensures, refl))))))))

@@ -6,4 +6,4 @@ pub returns : goal.returns
 unfolding metric_fields
 returns g c =
     let fits : SFits w64 c.required-3.result = search rules in
-    rw (to_z-of_z fits) (_, c.map.ensures, (_, c.cow.ensures, (_, c.optional.ensures, (_, c.required_as.ensures, (_, c.required.ensures, (_, c.required-2.ensures, (_, c.optional-2.ensures, (_, c.required-3.ensures, refl))))))))
+    (_, c.map.ensures, (_, c.cow.ensures, (_, c.optional.ensures, (_, c.required_as.ensures, (_, c.required.ensures, (_, c.required-2.ensures, (_, c.optional-2.ensures, (_, rw (to_z-of_z fits) c.required-3.ensures, refl))))))))
