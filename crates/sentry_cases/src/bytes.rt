@@ -1,6 +1,6 @@
 //! Answers to bytes.
 
-use crate::envelopes::{of_envelope, of_frames, of_losses, of_raw};
+use crate::envelopes::{of_envelope, of_frames, of_losses, of_raw, of_rewritten};
 use crate::filters::of_filter;
 use crate::form::of_tape;
 use crate::said::{list, text};
@@ -40,6 +40,7 @@ pub fn of_bytes(alloc: Global, name: &str, bytes: &[u8]) -> Result<Option<Value>
         "tape" => of_tape(alloc, bytes)?,
         "raw" => of_raw(alloc, bytes)?,
         "envelope" => of_envelope(alloc, bytes)?,
+        "rewritten" => of_rewritten(alloc, bytes)?,
         "frames" => of_frames(alloc, bytes)?,
         "losses" => of_losses(alloc, bytes)?,
         _ => return Ok(None),

@@ -55,6 +55,14 @@ pub fn of_envelope(alloc: Global, bytes: &[u8]) -> Result<Value, AllocError> {
     }
 }
 
+/// What is written of the envelope that bytes spell, whether or not its text can be read.
+pub fn of_rewritten(alloc: Global, bytes: &[u8]) -> Result<Value, AllocError> {
+    match read(alloc, bytes) {
+        Ok(envelope) => said_envelope(alloc, &envelope),
+        Err(error) => refused(alloc, &error),
+    }
+}
+
 /// What is written of the raw envelope of bytes, whether it is plain, how many items it shows, and what is lost with
 /// them.
 pub fn of_raw(alloc: Global, bytes: &[u8]) -> Result<Value, AllocError> {

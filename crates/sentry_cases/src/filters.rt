@@ -15,12 +15,11 @@ struct ByKinds<'a> {
     losses: Vec<Value>,
 }
 
-// The word of an item's kind.
+// The word of an item's type.
 fn word_of(item: &EnvelopeItem) -> &'static str {
-    match item {
-        EnvelopeItem::Attachment(_) => "attachment",
-        EnvelopeItem::ReplayRecording(_) => "replay_recording",
-        EnvelopeItem::Raw => "raw",
+    match item.kind() {
+        Some(kind) => kind.word(),
+        None => "raw",
     }
 }
 
