@@ -22,7 +22,7 @@ use std::str;
 /// The value of an attribute.
 ///
 /// A text is of the type `string`, a truth value of `boolean`, a whole number below 2^63 of `integer`; all
-/// else is a `string` of its compact text.
+/// else is a `string` of its compact text. One whose tree holds a float isn't plain: no envelope with it is written.
 ///
 /// <https://develop.sentry.dev/sdk/telemetry/attributes/>
 #[derive(Debug, Drop, PartialEq)]
