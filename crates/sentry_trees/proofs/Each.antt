@@ -1,5 +1,5 @@
 -- Several keys that are looked up in one walk.
-use Rattle.std.proofs.Common.{◌≡◌, ℕ, zero, suc, ◌+◌, ◌<◌, List, [], ◌∷◌, length, map, drop, take, set, get_or, bytes_eq, Bor, Option, Some, None, option_map, refl, sym, ap, ◌∙◌, subst, Bool, true, false, arith, true≢false}
+use Rattle.std.proofs.Common.{◌≡◌, ℕ, zero, suc, ◌+◌, ◌<◌, List, [], ◌∷◌, length, map, set, get_or, bytes_eq, Bor, Option, Some, None, option_map, refl, sym, ap, ◌∙◌, subst, true, false, arith, true≢false}
 use Rattle.std.proofs.lemmas.Bool.{and_parts, or_parts, not-true}
 use Rattle.std.proofs.lemmas.List.{length-map, map-set}
 use Rattle.std.proofs.lemmas.Slice.Eq.{bytes_eq-Decides}
