@@ -1,16 +1,15 @@
 -- The tables of contexts are lawful, and so are contexts by their tag, and maps of them.
-use Rattle.std.proofs.Common.{◌≡◌, ◌^◌, refl, arith}
+use Rattle.std.proofs.Common.{◌≡◌, refl}
 use Rattle.serde_json.specs.Data.{null}
 use Rattle.sentry_tables.proofs.Basic.{text_laws, truth_laws, u32_laws, u64_laws, any_laws}
 use Rattle.sentry_tables.proofs.ByRows.{laws_by_rows, empty_map_stands}
 use Rattle.sentry_tables.proofs.Laws.{has_laws}
-use Rattle.sentry_tables.specs.Basic.{unsigned_scalar}
 use Rattle.sentry_tables.specs.Cell.{Cell, absent, any, present}
 use Rattle.sentry_tables.specs.Fields.{rows_of}
 use Rattle.sentry_tables.specs.Kind.{default, draw, may_strict}
 use Rattle.sentry_tables.specs.Laws.{HasLaws}
 use Rattle.sentry_tables.specs.Norm.{norm}
-use Rattle.sentry_tables.specs.Lawful.{ScalarLaws, RuleLaws, IsLawful}
+use Rattle.sentry_tables.specs.Lawful.{RuleLaws, IsLawful}
 use Rattle.sentry_members.specs.Cells.{empty_map}
 use Rattle.sentry_members.proofs.Spellings.{spelled_laws}
 use Rattle.sentry_words.specs.Orientation.{orientation_kind, orientation_spelling}

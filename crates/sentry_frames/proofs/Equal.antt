@@ -1,6 +1,6 @@
 -- What `==` says of values without trees: they are equal exactly where their cells are the same.
-use Rattle.std.proofs.Common.{◌≡◌, ℕ, ℤ, ap, Decides}
-use Rattle.std.proofs.lemmas.Bool.Decides.{Decides-and, Decides-like, Decides-eqb, Decides-int_eq}
+use Rattle.std.proofs.Common.{◌≡◌, Decides}
+use Rattle.std.proofs.lemmas.Bool.Decides.{Decides-and}
 use lib.Dec.{eqb}
 use Rattle.std.specs.Ordering.{int_eq}
 use Rattle.std.specs.String.{string_eq}

@@ -1,19 +1,14 @@
 -- The tables of messages, frames, stack traces, threads and exceptions are lawful.
-use Rattle.std.proofs.Common.{◌^◌, false, refl, arith}
+use Rattle.std.proofs.Common.{refl}
 use Rattle.sentry_tables.proofs.Basic.{text_laws, truth_laws, u64_laws, i32_laws, pair_laws, any_laws}
 use Rattle.sentry_tables.proofs.ByRows.{laws_by_rows, empty_list_stands, empty_map_stands, empty_list_stays, false_stands}
 use Rattle.sentry_tables.proofs.Laws.{has_laws}
 use Rattle.sentry_tables.proofs.Nulls.{table_refuses_null}
-use Rattle.sentry_tables.specs.Basic.{truth_scalar, unsigned_scalar, signed_scalar}
-use Rattle.sentry_tables.specs.Cell.{truth}
 use Rattle.sentry_tables.specs.Fields.{rows_of}
-use Rattle.sentry_tables.specs.Kind.{default, always, ignored, Kind, scalar, list}
+use Rattle.sentry_tables.specs.Kind.{default, ignored}
 use Rattle.sentry_tables.specs.Laws.{HasLaws}
-use Rattle.sentry_tables.specs.Lawful.{ScalarLaws, IsLawful, RuleLaws}
-use Rattle.sentry_members.specs.Cells.{empty_list}
+use Rattle.sentry_tables.specs.Lawful.{IsLawful, RuleLaws}
 use Rattle.sentry_addresses.proofs.AddressTrees.{address_laws}
-use Rattle.sentry_members.proofs.Spellings.{spelled_laws}
-use Rattle.sentry_urls.specs.UrlTree.{url_kind, url_spelling}
 use Rattle.sentry_urls.proofs.UrlTrees.{url_lawful}
 use Rattle.sentry_frames.specs.Causes.{c_error_fields, c_error_kind, mach_fields, mach_kind, signal_fields, signal_kind}
 use Rattle.sentry_frames.specs.Exceptions.{exception_fields, exception_kind}

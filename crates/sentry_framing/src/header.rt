@@ -105,7 +105,13 @@ fn fill_header<N: Node>(
     ensures misfit { result ≡ Err TreeError.Misfit → header_of item_words (N.data_of node.now) ≡ None }
 {
     node.get_each(
-        &["type", "length", "content_type", "filename", "attachment_type"],
+        &[
+            "type",
+            "length",
+            "content_type",
+            "filename",
+            "attachment_type",
+        ],
         places,
     );
     fields.kind = kind(&places[0])?;

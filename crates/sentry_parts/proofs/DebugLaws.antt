@@ -1,13 +1,12 @@
 -- The tables of debug images, and of what debuggers need, are lawful.
-use Rattle.std.proofs.Common.{◌^◌, refl, arith}
+use Rattle.std.proofs.Common.{refl, arith}
 use Rattle.sentry_tables.proofs.Basic.{text_laws, u32_laws, u64_laws}
 use Rattle.sentry_tables.proofs.ByRows.{laws_by_rows, empty_list_stands}
 use Rattle.sentry_tables.proofs.Laws.{has_laws}
-use Rattle.sentry_tables.specs.Basic.{unsigned_scalar}
 use Rattle.sentry_tables.specs.Fields.{rows_of}
 use Rattle.sentry_tables.specs.Kind.{default}
 use Rattle.sentry_tables.specs.Laws.{HasLaws}
-use Rattle.sentry_tables.specs.Lawful.{ScalarLaws, RuleLaws, IsLawful}
+use Rattle.sentry_tables.specs.Lawful.{RuleLaws, IsLawful}
 use Rattle.sentry_members.specs.Cells.{natural_cell}
 use Rattle.sentry_addresses.specs.AddressTree.{address_kind}
 use Rattle.sentry_addresses.proofs.AddressTrees.{address_laws, address_refuses_null, address_is_normal}

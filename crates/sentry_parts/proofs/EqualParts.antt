@@ -1,16 +1,15 @@
 -- What `==` says of ids and requests: they are equal exactly where their cells are the same.
-use Rattle.std.proofs.Common.{rules, Global, String, ◌≡◌, ◌&&◌, ◌==◌, ℕ, Bool, List, [], ◌∷◌, Option, Some, None, refl, ap, subst, Decides}
-use Rattle.std.proofs.lemmas.Bool.Decides.{Decides-and, Decides-like, Decides-eqb}
-use lib.Pointwise.{pointwise}
+use Rattle.std.proofs.Common.{rules, ◌≡◌, Option, Some, None, refl, ap, subst, Decides}
+use Rattle.std.proofs.lemmas.Bool.Decides.{Decides-and}
 use Rattle.std.specs.Option.{option_eq}
 use Rattle.std.specs.String.{string_eq}
 use Rattle.url.specs.Parts.{Parts}
 use Rattle.url.specs.contracts.traits.UrlPartialEq.TheImpl.{eq-value as of_urls}
 use Rattle.uuid.specs.contracts.UuidPartialEq.TheImpl.{eq-value as of_ids}
 use Rattle.uuid.specs.declared.Uuid.{Uuid}
-use Rattle.sentry_tables.specs.Cell.{Cell, octets, mapping, present}
+use Rattle.sentry_tables.specs.Cell.{octets, present}
 use Rattle.sentry_tables.specs.Meets.{IsReadable, IsOptional}
-use Rattle.sentry_members.specs.Cells.{text_cell, natural_cell, option_cell, entries, map_cell}
+use Rattle.sentry_members.specs.Cells.{text_cell, option_cell}
 use Rattle.sentry_members.proofs.Equal.{texts_decide, options_decide, maps_decide}
 use Rattle.sentry_urls.specs.UrlTree.{url_cell, url_kind, UrlReadsBack}
 use Rattle.sentry_urls.proofs.UrlTrees.{one_url, urls_decide}

@@ -17,7 +17,6 @@ use Rattle.sentry_words.specs.declared.level.Level.TheVariants as level
 use Rattle.sentry_words.proofs.Enumerations.{level_laws}
 use Rattle.sentry_moments.proofs.MomentSpellings.{seconds_laws, seconds_at_once}
 use Rattle.sentry_addresses.proofs.IpTrees.{ip_address_lawful}
-use Rattle.sentry_urls.specs.UrlTree.{url_kind, url_spelling}
 use Rattle.sentry_urls.proofs.UrlTrees.{url_lawful}
 use Rattle.sentry_parts.specs.Breadcrumbs.{breadcrumb_fields, breadcrumb_kind}
 use Rattle.sentry_parts.specs.Requests.{request_fields, request_kind}

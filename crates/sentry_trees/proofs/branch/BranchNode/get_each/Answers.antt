@@ -1,13 +1,12 @@
-use Rattle.std.proofs.Common.{rules, ◌≡◌, ◌<◌, arith, refl, None, Some, option_map, sym, ap, ◌∙◌, subst, map, length}
+use Rattle.std.proofs.Common.{rules, ◌≡◌, ◌<◌, None, Some, option_map, sym, ap, ◌∙◌, subst, length}
 use Rattle.json.specs.Json.{Json}
 use Rattle.json.specs.Find as found
 use Rattle.json.specs.Find.{BeginsWith, NextMember}
-use Rattle.serde_json.specs.Data.{Data, no_members, object}
-use Rattle.serde_json.specs.Find.{get, get_member, as_object}
+use Rattle.serde_json.specs.Data.{Data, no_members}
 use Rattle.sentry_trees.specs.Tree.{data_at}
 use Rattle.sentry_trees.specs.declared.branch.Branch.{Branch}
 use Rattle.sentry_trees.proofs.Each.{in_object, without_object, others_stay, place_set, place_within}
-use Rattle.sentry_trees.proofs.Trees.{MembersLeft, no_object_seen, members_begin, member_next}
+use Rattle.sentry_trees.proofs.Trees.{no_object_seen, members_begin, member_next}
 use Rattle.sentry_trees.proofs.branch.BranchNode.get_each.Goals as goal
 
 abbrev data_of : Branch → Data

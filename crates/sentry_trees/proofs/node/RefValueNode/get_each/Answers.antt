@@ -1,4 +1,4 @@
-use Rattle.std.proofs.Common.{rules, ◌≡◌, ◌∙◌, arith, length, map, option_map}
+use Rattle.std.proofs.Common.{rules, ◌∙◌}
 use Rattle.serde_json.specs.Find.{get}
 use Rattle.serde_json.specs.View.{view}
 use Rattle.sentry_trees.proofs.Each.{given_none, given_more, given_whole}
