@@ -1,6 +1,5 @@
 -- Sums that are cut once are those that are cut at each step.
-use Rattle.std.proofs.Common.{arith, ◌≡◌, ℕ, ◌+◌, ◌-◌, ◌^◌, ◌<◌, min, List, sum_by, take, length}
-use Rattle.std.specs.List.{get_or}
+use Rattle.std.proofs.Common.{arith, ◌≡◌, ℕ, ◌+◌, ◌-◌, ◌^◌, ◌<◌, min, List, sum_by, take, length, get_or}
 use Rattle.std.proofs.lemmas.List.Sums.{sum_by_more}
 use Rattle.sentry_items.specs.Losses.{cut}
 

@@ -1,6 +1,6 @@
 //! What is lost with items that aren't sent.
 
-ghost use Rattle.std.specs.Prelude.{◌≡◌, sum_by};
+ghost use Rattle.std.specs.Prelude.{◌≡◌, ◌<◌, ◌^◌, sum_by};
 ghost use Rattle.sentry_items.specs.Losses.{cut, sessions_in};
 ghost use Rattle.sentry_items.specs.Losses.{loss as lost_without_reason};
 
@@ -54,14 +54,19 @@ fn loss(category: Category, quantity: u64) -> ItemLoss
     }
 }
 
+/// A count as a wider number, in which four of them can be summed.
+fn widened(count: u32) -> u64
+    ensures same { result ≡ count }
+    ensures bounded { result < 2 ^ 32 }
+{
+    u64::from(count)
+}
+
 /// The sessions of a group, however they ended.
 fn sessions_in_group(group: &SessionAggregateItem) -> u64
     ensures { result ≡ sessions_in group.now }
 {
-    u64::from(group.exited)
-        + u64::from(group.errored)
-        + u64::from(group.abnormal)
-        + u64::from(group.crashed)
+    widened(group.exited) + widened(group.errored) + widened(group.abnormal) + widened(group.crashed)
 }
 
 /// The sessions of all groups: a sum that is cut at 2^64-1.
