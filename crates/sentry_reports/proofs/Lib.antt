@@ -1,0 +1,3 @@
+pub mod ReportSums
+pub mod Sums
+pub mod Words
