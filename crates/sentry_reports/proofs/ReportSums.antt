@@ -1,5 +1,5 @@
 -- The row of a report's sums: it keeps the sum of each pair, item by item.
-use Rattle.std.proofs.Common.{arith, Bool, ◌&&◌, nat_eq, ◌≡◌, ℕ, zero, suc, ◌+◌, ◌-◌, ◌*◌, ◌/◌, ◌%◌, ◌^◌, ◌<◌, ◌≢◌, ◌⊎◌, inl, inr, min, true, false, List, [], ◌∷◌, ◌++◌, length, map, Some, ◌==◌, get_or, set, replicate, take, refl, ap, sym, ◌∙◌, get_or-set_same, get_or-set_other, length-set}
+use Rattle.std.proofs.Common.{arith, Bool, ◌&&◌, nat_eq, ◌≡◌, ℕ, zero, suc, ◌+◌, ◌-◌, ◌/◌, ◌%◌, ◌^◌, ◌<◌, ◌≢◌, ◌⊎◌, inl, inr, min, true, false, List, [], ◌∷◌, ◌++◌, length, Some, ◌==◌, get_or, set, replicate, take, refl, ap, sym, ◌∙◌, get_or-set_same, get_or-set_other, length-set}
 use Rattle.std.proofs.lemmas.List.{ext_get_or, get_or-replicate, map-append, take_more}
 use Rattle.std.specs.Cmp.Lexicographic.{pointwise}
 use Rattle.std.proofs.lemmas.List.Sums.{sum_by_push}
@@ -59,8 +59,10 @@ each_more sums items item keeps c r = go (eqb_tells (pair_place c r) (pair_place
   where
     at : ℕ
     at = pair_place item.category item.reason
+
     more : List ℕ
     more = set sums at (min (get_or sums at 0 + item.quantity) (2 ^ 64 - 1))
+
     go : (((pair_place c r == at) ≡ true) × (pair_place c r ≡ at)) ⊎ (((pair_place c r == at) ≡ false) × (pair_place c r ≢ at))
         → get_or more (pair_place c r) 0 ≡ report_sum c r (items ++ item ∷ [])
     go (inl here) =

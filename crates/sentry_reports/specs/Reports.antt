@@ -7,9 +7,11 @@ use Rattle.sentry_tables.specs.Written.{in_order}
 use Rattle.sentry_members.specs.Cells.{list_cell}
 use Rattle.sentry_moments.specs.MomentForms.{seconds_kind}
 use Rattle.sentry_moments.specs.Moments.{moment_cell}
+use Rattle.sentry_moments.specs.declared.moment.Moment.{Moment}
 use Rattle.sentry_reports.specs.ItemTable.{item_kind, item_cell}
 use Rattle.sentry_reports.specs.ReportSums.{report_sum}
 use Rattle.sentry_reports.specs.declared.category.Category.{Category}
+use Rattle.sentry_reports.specs.declared.item.Item.{Item}
 use Rattle.sentry_reports.specs.declared.reason.Reason.{Reason}
 use Rattle.sentry_reports.specs.declared.report.Report.{Report}
 
@@ -35,3 +37,7 @@ report_in_order = refl
 pub record AreReportsAlike (a b : Report) : Type 0 where
   pub moments : moment_cell a.timestamp ≡ moment_cell b.timestamp
   pub sums : (category : Category) (reason : Reason) → report_sum category reason a.items ≡ report_sum category reason b.items
+
+-- a report of this moment with these items
+abbrev pub report : Moment → List Item → Report
+report moment items = record { timestamp = moment; items = items }

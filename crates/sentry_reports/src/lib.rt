@@ -4,10 +4,10 @@
 pub mod category;
 pub mod item;
 pub mod item_loss;
+pub mod kept_sums;
 pub mod laws;
 pub mod reason;
 pub mod report;
-pub mod kept_sums;
 
 pub use category::Category;
 pub use item::Item;

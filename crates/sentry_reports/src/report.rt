@@ -4,8 +4,8 @@ ghost use Rattle.sentry_reports.specs.Reports.{report_fields, report_in_order};
 
 use crate::category::Category;
 use crate::item::Item;
-use crate::reason::Reason;
 use crate::kept_sums::{SUMS, pair_place, sums_of};
+use crate::reason::Reason;
 use rand_core::Rng;
 use sentry_members::{Formed, Member};
 use sentry_moments::{Moment, Seconds};

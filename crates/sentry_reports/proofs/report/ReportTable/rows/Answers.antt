@@ -1,4 +1,4 @@
-use Rattle.std.proofs.Common.{refl, rules, sym, ap, ◌∙◌}
+use Rattle.std.proofs.Common.{refl}
 use Rattle.sentry_reports.specs.Reports.{report_fields}
 use Rattle.sentry_reports.proofs.report.ReportTable.rows.Goals as goal
 
