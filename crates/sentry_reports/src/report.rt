@@ -12,6 +12,7 @@ use sentry_moments::{Moment, Seconds};
 use sentry_rows::{AsTable, Copier, CopyTable, Giver, ReadTableAt, Reader, Sink, Table};
 use sentry_trees::Node;
 use std::alloc::AllocError;
+use std::fmt;
 use std::marker::Model;
 
 /// What a client reports as lost: items in the order in which they were given, and when the report was made.
@@ -22,7 +23,7 @@ use std::marker::Model;
 /// A report that is read without a `timestamp` takes the moment of reading.
 ///
 /// <https://develop.sentry.dev/sdk/telemetry/client-reports/>
-#[derive(Debug, Drop)]
+#[derive(Drop)]
 pub struct Report {
     timestamp: Moment,
     discarded_events: Vec<Item>,
@@ -65,13 +66,6 @@ impl Report {
         &self.discarded_events
     }
 
-    /// When the report was made.
-    pub fn timestamp(&self) -> Moment
-        ensures { result ≡ self.now.timestamp }
-    {
-        self.timestamp
-    }
-
     /// How much of a category was lost for a reason: the sum of the items' quantities, cut at 2^64-1.
     ///
     /// It takes no memory.
@@ -86,6 +80,16 @@ impl Report {
         ensures { IfOk result (λ copy. report_cell copy ≡ report_cell self.now) }
     {
         self.copy()
+    }
+}
+
+impl fmt::Debug for Report {
+    /// Shows the moment and the items, and no sums.
+    fn fmt<W: fmt::Write>(&self, f: &mut fmt::Formatter<W>) -> fmt::Result {
+        f.debug_struct("Report")
+            .field("timestamp", &self.timestamp)
+            .field("discarded_events", &self.discarded_events)
+            .finish()
     }
 }
 
