@@ -1,5 +1,5 @@
 -- The row of a report's sums: it keeps the sum of each pair, item by item.
-use Rattle.std.proofs.Common.{arith, Bool, ◌&&◌, nat_eq, ◌≡◌, ℕ, zero, suc, ◌+◌, ◌-◌, ◌/◌, ◌%◌, ◌^◌, ◌<◌, ◌≢◌, ◌⊎◌, inl, inr, min, true, false, List, [], ◌∷◌, ◌++◌, length, Some, ◌==◌, get_or, set, replicate, take, refl, ap, sym, ◌∙◌, get_or-set_same, get_or-set_other, length-set}
+use Rattle.std.proofs.Common.{arith, Bool, nat_eq, ◌≡◌, ℕ, zero, suc, ◌+◌, ◌-◌, ◌/◌, ◌%◌, ◌^◌, ◌<◌, ◌≢◌, ◌⊎◌, inl, inr, min, true, false, List, [], ◌∷◌, ◌++◌, length, Some, ◌==◌, get_or, set, replicate, take, refl, ap, sym, ◌∙◌, get_or-set_same, get_or-set_other, length-set}
 use Rattle.std.proofs.lemmas.List.{ext_get_or, get_or-replicate, map-append, take_more}
 use Rattle.std.specs.Cmp.Lexicographic.{pointwise}
 use Rattle.std.proofs.lemmas.List.Sums.{sum_by_push}
@@ -171,8 +171,7 @@ same_rows xs ys same = sym (whole_row (all_sums ys) xs (record { long = all_long
 pub same_sums : (xs ys : List Item) → all_sums xs ≡ all_sums ys → (c : Category) (r : Reason) → report_sum c r xs ≡ report_sum c r ys
 same_sums xs ys same c r = sym (all_at xs c r) ∙ ap (λ (row : List ℕ). get_or row (pair_place c r) 0) same ∙ all_at ys c r
 
--- what two kept rows tell, told of all sums
-pub same_verdict : (moments : Bool) (xs ys : List ℕ) (items others : List Item) → moments ≡ true → KeepsSums xs items → KeepsSums ys others
-    → pointwise nat_eq xs ys ≡ moments && pointwise nat_eq (all_sums items) (all_sums others)
-same_verdict moments xs ys items others holds keeps other_keeps =
-    rw (holds, whole_row xs items keeps, whole_row ys others other_keeps) refl
+-- two kept rows tell what the rows of all sums do
+pub same_verdict : (xs ys : List ℕ) (items others : List Item) (same : Bool) → KeepsSums xs items → KeepsSums ys others
+    → same ≡ pointwise nat_eq xs ys → same ≡ pointwise nat_eq (all_sums items) (all_sums others)
+same_verdict xs ys items others same keeps other_keeps is = is ∙ rw (whole_row xs items keeps, whole_row ys others other_keeps) refl

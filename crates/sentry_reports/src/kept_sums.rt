@@ -1,6 +1,6 @@
 //! The sums that a report keeps.
 
-ghost use Rattle.std.specs.Prelude.{◌≡◌, ◌<◌};
+ghost use Rattle.std.specs.Prelude.{◌≡◌, ◌+◌, ◌-◌, ◌^◌, ◌<◌, min};
 ghost use Rattle.sentry_reports.specs.ReportSums.{pair_place, KeepsSums};
 
 use crate::category::Category;
@@ -22,14 +22,22 @@ pub fn pair_place(category: Category, reason: Reason) -> usize
     REASONS * category.as_index() + reason.as_index()
 }
 
+// A sum with one more quantity, cut at 2^64-1.
+fn added(sum: u64, quantity: u64) -> u64
+    ensures { result ≡ min (sum + quantity) (2 ^ 64 - 1) }
+{
+    sum.saturating_add(quantity)
+}
+
 /// The sum of each pair, cut at 2^64-1.
+#[tactic(auto, using(crate::proofs::ReportSums::keeps_nothing))]
 pub fn sums_of(items: &[Item]) -> [u64; SUMS]
     ensures { KeepsSums result items.now }
 {
     let mut sums = [0_u64; SUMS];
     for item in items {
         let place = pair_place(item.category, item.reason);
-        sums[place] = sums[place].saturating_add(item.quantity);
+        sums[place] = added(sums[place], item.quantity);
     }
     sums
 }

@@ -42,8 +42,9 @@ impl Model for Report {
 }
 
 impl Report {
-    ghost use Rattle.std.specs.Prelude.{◌≡◌, IfOk};
-    ghost use Rattle.sentry_reports.specs.ReportSums.{report_sum};
+    ghost use Rattle.std.specs.Prelude.{◌≡◌, nat_eq, IfOk};
+    ghost use Rattle.std.specs.Cmp.Lexicographic.{pointwise};
+    ghost use Rattle.sentry_reports.specs.ReportSums.{report_sum, all_sums};
     ghost use Rattle.sentry_reports.specs.Reports.{report_cell};
 
     /// A report of this moment, with these items, unmerged and in order. It takes no memory.
@@ -73,6 +74,14 @@ impl Report {
         ensures { result ≡ report_sum category reason self.now.items }
     {
         self.sums[pair_place(category, reason)]
+    }
+
+    /// Whether each sum is the same in both reports.
+    #[tactic(auto, using(crate::proofs::ReportSums::same_verdict))]
+    fn has_sums_of(&self, other: &Report) -> bool
+        ensures { result ≡ pointwise nat_eq (all_sums self.now.items) (all_sums other.now.items) }
+    {
+        self.sums == other.sums
     }
 
     /// The same report. It fails where memory is refused.
@@ -106,7 +115,7 @@ impl PartialEq for Report {
     ghost laws = { Prim.search (comparing, rules) };
 
     fn eq(&self, other: &Report) -> bool {
-        self.timestamp == other.timestamp && self.sums == other.sums
+        self.timestamp == other.timestamp && self.has_sums_of(other)
     }
 }
 
