@@ -21,6 +21,12 @@ pub enum ItemKind {
     UserReport,
     /// `replay_recording`: a part of a recorded session.
     ReplayRecording,
+    /// `log`: a container of logs.
+    Logs,
+    /// `trace_metric`: a container of metrics.
+    Metrics,
+    /// `client_report`: what a client couldn't send.
+    ClientReport,
 }
 
 impl ItemKind {
@@ -41,6 +47,9 @@ impl ItemKind {
             ItemKind::MonitorCheckIn => "check_in",
             ItemKind::UserReport => "user_report",
             ItemKind::ReplayRecording => "replay_recording",
+            ItemKind::Logs => "log",
+            ItemKind::Metrics => "trace_metric",
+            ItemKind::ClientReport => "client_report",
         }
     }
 
@@ -57,6 +66,9 @@ impl ItemKind {
             "check_in" => Some(ItemKind::MonitorCheckIn),
             "user_report" => Some(ItemKind::UserReport),
             "replay_recording" => Some(ItemKind::ReplayRecording),
+            "log" => Some(ItemKind::Logs),
+            "trace_metric" => Some(ItemKind::Metrics),
+            "client_report" => Some(ItemKind::ClientReport),
             _ => None,
         }
     }

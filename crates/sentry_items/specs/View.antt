@@ -6,13 +6,17 @@ use Rattle.sentry_event.specs.Events.{event_cell, event_kind}
 use Rattle.sentry_event.specs.Transactions.{transaction_cell, transaction_kind}
 use Rattle.sentry_event.specs.declared.event.Event.{Event}
 use Rattle.sentry_event.specs.declared.transaction.Transaction.{Transaction}
+use Rattle.sentry_records.specs.Logs.{log_kind}
+use Rattle.sentry_records.specs.Metrics.{metric_kind}
 use Rattle.sentry_records.specs.Monitors.{check_in_cell, check_in_kind}
 use Rattle.sentry_records.specs.Sessions.{groups_cell, groups_kind, session_cell, session_kind}
 use Rattle.sentry_records.specs.UserReports.{user_report_cell, user_report_kind}
+use Rattle.sentry_reports.specs.Reports.{report_cell, report_kind}
 use Rattle.sentry_framing.specs.declared.kind.ItemKind.{ItemKind}
 use Rattle.sentry_framing.specs.declared.kind.ItemKind.TheVariants as kinds
 use Rattle.sentry_items.specs.Attached.{Attached}
 use Rattle.sentry_items.specs.AttachmentWords.{known, custom}
+use Rattle.sentry_items.specs.Containers.{container_cell, container_kind, container_type}
 use Rattle.sentry_items.specs.declared.attachment.Attachment.{Attachment}
 use Rattle.sentry_items.specs.declared.attachment_type.AttachmentType.{AttachmentType}
 use Rattle.sentry_items.specs.declared.attachment_type.AttachmentType.TheVariants as variants
@@ -57,6 +61,8 @@ item_held (item_variants.Attachment a) = attachment (attachment_view a)
 item_held (item_variants.MonitorCheckIn c) = value kinds.MonitorCheckIn (check_in_cell c)
 item_held (item_variants.UserReport r) = value kinds.UserReport (user_report_cell r)
 item_held (item_variants.ReplayRecording r) = replay_recording r.buffer.items
+item_held (item_variants.ItemContainer c) = value (container_type c) (container_cell c)
+item_held (item_variants.ClientReport r) = value kinds.ClientReport (report_cell r)
 item_held item_variants.Raw = raw
 
 -- the type of an item; a raw one has none
@@ -76,6 +82,9 @@ payload_kind kinds.Attachment = tagged no_cases
 payload_kind kinds.MonitorCheckIn = check_in_kind
 payload_kind kinds.UserReport = user_report_kind
 payload_kind kinds.ReplayRecording = tagged no_cases
+payload_kind kinds.Logs = container_kind log_kind
+payload_kind kinds.Metrics = container_kind metric_kind
+payload_kind kinds.ClientReport = report_kind
 
 -- ---- the item is this event, or this transaction
 

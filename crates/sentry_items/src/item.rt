@@ -4,11 +4,13 @@ ghost use Rattle.std.specs.Prelude.{◌≡◌, IfOk};
 ghost use Rattle.sentry_members.specs.Made.{made};
 
 use crate::attachment::Attachment;
+use crate::container::ItemContainer;
 use crate::replay_recording::ReplayRecording;
 use sentry_event::{Event, Transaction};
 use sentry_framing::ItemKind;
 use sentry_members::{Member, Way};
-use sentry_records::{MonitorCheckIn, SessionAggregates, SessionUpdate, UserReport};
+use sentry_records::{Log, Metric, MonitorCheckIn, SessionAggregates, SessionUpdate, UserReport};
+use sentry_reports::Report;
 use std::alloc::{AllocError, Global};
 
 /// One item of an envelope.
@@ -32,6 +34,10 @@ pub enum EnvelopeItem {
     UserReport(UserReport),
     /// The recording of a replay.
     ReplayRecording(ReplayRecording),
+    /// Logs, or metrics.
+    ItemContainer(ItemContainer),
+    /// What a client couldn't send.
+    ClientReport(Report),
     /// Stands for a whole envelope of bytes that nothing read. The envelope keeps the bytes.
     Raw,
 }
@@ -80,6 +86,8 @@ impl EnvelopeItem {
             EnvelopeItem::MonitorCheckIn(_) => Some(ItemKind::MonitorCheckIn),
             EnvelopeItem::UserReport(_) => Some(ItemKind::UserReport),
             EnvelopeItem::ReplayRecording(_) => Some(ItemKind::ReplayRecording),
+            EnvelopeItem::ItemContainer(container) => Some(container.kind()),
+            EnvelopeItem::ClientReport(_) => Some(ItemKind::ClientReport),
             EnvelopeItem::Raw => None,
         }
     }
@@ -98,6 +106,8 @@ impl EnvelopeItem {
             EnvelopeItem::Attachment(attachment) => attachment.is_plain(),
             EnvelopeItem::MonitorCheckIn(check_in) => check_in.is_plain(),
             EnvelopeItem::UserReport(report) => report.is_plain(),
+            EnvelopeItem::ItemContainer(container) => container.is_plain(),
+            EnvelopeItem::ClientReport(report) => report.is_plain(),
             EnvelopeItem::ReplayRecording(_) | EnvelopeItem::Raw => true,
         }
     }
@@ -128,6 +138,10 @@ impl EnvelopeItem {
             EnvelopeItem::ReplayRecording(recording) => {
                 EnvelopeItem::ReplayRecording(recording.remade(way)?)
             }
+            EnvelopeItem::ItemContainer(container) => {
+                EnvelopeItem::ItemContainer(container.remade(way)?)
+            }
+            EnvelopeItem::ClientReport(report) => EnvelopeItem::ClientReport(report.remade(way)?),
             EnvelopeItem::Raw => EnvelopeItem::Raw,
         })
     }
@@ -219,5 +233,51 @@ impl From<ReplayRecording> for EnvelopeItem {
 
     fn from(recording: ReplayRecording) -> EnvelopeItem {
         EnvelopeItem::ReplayRecording(recording)
+    }
+}
+
+impl From<ItemContainer> for EnvelopeItem {
+    ghost use Rattle.std.specs.Prelude.{◌≡◌};
+    ghost use Rattle.sentry_items.specs.declared.item.EnvelopeItem.TheVariants as variants;
+
+    ghost from_gives = { λ container item. item ≡ variants.ItemContainer container };
+
+    fn from(container: ItemContainer) -> EnvelopeItem {
+        EnvelopeItem::ItemContainer(container)
+    }
+}
+
+impl From<Vec<Log>> for EnvelopeItem {
+    ghost use Rattle.std.specs.Prelude.{◌≡◌};
+    ghost use Rattle.sentry_items.specs.declared.item.EnvelopeItem.TheVariants as variants;
+    ghost use Rattle.sentry_items.specs.declared.container.ItemContainer.TheVariants as containers;
+
+    ghost from_gives = { λ logs item. item ≡ variants.ItemContainer (containers.Logs logs) };
+
+    fn from(logs: Vec<Log>) -> EnvelopeItem {
+        EnvelopeItem::ItemContainer(ItemContainer::Logs(logs))
+    }
+}
+
+impl From<Vec<Metric>> for EnvelopeItem {
+    ghost use Rattle.std.specs.Prelude.{◌≡◌};
+    ghost use Rattle.sentry_items.specs.declared.item.EnvelopeItem.TheVariants as variants;
+    ghost use Rattle.sentry_items.specs.declared.container.ItemContainer.TheVariants as containers;
+
+    ghost from_gives = { λ metrics item. item ≡ variants.ItemContainer (containers.Metrics metrics) };
+
+    fn from(metrics: Vec<Metric>) -> EnvelopeItem {
+        EnvelopeItem::ItemContainer(ItemContainer::Metrics(metrics))
+    }
+}
+
+impl From<Report> for EnvelopeItem {
+    ghost use Rattle.std.specs.Prelude.{◌≡◌};
+    ghost use Rattle.sentry_items.specs.declared.item.EnvelopeItem.TheVariants as variants;
+
+    ghost from_gives = { λ report item. item ≡ variants.ClientReport report };
+
+    fn from(report: Report) -> EnvelopeItem {
+        EnvelopeItem::ClientReport(report)
     }
 }
