@@ -28,12 +28,12 @@ pub fn default_attachment_type() -> AttachmentType
 
 /// Two types of attachments, attachments and recordings are equal exactly where what they hold is the same: a known
 /// type or a custom one's text, the bytes and texts. Two items that hold no trees are equal exactly where they are of one
-/// type, and what that type compares is the same; an address of a user has numbers in range, as every address has in
-/// a program.
+/// type, and what that type compares is the same: of reports their moments and sums. An address of a user has numbers in
+/// range, as every address has in a program.
 pub fn equal_items()
     ensures types { (a b : Types) → ⟦<AttachmentType as PartialEq>⟧.eq a b ≡ true ↔ (attachment_type_cell a ≡ attachment_type_cell b) }
     ensures attachments { (a b : Attachments) → ⟦<Attachment as PartialEq>⟧.eq a b ≡ true ↔ (attachment_view a ≡ attachment_view b) }
     ensures recordings { (a b : Recordings) → ⟦<ReplayRecording as PartialEq>⟧.eq a b ≡ true ↔ (a.buffer.items ≡ b.buffer.items) }
     ensures items { (a b : Items) → HoldsNoTree (item_held a) → HoldsNoTree (item_held b) → HasStoredAddress a → HasStoredAddress b
-        → ⟦<EnvelopeItem as PartialEq>⟧.eq a b ≡ true ↔ AreAlike (item_held a) (item_held b) }
+        → ⟦<EnvelopeItem as PartialEq>⟧.eq a b ≡ true ↔ AreAlike a b }
 {}

@@ -1,12 +1,18 @@
 use crate::{
-    Attachment, Category, EnvelopeItem, ItemLoss, ItemLossIter, LossSlice, LossSource, Reason,
-    ReplayRecording,
+    Attachment, Category, EnvelopeItem, Item, ItemLoss, ItemLossIter, LossSlice, LossSource,
+    Reason, ReplayRecording, Report,
 };
 use rand_core::SeedableRng;
 use rand_pcg::Pcg32;
 use sentry_event::{Event, Span, Transaction};
+use sentry_identifiers::TraceId;
+use sentry_members::{Member, TreeError, read_tree};
 use sentry_moments::Moment;
-use sentry_records::{SessionAggregateItem, SessionAggregates, SessionAttributes};
+use sentry_records::{
+    Log, LogAttribute, Metric, SessionAggregateItem, SessionAggregates, SessionAttributes,
+};
+use sentry_words::{LogLevel, MetricType};
+use serde_json::{Map, Value};
 use std::alloc::{AllocError, Global};
 use std::borrow::CowStr;
 use std::test::Fail;
@@ -164,5 +170,117 @@ fn losses_of_traces(rt: HostRuntime) -> Result<(), Fail> {
     }
     let event = Event::new(alloc, start, &mut ids)?;
     assert!(rt; gives(&event, &[("error", 1, "none")]));
+    Ok(())
+}
+
+/// The members of an object as attributes.
+fn attributes(alloc: Global, object: &str) -> Result<Map<String, LogAttribute>, TreeError> {
+    let mut attributes = Map::new(alloc);
+    let Value::Object(members) = read_tree(alloc, object.as_bytes())? else {
+        return Err(TreeError::Misfit);
+    };
+    for (key, value) in members.iter() {
+        drop(attributes.insert(key.clone()?, LogAttribute(value.copy()?))?);
+    }
+    Ok(attributes)
+}
+
+fn log(alloc: Global, body: &str, object: &str, now: Moment) -> Result<Log, TreeError> {
+    Ok(Log {
+        level: LogLevel::Info,
+        body: String::from_str(alloc, body)?,
+        trace_id: None,
+        timestamp: now,
+        severity_number: None,
+        attributes: attributes(alloc, object)?,
+    })
+}
+
+fn metric(
+    alloc: Global,
+    name: &'static str,
+    object: &str,
+    now: Moment,
+) -> Result<Metric, TreeError> {
+    Ok(Metric {
+        type_: MetricType::Counter,
+        name: CowStr::Borrowed(name),
+        value: 1,
+        timestamp: now,
+        trace_id: TraceId::from([1; 16]),
+        span_id: None,
+        unit: None,
+        attributes: attributes(alloc, object)?,
+    })
+}
+
+/// Attributes of each type of tree.
+const ATTRIBUTES: &str = concat!(
+    "{\"k1\":\"string value\",\"k2\":18446744073709551615,\"k3\":42,\"k4\":false,",
+    "\"k5\":{\"nested\":{\"array\":[1,2,-12,\"7 bytes\",false]}}}"
+);
+
+#[test]
+fn losses_of_logs(rt: HostRuntime) -> Result<(), Fail> {
+    let alloc = rt.alloc();
+    let mut logs = Vec::new(alloc);
+    for (body, object, bytes) in [
+        ("7 bytes", ATTRIBUTES, 89),
+        ("", "{}", 1),
+        ("", "{\"\":null}", 1),
+        ("a", "{\"\":null}", 1),
+        ("", "{\"ab\":\"\"}", 2),
+    ] {
+        let one = log(alloc, body, object, epoch()?)?;
+        assert!(rt;
+            gives(
+                &one,
+                &[("log_item", 1, "none"), ("log_byte", bytes, "none")]
+            )
+        );
+        logs.push(one)?;
+    }
+    let lost = [("log_item", 5, "none"), ("log_byte", 94, "none")];
+    assert!(rt; gives(&EnvelopeItem::from(logs), &lost));
+    Ok(())
+}
+
+#[test]
+fn losses_of_metrics(rt: HostRuntime) -> Result<(), Fail> {
+    let alloc = rt.alloc();
+    let mut metrics = Vec::new(alloc);
+    for (name, object, bytes) in [
+        (
+            "counter",
+            "{\"foo\":\"ඞ and some more equals 33 bytes\"}",
+            51,
+        ),
+        ("", "{}", 8),
+    ] {
+        let one = metric(alloc, name, object, epoch()?)?;
+        let lost = [
+            ("trace_metric", 1, "none"),
+            ("trace_metric_byte", bytes, "none"),
+        ];
+        assert!(rt; gives(&one, &lost));
+        metrics.push(one)?;
+    }
+    let lost = [
+        ("trace_metric", 2, "none"),
+        ("trace_metric_byte", 59, "none"),
+    ];
+    assert!(rt; gives(&EnvelopeItem::from(metrics), &lost));
+    Ok(())
+}
+
+#[test]
+fn losses_of_reports(rt: HostRuntime) -> Result<(), Fail> {
+    let alloc = rt.alloc();
+    let mut items = Vec::new(alloc);
+    items.push(Item::new(Category::Error, Reason::BeforeSend, 2))?;
+    items.push(Item::new(Category::Error, Reason::BeforeSend, 0))?;
+    let report = Report::new(epoch()?, items);
+    let lost = [("error", 2, "before_send"), ("error", 0, "before_send")];
+    assert!(rt; gives(&report, &lost) && gives(&EnvelopeItem::from(report), &lost));
     Ok(())
 }
