@@ -53,15 +53,15 @@ attachments_decide a b =
 one_kind : (x y : ItemView) → x ≡ y → kind_held x ≡ kind_held y
 one_kind x y same = ap kind_held same
 
-cell_in : ItemView → Cell
+abbrev cell_in : ItemView → Cell
 cell_in (value k c) = c
 cell_in _ = absent
 
-attached_in : ItemView → Attached → Attached
+abbrev attached_in : ItemView → Attached → Attached
 attached_in (attachment a) b = a
 attached_in _ b = b
 
-bytes_in : ItemView → List ℕ
+abbrev bytes_in : ItemView → List ℕ
 bytes_in (replay_recording b) = b
 bytes_in _ = []
 
