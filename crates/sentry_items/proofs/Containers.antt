@@ -1,5 +1,5 @@
 -- Containers made anew.
-use Rattle.std.proofs.Common.{◌≡◌, List, refl, ap}
+use Rattle.std.proofs.Common.{◌≡◌, List, ap}
 use Rattle.serde_json.specs.Data.{no_members}
 use Rattle.sentry_tables.specs.Cell.{Cell, fields, no_cells, cell}
 use Rattle.sentry_tables.specs.Kind.{Kind, list}

@@ -14,7 +14,7 @@ use Rattle.sentry_reports.proofs.Alike.{reports_decide as of_clients}
 use Rattle.sentry_framing.specs.declared.kind.ItemKind.{ItemKind}
 use Rattle.sentry_framing.specs.declared.kind.ItemKind.TheVariants as kinds
 use Rattle.sentry_items.specs.Alike.{HasStoredAddress, HoldsNoTree, AreAlike}
-use Rattle.sentry_items.specs.View.{ItemView, attachment, replay_recording, value, raw, attachment_type_cell, attachment_view, item_held, kind_held}
+use Rattle.sentry_items.specs.View.{ItemView, attachment, replay_recording, value, attachment_type_cell, attachment_view, item_held, kind_held}
 use Rattle.sentry_items.specs.declared.attachment.Attachment.{Attachment}
 use Rattle.sentry_items.specs.declared.attachment_type.AttachmentType.{AttachmentType}
 use Rattle.sentry_items.specs.contracts.attachment_type.AttachmentTypePartialEq.TheImpl.{eq-value as of_types}

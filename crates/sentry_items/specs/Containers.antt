@@ -6,8 +6,8 @@ use Rattle.sentry_tables.specs.Fields.{Field, field, rows_of}
 use Rattle.sentry_tables.specs.Kind.{Kind, list, must, ignored, table, no_rows, row, keys}
 use Rattle.sentry_tables.specs.Written.{in_order}
 use Rattle.sentry_members.specs.Cells.{list_cell}
-use Rattle.sentry_records.specs.Logs.{log_cell, log_kind}
-use Rattle.sentry_records.specs.Metrics.{metric_cell, metric_kind}
+use Rattle.sentry_records.specs.Logs.{log_cell}
+use Rattle.sentry_records.specs.Metrics.{metric_cell}
 use Rattle.sentry_framing.specs.declared.kind.ItemKind.{ItemKind}
 use Rattle.sentry_framing.specs.declared.kind.ItemKind.TheVariants as kinds
 use Rattle.sentry_items.specs.declared.container.ItemContainer.{ItemContainer}
