@@ -3,6 +3,4 @@ pub mod Equal
 pub mod HeaderTokens
 pub mod Made
 pub mod Sent
-pub mod Sums
 pub mod UsualHeader
-pub mod Words

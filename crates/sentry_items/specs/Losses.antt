@@ -1,12 +1,12 @@
 -- What is lost with items.
 use Rattle.std.specs.Prelude.{ℕ, List, [], ◌∷◌, ◌++◌, length, Option, Some, None}
 use Rattle.std.specs.List.{flat_map}
-use Rattle.sentry_items.specs.declared.category.Category.{Category}
-use Rattle.sentry_items.specs.declared.category.Category.TheVariants as category
+use Rattle.sentry_reports.specs.declared.category.Category.{Category}
+use Rattle.sentry_reports.specs.declared.category.Category.TheVariants as category
 use Rattle.sentry_items.specs.declared.attachment.Attachment.{Attachment}
 use Rattle.sentry_items.specs.declared.item.EnvelopeItem.{EnvelopeItem}
 use Rattle.sentry_items.specs.declared.item.EnvelopeItem.TheVariants as item
-use Rattle.sentry_items.specs.declared.loss.ItemLoss.{ItemLoss}
+use Rattle.sentry_reports.specs.declared.item_loss.ItemLoss.{ItemLoss}
 use Rattle.sentry_items.specs.declared.loss.ItemLossIter.{ItemLossIter}
 use Rattle.sentry_items.specs.declared.loss.SourceLosses.{SourceLosses}
 use Rattle.sentry_items.specs.declared.loss.SourceLosses.TheVariants as source

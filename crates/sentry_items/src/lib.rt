@@ -3,24 +3,21 @@
 
 pub mod attachment;
 pub mod attachment_type;
-pub mod category;
 pub mod counted;
 pub mod header;
 pub mod item;
 pub mod laws;
 pub mod loss;
-pub mod reason;
 pub mod replay_recording;
 mod usual;
 
 pub use attachment::{Attachment, AttachmentWriteError};
 pub use attachment_type::AttachmentType;
-pub use category::Category;
 pub use counted::{CountedReader, CountedWriter};
 pub use item::EnvelopeItem;
-pub use loss::{ItemLoss, ItemLossIter, LossSlice, LossSource};
-pub use reason::Reason;
+pub use loss::{ItemLossIter, LossSlice, LossSource};
 pub use replay_recording::ReplayRecording;
+pub use sentry_reports::{Category, ItemLoss, Reason};
 
 #[cfg(test)]
 mod loss_tests;

@@ -1,21 +1,9 @@
 //! What is lost with items that aren't sent.
 
 use crate::attachment::Attachment;
-use crate::category::Category;
 use crate::item::EnvelopeItem;
-use crate::reason::Reason;
 use crate::replay_recording::ReplayRecording;
-
-/// A quantity that was lost.
-#[derive(Clone, Copy, Debug)]
-pub struct ItemLoss {
-    /// What was lost.
-    pub category: Category,
-    /// How much of it.
-    pub quantity: u64,
-    /// Why, where it is known.
-    pub reason: Option<Reason>,
-}
+use sentry_reports::{Category, ItemLoss};
 
 /// The losses of a source, one after another, and then none.
 ///
@@ -131,7 +119,7 @@ impl Iterator for ItemLossIter<'_> {
 /// What can be lost.
 pub trait LossSource {
     ghost use Rattle.std.specs.Prelude.{◌≡◌, List};
-    ghost use Rattle.sentry_items.specs.declared.loss.ItemLoss.{ItemLoss};
+    ghost use Rattle.sentry_reports.specs.declared.item_loss.ItemLoss.{ItemLoss};
     ghost use Rattle.sentry_items.specs.Losses.{losses_left};
 
     /// What is lost with the source, in order.

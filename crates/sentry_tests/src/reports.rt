@@ -59,13 +59,29 @@ fn equal_by_moment_and_sums(rt: HostRuntime) -> Result<(), Fail> {
     let alloc = rt.alloc();
     let now = Moment::new(5, 0);
     for (one, other, equal) in [
-        ([error(MOST), error(1)].as_slice(), [error(MOST)].as_slice(), true),
-        ([error(2), session(0)].as_slice(), [error(1), error(1)].as_slice(), true),
-        ([error(2), session(3)].as_slice(), [session(3), error(2)].as_slice(), true),
+        (
+            [error(MOST), error(1)].as_slice(),
+            [error(MOST)].as_slice(),
+            true,
+        ),
+        (
+            [error(2), session(0)].as_slice(),
+            [error(1), error(1)].as_slice(),
+            true,
+        ),
+        (
+            [error(2), session(3)].as_slice(),
+            [session(3), error(2)].as_slice(),
+            true,
+        ),
         ([].as_slice(), [session(0)].as_slice(), true),
         ([error(1)].as_slice(), [error(2)].as_slice(), false),
         ([error(1)].as_slice(), [session(1)].as_slice(), false),
-        ([error(MOST), error(2)].as_slice(), [error(1)].as_slice(), false),
+        (
+            [error(MOST), error(2)].as_slice(),
+            [error(1)].as_slice(),
+            false,
+        ),
         (
             [error(1)].as_slice(),
             [Item::new(Category::Error, Reason::SampleRate, 1)].as_slice(),
@@ -91,10 +107,14 @@ fn items_are_kept_in_order(rt: HostRuntime) -> Result<(), Fail> {
         let reason = loss.reason.ok_or("reason")?;
         losses.push((loss.category.as_str(), loss.quantity, reason.as_str()))?;
     }
-    assert!(rt; losses.as_slice() == [
-        ("session", 0, "sample_rate"),
-        ("error", 3, "before_send"),
-        ("error", 1, "before_send"),
-    ].as_slice());
+    assert!(rt;
+        losses.as_slice()
+            == [
+                ("session", 0, "sample_rate"),
+                ("error", 3, "before_send"),
+                ("error", 1, "before_send"),
+            ]
+            .as_slice()
+    );
     Ok(())
 }
