@@ -97,8 +97,9 @@ fn attributes_size(attributes: &Map<String, LogAttribute>) -> u64
 {
     let mut sum: u64 = 0;
     for (key, attribute) in attributes.iter() {
+        let name = key.len() as u64;
         sum = sum
-            .saturating_add(key.len() as u64)
+            .saturating_add(name)
             .saturating_add(tree_size(&attribute.0));
     }
     sum
