@@ -5,10 +5,10 @@ use Rattle.std.proofs.lemmas.List.Elements.{filter_map-append}
 use Rattle.std.specs.List.{filter_map, list_any}
 use Rattle.sentry_tables.specs.Cell.{Cell}
 use Rattle.sentry_items.specs.Losses.{losses_of_item, losses_of_items, loss}
-use Rattle.sentry_items.specs.declared.category.Category.TheVariants as category
+use Rattle.sentry_reports.specs.declared.category.Category.TheVariants as category
 use Rattle.sentry_items.specs.declared.item.EnvelopeItem.{EnvelopeItem}
 use Rattle.sentry_items.specs.declared.item.EnvelopeItem.TheVariants as variants
-use Rattle.sentry_items.specs.declared.loss.ItemLoss.{ItemLoss}
+use Rattle.sentry_reports.specs.declared.item_loss.ItemLoss.{ItemLoss}
 use Rattle.sentry_envelope.specs.Envelope.{Envelope as Model, Item, item, raw, attached, given_by, envelope_text}
 use Rattle.sentry_envelope.specs.EnvelopeView.{item_view}
 use Rattle.sentry_envelope.specs.Filter.{Hand, asks, chosen, first_id_of, handed, id_in, id_of, is_main, is_orphan, item_of_hand, kept, orphans}

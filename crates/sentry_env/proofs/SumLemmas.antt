@@ -2,11 +2,11 @@
 use Rattle.std.proofs.Common.{arith, ◌≡◌, ℕ, ◌+◌, ◌-◌, ◌^◌, ◌<◌, ◌≤◌, ◌≢◌, min, true, false, List, [], ◌∷◌, length, fold, get_or, ◌==◌, ◌⊎◌, inl, inr, refl, ap, sym, ◌∙◌, Option, get_or-set_same, get_or-set_other}
 use Rattle.std.proofs.lemmas.List.{length-set, length-replicate, get_or-replicate}
 use Rattle.std.proofs.lemmas.Bool.Decides.{eqb_tells}
-use Rattle.sentry_items.specs.declared.category.Category.{Category}
-use Rattle.sentry_items.specs.declared.loss.ItemLoss.{ItemLoss}
-use Rattle.sentry_items.specs.declared.reason.Reason.{Reason}
-use Rattle.sentry_items.specs.Sums.{place, lost, shown}
-use Rattle.sentry_items.proofs.Sums.{share, place_below, share_here, share_elsewhere, lost-cons}
+use Rattle.sentry_reports.specs.declared.category.Category.{Category}
+use Rattle.sentry_reports.specs.declared.item_loss.ItemLoss.{ItemLoss}
+use Rattle.sentry_reports.specs.declared.reason.Reason.{Reason}
+use Rattle.sentry_reports.specs.Sums.{place, lost, shown}
+use Rattle.sentry_reports.proofs.Sums.{share, place_below, share_here, share_elsewhere, lost-cons}
 use Rattle.sentry_env.specs.Sums.{sum_at, add_to, add_loss, no_sums}
 use Rattle.sentry_env.specs.Table.{table_by, table_of}
 use Rattle.sentry_env.specs.declared.losses.LossSums.{LossSums}

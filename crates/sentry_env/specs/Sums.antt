@@ -1,9 +1,9 @@
 -- The sums that a run keeps: one for each category and reason, or none, in one row.
 use Rattle.std.specs.Prelude.{ℕ, ◌+◌, ◌-◌, ◌^◌, min, List, replicate, slice_index, slice_set, Option}
-use Rattle.sentry_items.specs.Sums.{place}
-use Rattle.sentry_items.specs.declared.category.Category.{Category}
-use Rattle.sentry_items.specs.declared.loss.ItemLoss.{ItemLoss}
-use Rattle.sentry_items.specs.declared.reason.Reason.{Reason}
+use Rattle.sentry_reports.specs.Sums.{place}
+use Rattle.sentry_reports.specs.declared.category.Category.{Category}
+use Rattle.sentry_reports.specs.declared.item_loss.ItemLoss.{ItemLoss}
+use Rattle.sentry_reports.specs.declared.reason.Reason.{Reason}
 use Rattle.sentry_env.specs.declared.losses.LossSums.{LossSums}
 
 abbrev pub sum_at : LossSums → Category → Option Reason → ℕ

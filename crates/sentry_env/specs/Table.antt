@@ -2,11 +2,11 @@
 use Rattle.std.specs.Prelude.{ℕ, ◌==◌, List, [], ◌∷◌, ◌++◌, codes, if◌then◌else◌, Option, Some, None}
 use Rattle.std.specs.List.{flat_map}
 use Rattle.std.specs.Fmt.{decimal}
-use Rattle.sentry_items.specs.Categories.{categories, category_word, reasons, reason_word}
-use Rattle.sentry_items.specs.Sums.{shown}
-use Rattle.sentry_items.specs.declared.category.Category.{Category}
-use Rattle.sentry_items.specs.declared.loss.ItemLoss.{ItemLoss}
-use Rattle.sentry_items.specs.declared.reason.Reason.{Reason}
+use Rattle.sentry_reports.specs.Categories.{categories, category_word, reasons, reason_word}
+use Rattle.sentry_reports.specs.Sums.{shown}
+use Rattle.sentry_reports.specs.declared.category.Category.{Category}
+use Rattle.sentry_reports.specs.declared.item_loss.ItemLoss.{ItemLoss}
+use Rattle.sentry_reports.specs.declared.reason.Reason.{Reason}
 
 abbrev pub reason_text : Option Reason → List ℕ
 reason_text None = codes "none"

@@ -1,7 +1,7 @@
 ghost use Rattle.std.specs.Prelude.{◌≡◌, ◌++◌, ◌+◌, ◌*◌, ◌<◌, IfOk, OnOk, Some, fold, string_bytes};
 ghost use Rattle.sentry_items.specs.Losses.{losses_of_item};
 ghost use Rattle.std.specs.List.{flat_map};
-ghost use Rattle.sentry_items.specs.Sums.{place};
+ghost use Rattle.sentry_reports.specs.Sums.{place};
 ghost use Rattle.sentry_env.specs.Sums.{add_loss, no_sums, sum_at};
 ghost use Rattle.sentry_env.specs.Table.{line_of, lines_by, reason_text, table_by};
 

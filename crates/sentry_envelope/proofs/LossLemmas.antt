@@ -5,7 +5,7 @@ use Rattle.std.proofs.lemmas.List.Sorted.{length_permutation}
 use Rattle.sentry_tables.specs.Cell.{Cell}
 use Rattle.sentry_items.specs.Losses.{losses_of_item, losses_of_items}
 use Rattle.sentry_items.specs.declared.item.EnvelopeItem.{EnvelopeItem}
-use Rattle.sentry_items.specs.declared.loss.ItemLoss.{ItemLoss}
+use Rattle.sentry_reports.specs.declared.item_loss.ItemLoss.{ItemLoss}
 use Rattle.sentry_envelope.specs.EnvelopeLosses.{losses_of_envelope, losses_of_left}
 use Rattle.sentry_envelope.specs.EnvelopeView.{items_in}
 use Rattle.sentry_envelope.specs.Filter.{asked_in, asked_items, chosen, kept, handed, structured_in, Leaves, LeavesOf}

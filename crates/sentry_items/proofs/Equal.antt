@@ -1,20 +1,27 @@
 -- What `==` says of attachments and of items.
-use Rattle.std.proofs.Common.{rules, Global, String, ◌≡◌, Bool, ◌&&◌, Option, Some, None, option_map, string_bytes, refl, ap, Decides}
-use Rattle.std.proofs.lemmas.Bool.Decides.{Decides-and, Decides-eqb}
+use Rattle.std.proofs.Common.{rules, Global, String, ◌≡◌, ℕ, Bool, ◌&&◌, List, [], Option, Some, None, option_map, string_bytes, refl, ap, Decides}
+use Rattle.std.proofs.lemmas.Bool.Decides.{Decides-and, Decides-like, Decides-eqb}
 use Rattle.std.proofs.lemmas.Slice.Eq.{slice_eq-Decides, bytes_eq-Decides}
 use lib.Pointwise.{pointwise}
 use lib.Dec.{eqb}
 use Rattle.std.specs.Option.{option_eq}
 use Rattle.std.specs.String.{string_eq}
 use Rattle.sentry_items.specs.Attached.{Attached}
-use Rattle.sentry_items.specs.Alike.{HoldsNoTree, AreAlike}
-use Rattle.sentry_items.specs.View.{attachment_type_cell, attachment_view, item_held}
+use Rattle.sentry_tables.specs.Cell.{Cell, absent}
+use Rattle.sentry_records.proofs.Equal.{check_ins_decide, reports_decide as of_users}
+use Rattle.sentry_records.proofs.SessionsEqual.{sessions_decide, aggregates_decide}
+use Rattle.sentry_reports.proofs.Alike.{reports_decide as of_clients}
+use Rattle.sentry_framing.specs.declared.kind.ItemKind.{ItemKind}
+use Rattle.sentry_framing.specs.declared.kind.ItemKind.TheVariants as kinds
+use Rattle.sentry_items.specs.Alike.{HasStoredAddress, HoldsNoTree, AreAlike}
+use Rattle.sentry_items.specs.View.{ItemView, attachment, replay_recording, value, attachment_type_cell, attachment_view, item_held, kind_held}
 use Rattle.sentry_items.specs.declared.attachment.Attachment.{Attachment}
 use Rattle.sentry_items.specs.declared.attachment_type.AttachmentType.{AttachmentType}
 use Rattle.sentry_items.specs.contracts.attachment_type.AttachmentTypePartialEq.TheImpl.{eq-value as of_types}
 use Rattle.sentry_items.specs.contracts.item.EnvelopeItemPartialEq.TheImpl.{eq-value as of_items}
 use Rattle.sentry_items.specs.declared.item.EnvelopeItem.{EnvelopeItem}
 use Rattle.sentry_items.specs.declared.item.EnvelopeItem.TheVariants as item
+use Rattle.sentry_items.specs.declared.container.ItemContainer.TheVariants as container
 
 strings_decide : (a b : String Global) → Decides (string_eq a b) (string_bytes a ≡ string_bytes b)
 strings_decide a b = bytes_eq-Decides (string_bytes a) (string_bytes b)
@@ -42,13 +49,44 @@ attachments_decide a b =
       λ same. parts.1 (ap (λ (v : Attached). v.buffer) same, (ap (λ (v : Attached). v.filename) same, (ap (λ (v : Attached). v.content_type) same, ap (λ (v : Attached). v.ty) same))),
     )
 
-pub items_decide : (a b : EnvelopeItem) → HoldsNoTree (item_held a) → HoldsNoTree (item_held b) → Decides (of_items.it a b) (AreAlike (item_held a) (item_held b))
-items_decide (item.Attachment a) (item.Attachment b) s t = attachments_decide a b
-items_decide (item.ReplayRecording a) (item.ReplayRecording b) s t = slice_eq-Decides Decides-eqb a.buffer.items b.buffer.items _ refl
-items_decide item.Raw item.Raw s t = (λ same. tt, λ same. refl)
-items_decide (item.Attachment a) (item.ReplayRecording b) s t = (λ same. cc, λ same. absurd same)
-items_decide (item.Attachment a) item.Raw s t = (λ same. cc, λ same. absurd same)
-items_decide (item.ReplayRecording a) (item.Attachment b) s t = (λ same. cc, λ same. absurd same)
-items_decide (item.ReplayRecording a) item.Raw s t = (λ same. cc, λ same. absurd same)
-items_decide item.Raw (item.Attachment b) s t = (λ same. cc, λ same. absurd same)
-items_decide item.Raw (item.ReplayRecording b) s t = (λ same. cc, λ same. absurd same)
+-- what is held is of one type
+one_kind : (x y : ItemView) → x ≡ y → kind_held x ≡ kind_held y
+one_kind x y same = ap kind_held same
+
+abbrev cell_in : ItemView → Cell
+cell_in (value k c) = c
+cell_in _ = absent
+
+abbrev attached_in : ItemView → Attached → Attached
+attached_in (attachment a) b = a
+attached_in _ b = b
+
+abbrev bytes_in : ItemView → List ℕ
+bytes_in (replay_recording b) = b
+bytes_in _ = []
+
+-- values of one type are the same where their cells are
+values_decide : (k : ItemKind) (c d : Cell) (E : Bool) → Decides E (c ≡ d) → Decides E (value k c ≡ value k d)
+values_decide k c d E cells = Decides-like E (λ same. ap (value k) same) (λ same. ap cell_in same) cells
+
+pub items_decide : (a b : EnvelopeItem) → HoldsNoTree (item_held a) → HoldsNoTree (item_held b) → HasStoredAddress a → HasStoredAddress b
+    → Decides (of_items.it a b) (AreAlike a b)
+items_decide (item.Event a) b s t h k = absurd s
+items_decide (item.Transaction a) b s t h k = absurd s
+items_decide (item.ItemContainer (container.Logs a)) b s t h k = absurd s
+items_decide (item.ItemContainer (container.Metrics a)) b s t h k = absurd s
+items_decide a (item.Event b) s t h k = absurd t
+items_decide a (item.Transaction b) s t h k = absurd t
+items_decide a (item.ItemContainer (container.Logs b)) s t h k = absurd t
+items_decide a (item.ItemContainer (container.Metrics b)) s t h k = absurd t
+items_decide (item.SessionUpdate a) (item.SessionUpdate b) s t h k = values_decide kinds.SessionUpdate _ _ _ (sessions_decide a b h k)
+items_decide (item.SessionAggregates a) (item.SessionAggregates b) s t h k = values_decide kinds.SessionAggregates _ _ _ (aggregates_decide a b h k)
+items_decide (item.MonitorCheckIn a) (item.MonitorCheckIn b) s t h k = values_decide kinds.MonitorCheckIn _ _ _ (check_ins_decide a b)
+items_decide (item.UserReport a) (item.UserReport b) s t h k = values_decide kinds.UserReport _ _ _ (of_users a b)
+items_decide (item.ClientReport a) (item.ClientReport b) s t h k = of_clients a b
+items_decide (item.Attachment a) (item.Attachment b) s t h k =
+    Decides-like _ (λ same. ap attachment same) (λ same. ap (λ x. attached_in x (attachment_view a)) same) (attachments_decide a b)
+items_decide (item.ReplayRecording a) (item.ReplayRecording b) s t h k =
+    Decides-like _ (λ same. ap replay_recording same) (λ same. ap bytes_in same) (slice_eq-Decides Decides-eqb a.buffer.items b.buffer.items _ refl)
+items_decide item.Raw item.Raw s t h k = (λ same. refl, λ same. refl)
+items_decide a b s t h k = (λ same. cc, λ same. let e = one_kind (item_held a) (item_held b) same in absurd (cc))

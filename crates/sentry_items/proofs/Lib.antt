@@ -1,8 +1,8 @@
 pub mod AttachmentTypes
+pub mod Containers
+pub mod Cut
 pub mod Equal
 pub mod HeaderTokens
 pub mod Made
 pub mod Sent
-pub mod Sums
 pub mod UsualHeader
-pub mod Words

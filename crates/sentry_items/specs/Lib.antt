@@ -1,11 +1,12 @@
 pub mod Alike
 pub mod Attached
 pub mod AttachmentWords
-pub mod Categories
+pub mod Containers
 pub mod Counted
 pub mod HeaderTokens
 pub mod Losses
 pub mod Made
-pub mod Sums
+pub mod Meets
+pub mod Sizes
 pub mod UsualHeader
 pub mod View

@@ -1,26 +1,28 @@
-//! The items of envelopes: attachments, replay recordings, and sending bytes.
+//! The items of envelopes, what is lost with them, and sending bytes.
 #![tactic(auto)]
 
 pub mod attachment;
 pub mod attachment_type;
-pub mod category;
+pub mod container;
 pub mod counted;
 pub mod header;
 pub mod item;
 pub mod laws;
+pub mod listed;
 pub mod loss;
-pub mod reason;
 pub mod replay_recording;
+mod sizes;
 mod usual;
 
 pub use attachment::{Attachment, AttachmentWriteError};
 pub use attachment_type::AttachmentType;
-pub use category::Category;
+pub use container::ItemContainer;
 pub use counted::{CountedReader, CountedWriter};
 pub use item::EnvelopeItem;
-pub use loss::{ItemLoss, ItemLossIter, LossSlice, LossSource};
-pub use reason::Reason;
+pub use listed::Listed;
+pub use loss::{ItemLossIter, LossSlice, LossSource};
 pub use replay_recording::ReplayRecording;
+pub use sentry_reports::{Category, Item, ItemLoss, Reason, Report};
 
 #[cfg(test)]
 mod loss_tests;

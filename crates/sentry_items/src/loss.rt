@@ -1,21 +1,16 @@
 //! What is lost with items that aren't sent.
 
-use crate::attachment::Attachment;
-use crate::category::Category;
-use crate::item::EnvelopeItem;
-use crate::reason::Reason;
-use crate::replay_recording::ReplayRecording;
+ghost use Rattle.std.specs.Prelude.{◌≡◌};
+ghost use Rattle.sentry_items.specs.Losses.{loss as lost_without_reason};
 
-/// A quantity that was lost.
-#[derive(Clone, Copy, Debug)]
-pub struct ItemLoss {
-    /// What was lost.
-    pub category: Category,
-    /// How much of it.
-    pub quantity: u64,
-    /// Why, where it is known.
-    pub reason: Option<Reason>,
-}
+use crate::attachment::Attachment;
+use crate::container::ItemContainer;
+use crate::item::EnvelopeItem;
+use crate::replay_recording::ReplayRecording;
+use crate::sizes::{Measured, sum_of_sizes};
+use sentry_event::{Event, Span, Transaction};
+use sentry_records::{Log, Metric, MonitorCheckIn, SessionAggregates, SessionUpdate, UserReport};
+use sentry_reports::{Category, Item, ItemLoss, Report};
 
 /// The losses of a source, one after another, and then none.
 ///
@@ -29,31 +24,108 @@ pub struct ItemLossIter<'a> {
 /// The losses that are left of one source.
 #[derive(Clone, Copy)]
 enum SourceLosses<'a> {
-    Single(Option<ItemLoss>),
+    /// The next one and the one after it.
+    Pair(Option<ItemLoss>, Option<ItemLoss>),
+    /// Those of a report's items.
+    Reported(&'a [Item]),
+    /// All of a list.
     Listed(&'a [ItemLoss]),
+}
+
+/// So much of a category, without a reason.
+fn loss(category: Category, quantity: u64) -> ItemLoss
+    ensures { result ≡ lost_without_reason category quantity }
+{
+    ItemLoss {
+        category,
+        quantity,
+        reason: None,
+    }
 }
 
 impl<'a> SourceLosses<'a> {
     ghost use Rattle.std.specs.Prelude.{◌≡◌, ◌∷◌, []};
     ghost use Rattle.std.specs.Iterator.{YieldsFirst};
-    ghost use Rattle.sentry_items.specs.Losses.{loss, losses_of_item, source_left};
+    ghost use Rattle.sentry_items.specs.Losses.{loss, losses_of_container, losses_of_groups, losses_of_item, losses_of_logs, losses_of_metrics, losses_of_report, losses_of_transaction, source_left};
 
     /// No losses.
     fn none() -> SourceLosses<'a>
         ensures { source_left result ≡ [] }
     {
-        SourceLosses::Single(None)
+        SourceLosses::Pair(None, None)
     }
 
     /// So much of a category, without a reason.
     fn single(category: Category, quantity: u64) -> SourceLosses<'a>
         ensures { source_left result ≡ loss category quantity ∷ [] }
     {
-        SourceLosses::Single(Some(ItemLoss {
-            category,
-            quantity,
-            reason: None,
-        }))
+        SourceLosses::Pair(Some(loss(category, quantity)), None)
+    }
+
+    /// So much of one category, and then so much of another.
+    fn pair(first: Category, many: u64, second: Category, much: u64) -> SourceLosses<'a>
+        ensures { source_left result ≡ loss first many ∷ loss second much ∷ [] }
+    {
+        SourceLosses::Pair(Some(loss(first, many)), Some(loss(second, much)))
+    }
+
+    /// What is lost with counted sessions.
+    fn of_groups(groups: &SessionAggregates<'_>) -> SourceLosses<'a>
+        ensures { source_left result ≡ losses_of_groups groups.now }
+    {
+        SourceLosses::single(Category::Session, sum_of_sizes(&groups.aggregates))
+    }
+
+    /// What is lost with a transaction.
+    fn of_transaction(transaction: &Transaction<'_>) -> SourceLosses<'a>
+        ensures { source_left result ≡ losses_of_transaction transaction.now }
+    {
+        let spans = transaction.spans.len() as u64 + 1;
+        SourceLosses::pair(Category::Transaction, 1, Category::Span, spans)
+    }
+
+    /// What is lost with logs.
+    fn of_logs(logs: &[Log]) -> SourceLosses<'a>
+        ensures { source_left result ≡ losses_of_logs logs.now }
+    {
+        let bytes = sum_of_sizes(logs);
+        SourceLosses::pair(
+            Category::LogItem,
+            logs.len() as u64,
+            Category::LogByte,
+            bytes,
+        )
+    }
+
+    /// What is lost with metrics.
+    fn of_metrics(metrics: &[Metric]) -> SourceLosses<'a>
+        ensures { source_left result ≡ losses_of_metrics metrics.now }
+    {
+        let count = metrics.len() as u64;
+        let bytes = sum_of_sizes(metrics);
+        SourceLosses::pair(
+            Category::TraceMetric,
+            count,
+            Category::TraceMetricByte,
+            bytes,
+        )
+    }
+
+    /// What is lost with a container.
+    fn of_container(container: &ItemContainer) -> SourceLosses<'a>
+        ensures { source_left result ≡ losses_of_container container.now }
+    {
+        match container {
+            ItemContainer::Logs(logs) => SourceLosses::of_logs(logs),
+            ItemContainer::Metrics(metrics) => SourceLosses::of_metrics(metrics),
+        }
+    }
+
+    /// What is lost with a report: its items, with their reasons.
+    fn of_report(report: &'a Report) -> SourceLosses<'a>
+        ensures { source_left result ≡ losses_of_report report.now }
+    {
+        SourceLosses::Reported(report.discarded_events())
     }
 
     /// What is lost with an item.
@@ -61,10 +133,18 @@ impl<'a> SourceLosses<'a> {
         ensures { source_left result ≡ losses_of_item item.now }
     {
         match item {
+            EnvelopeItem::Event(_) => SourceLosses::single(Category::Error, 1),
+            EnvelopeItem::SessionUpdate(_) => SourceLosses::single(Category::Session, 1),
+            EnvelopeItem::SessionAggregates(groups) => SourceLosses::of_groups(groups),
+            EnvelopeItem::Transaction(transaction) => SourceLosses::of_transaction(transaction),
             EnvelopeItem::Attachment(attachment) => {
                 SourceLosses::single(Category::Attachment, attachment.buffer.len() as u64)
             }
+            EnvelopeItem::MonitorCheckIn(_) => SourceLosses::single(Category::Monitor, 1),
+            EnvelopeItem::UserReport(_) => SourceLosses::single(Category::Feedback, 1),
             EnvelopeItem::ReplayRecording(_) => SourceLosses::single(Category::Replay, 1),
+            EnvelopeItem::ItemContainer(container) => SourceLosses::of_container(container),
+            EnvelopeItem::ClientReport(report) => SourceLosses::of_report(report),
             EnvelopeItem::Raw => SourceLosses::none(),
         }
     }
@@ -74,7 +154,18 @@ impl<'a> SourceLosses<'a> {
         ensures { YieldsFirst source_left self.old result self.new }
     {
         match self {
-            SourceLosses::Single(next) => next.take(),
+            SourceLosses::Pair(next, after) => {
+                if next.is_some() {
+                    next.take()
+                } else {
+                    after.take()
+                }
+            }
+            SourceLosses::Reported(items) => {
+                let (item, others) = items.split_first()?;
+                *items = others;
+                Some(ItemLoss::from(*item))
+            }
             SourceLosses::Listed(losses) => {
                 let (loss, others) = losses.split_first()?;
                 *losses = others;
@@ -131,7 +222,7 @@ impl Iterator for ItemLossIter<'_> {
 /// What can be lost.
 pub trait LossSource {
     ghost use Rattle.std.specs.Prelude.{◌≡◌, List};
-    ghost use Rattle.sentry_items.specs.declared.loss.ItemLoss.{ItemLoss};
+    ghost use Rattle.sentry_reports.specs.declared.item_loss.ItemLoss.{ItemLoss};
     ghost use Rattle.sentry_items.specs.Losses.{losses_left};
 
     /// What is lost with the source, in order.
@@ -140,6 +231,56 @@ pub trait LossSource {
     /// What is lost with the source, in order. It takes no memory.
     fn losses(&self) -> ItemLossIter<'_>
         ensures { losses_left result ≡ losses_of self.now };
+}
+
+impl LossSource for Event<'_> {
+    ghost use Rattle.sentry_items.specs.Losses.{losses_of_event};
+
+    ghost losses_of = { losses_of_event };
+
+    fn losses(&self) -> ItemLossIter<'_> {
+        ItemLossIter::of_source(SourceLosses::single(Category::Error, 1))
+    }
+}
+
+impl LossSource for SessionUpdate<'_> {
+    ghost use Rattle.sentry_items.specs.Losses.{losses_of_session};
+
+    ghost losses_of = { losses_of_session };
+
+    fn losses(&self) -> ItemLossIter<'_> {
+        ItemLossIter::of_source(SourceLosses::single(Category::Session, 1))
+    }
+}
+
+impl LossSource for SessionAggregates<'_> {
+    ghost use Rattle.sentry_items.specs.Losses.{losses_of_groups};
+
+    ghost losses_of = { losses_of_groups };
+
+    fn losses(&self) -> ItemLossIter<'_> {
+        ItemLossIter::of_source(SourceLosses::of_groups(self))
+    }
+}
+
+impl LossSource for Transaction<'_> {
+    ghost use Rattle.sentry_items.specs.Losses.{losses_of_transaction};
+
+    ghost losses_of = { losses_of_transaction };
+
+    fn losses(&self) -> ItemLossIter<'_> {
+        ItemLossIter::of_source(SourceLosses::of_transaction(self))
+    }
+}
+
+impl LossSource for Span {
+    ghost use Rattle.sentry_items.specs.Losses.{losses_of_span};
+
+    ghost losses_of = { losses_of_span };
+
+    fn losses(&self) -> ItemLossIter<'_> {
+        ItemLossIter::of_source(SourceLosses::single(Category::Span, 1))
+    }
 }
 
 impl LossSource for Attachment {
@@ -153,6 +294,26 @@ impl LossSource for Attachment {
     }
 }
 
+impl LossSource for MonitorCheckIn {
+    ghost use Rattle.sentry_items.specs.Losses.{losses_of_check_in};
+
+    ghost losses_of = { losses_of_check_in };
+
+    fn losses(&self) -> ItemLossIter<'_> {
+        ItemLossIter::of_source(SourceLosses::single(Category::Monitor, 1))
+    }
+}
+
+impl LossSource for UserReport {
+    ghost use Rattle.sentry_items.specs.Losses.{losses_of_user_report};
+
+    ghost losses_of = { losses_of_user_report };
+
+    fn losses(&self) -> ItemLossIter<'_> {
+        ItemLossIter::of_source(SourceLosses::single(Category::Feedback, 1))
+    }
+}
+
 impl LossSource for ReplayRecording {
     ghost use Rattle.sentry_items.specs.Losses.{losses_of_recording};
 
@@ -160,6 +321,56 @@ impl LossSource for ReplayRecording {
 
     fn losses(&self) -> ItemLossIter<'_> {
         ItemLossIter::of_source(SourceLosses::single(Category::Replay, 1))
+    }
+}
+
+impl LossSource for Log {
+    ghost use Rattle.sentry_items.specs.Losses.{losses_of_log};
+
+    ghost losses_of = { losses_of_log };
+
+    fn losses(&self) -> ItemLossIter<'_> {
+        ItemLossIter::of_source(SourceLosses::pair(
+            Category::LogItem,
+            1,
+            Category::LogByte,
+            self.size(),
+        ))
+    }
+}
+
+impl LossSource for Metric {
+    ghost use Rattle.sentry_items.specs.Losses.{losses_of_metric};
+
+    ghost losses_of = { losses_of_metric };
+
+    fn losses(&self) -> ItemLossIter<'_> {
+        ItemLossIter::of_source(SourceLosses::pair(
+            Category::TraceMetric,
+            1,
+            Category::TraceMetricByte,
+            self.size(),
+        ))
+    }
+}
+
+impl LossSource for ItemContainer {
+    ghost use Rattle.sentry_items.specs.Losses.{losses_of_container};
+
+    ghost losses_of = { losses_of_container };
+
+    fn losses(&self) -> ItemLossIter<'_> {
+        ItemLossIter::of_source(SourceLosses::of_container(self))
+    }
+}
+
+impl LossSource for Report {
+    ghost use Rattle.sentry_items.specs.Losses.{losses_of_report};
+
+    ghost losses_of = { losses_of_report };
+
+    fn losses(&self) -> ItemLossIter<'_> {
+        ItemLossIter::of_source(SourceLosses::of_report(self))
     }
 }
 

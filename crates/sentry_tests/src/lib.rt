@@ -17,6 +17,8 @@ mod main_path;
 #[cfg(test)]
 mod parts;
 #[cfg(test)]
+mod reports;
+#[cfg(test)]
 mod rows;
 #[cfg(test)]
 mod urls;

@@ -1,5 +1,5 @@
-use Rattle.sentry_items.proofs.Words.{category_word_back, category_has_laws}
-use Rattle.sentry_items.proofs.laws.category_words_read_back.Goals as goal
+use Rattle.sentry_reports.proofs.Words.{category_word_back, category_has_laws}
+use Rattle.sentry_reports.proofs.laws.category_words_read_back.Goals as goal
 
 pub returns-clause-back : goal.returns-clause-back
 returns-clause-back c = category_word_back

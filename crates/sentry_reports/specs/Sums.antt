@@ -1,9 +1,9 @@
 -- What a list of losses sums to, for each category and reason, and for no reason.
 use Rattle.std.specs.Prelude.{ℕ, ◌+◌, ◌-◌, ◌*◌, ◌^◌, min, ◌==◌, ◌&&◌, Bool, List, sum_by, if◌then◌else◌, Option, Some, None}
-use Rattle.sentry_items.specs.Categories.{category_index, reason_index}
-use Rattle.sentry_items.specs.declared.category.Category.{Category}
-use Rattle.sentry_items.specs.declared.loss.ItemLoss.{ItemLoss}
-use Rattle.sentry_items.specs.declared.reason.Reason.{Reason}
+use Rattle.sentry_reports.specs.Categories.{category_index, reason_index}
+use Rattle.sentry_reports.specs.declared.category.Category.{Category}
+use Rattle.sentry_reports.specs.declared.item_loss.ItemLoss.{ItemLoss}
+use Rattle.sentry_reports.specs.declared.reason.Reason.{Reason}
 
 -- the places within a category: no reason stands first, and then the reasons in order
 abbrev pub reason_place : Option Reason → ℕ

@@ -3,10 +3,10 @@ use Rattle.std.specs.Prelude.{◌≡◌, refl, ℕ, List, [], ◌∷◌, Option,
 use Rattle.sentry_tables.specs.Kind.{Kind}
 use Rattle.sentry_members.specs.Spelling.{Spelling, enumeration, spelled_kind}
 use Rattle.sentry_words.specs.Lookup.{lookup, by_word}
-use Rattle.sentry_items.specs.declared.category.Category.{Category}
-use Rattle.sentry_items.specs.declared.category.Category.TheVariants as category
-use Rattle.sentry_items.specs.declared.reason.Reason.{Reason}
-use Rattle.sentry_items.specs.declared.reason.Reason.TheVariants as reason
+use Rattle.sentry_reports.specs.declared.category.Category.{Category}
+use Rattle.sentry_reports.specs.declared.category.Category.TheVariants as category
+use Rattle.sentry_reports.specs.declared.reason.Reason.{Reason}
+use Rattle.sentry_reports.specs.declared.reason.Reason.TheVariants as reason
 
 abbrev pub category_word : Category → List ℕ
 category_word category.Error = codes "error"

@@ -1,5 +1,5 @@
-use Rattle.sentry_items.proofs.Words.{reason_word_back, reason_has_laws}
-use Rattle.sentry_items.proofs.laws.reason_words_read_back.Goals as goal
+use Rattle.sentry_reports.proofs.Words.{reason_word_back, reason_has_laws}
+use Rattle.sentry_reports.proofs.laws.reason_words_read_back.Goals as goal
 
 pub returns-clause-back : goal.returns-clause-back
 returns-clause-back c = reason_word_back

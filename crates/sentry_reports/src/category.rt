@@ -37,7 +37,7 @@ pub enum Category {
 
 impl Category {
     ghost use Rattle.std.specs.Prelude.{◌≡◌};
-    ghost use Rattle.sentry_items.specs.Categories.{category_word};
+    ghost use Rattle.sentry_reports.specs.Categories.{category_word};
 
     /// The category's word.
     pub fn as_str(&self) -> &'static str
@@ -61,7 +61,7 @@ impl Category {
 }
 
 impl IndexedEnum for Category {
-    ghost use Rattle.sentry_items.specs.Categories.{categories, category_index, category_in_place};
+    ghost use Rattle.sentry_reports.specs.Categories.{categories, category_index, category_in_place};
 
     ghost variants = { categories };
 
@@ -108,7 +108,7 @@ impl Formed for Category {
 
 impl Spelled for Category {
     ghost use Rattle.sentry_members.specs.Spelling.{word_cell};
-    ghost use Rattle.sentry_items.specs.Categories.{category_word, category_spelling};
+    ghost use Rattle.sentry_reports.specs.Categories.{category_word, category_spelling};
 
     ghost spelling = { category_spelling };
 

@@ -31,7 +31,7 @@ pub enum Reason {
 
 impl Reason {
     ghost use Rattle.std.specs.Prelude.{◌≡◌};
-    ghost use Rattle.sentry_items.specs.Categories.{reason_word};
+    ghost use Rattle.sentry_reports.specs.Categories.{reason_word};
 
     /// The reason's word.
     pub fn as_str(&self) -> &'static str
@@ -52,7 +52,7 @@ impl Reason {
 }
 
 impl IndexedEnum for Reason {
-    ghost use Rattle.sentry_items.specs.Categories.{reasons, reason_index, reason_in_place};
+    ghost use Rattle.sentry_reports.specs.Categories.{reasons, reason_index, reason_in_place};
 
     ghost variants = { reasons };
 
@@ -93,7 +93,7 @@ impl Formed for Reason {
 
 impl Spelled for Reason {
     ghost use Rattle.sentry_members.specs.Spelling.{word_cell};
-    ghost use Rattle.sentry_items.specs.Categories.{reason_word, reason_spelling};
+    ghost use Rattle.sentry_reports.specs.Categories.{reason_word, reason_spelling};
 
     ghost spelling = { reason_spelling };
 

@@ -6,11 +6,11 @@ use Rattle.sentry_tables.specs.Laws.{HasLaws}
 use Rattle.sentry_members.specs.Spelling.{SpellingLaws}
 use Rattle.sentry_members.proofs.Spellings.{spelled_has_laws}
 use Rattle.sentry_words.proofs.Enumerations.{ReadsItsWords, words_laws}
-use Rattle.sentry_items.specs.declared.category.Category.{Category}
-use Rattle.sentry_items.specs.declared.category.Category.TheVariants as category
-use Rattle.sentry_items.specs.declared.reason.Reason.{Reason}
-use Rattle.sentry_items.specs.declared.reason.Reason.TheVariants as reason
-use Rattle.sentry_items.specs.Categories.{categories, category_index, category_in_place, category_word, category_of, category_spelling, category_kind, reasons, reason_index, reason_in_place, reason_word, reason_of, reason_spelling, reason_kind}
+use Rattle.sentry_reports.specs.declared.category.Category.{Category}
+use Rattle.sentry_reports.specs.declared.category.Category.TheVariants as category
+use Rattle.sentry_reports.specs.declared.reason.Reason.{Reason}
+use Rattle.sentry_reports.specs.declared.reason.Reason.TheVariants as reason
+use Rattle.sentry_reports.specs.Categories.{categories, category_index, category_in_place, category_word, category_of, category_spelling, category_kind, reasons, reason_index, reason_in_place, reason_word, reason_of, reason_spelling, reason_kind}
 
 category_words_read : ReadsItsWords category_of category_word
 category_words_read category.Error = (refl, refl)

@@ -2,13 +2,13 @@
 use Rattle.std.proofs.Common.{arith, ◌≡◌, ℕ, ◌+◌, ◌<◌, ◌≢◌, Bool, true, false, ◌&&◌, List, ◌∷◌, if◌then◌else◌, ◌==◌, refl, Option, Some, None, lit<, eq-eqb}
 use Rattle.std.proofs.lemmas.List.Sums.{sum_by-cons}
 use Rattle.std.proofs.lemmas.Bool.{eqb-true}
-use Rattle.sentry_items.specs.Categories.{category_index, reason_index}
-use Rattle.sentry_items.specs.Sums.{reason_place, place, is_loss_of, lost}
-use Rattle.sentry_items.specs.declared.category.Category.{Category}
-use Rattle.sentry_items.specs.declared.category.Category.TheVariants as category
-use Rattle.sentry_items.specs.declared.loss.ItemLoss.{ItemLoss}
-use Rattle.sentry_items.specs.declared.reason.Reason.{Reason}
-use Rattle.sentry_items.specs.declared.reason.Reason.TheVariants as reason
+use Rattle.sentry_reports.specs.Categories.{category_index, reason_index}
+use Rattle.sentry_reports.specs.Sums.{reason_place, place, is_loss_of, lost}
+use Rattle.sentry_reports.specs.declared.category.Category.{Category}
+use Rattle.sentry_reports.specs.declared.category.Category.TheVariants as category
+use Rattle.sentry_reports.specs.declared.item_loss.ItemLoss.{ItemLoss}
+use Rattle.sentry_reports.specs.declared.reason.Reason.{Reason}
+use Rattle.sentry_reports.specs.declared.reason.Reason.TheVariants as reason
 
 pub category_below : (c : Category) → category_index c < 12
 category_below category.Error = lit< tt

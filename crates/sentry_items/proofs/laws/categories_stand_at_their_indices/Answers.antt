@@ -1,5 +1,0 @@
-use Rattle.sentry_items.proofs.Words.{category_at_index}
-use Rattle.sentry_items.proofs.laws.categories_stand_at_their_indices.Goals as goal
-
-pub returns-clause-distinct : goal.returns-clause-distinct
-returns-clause-distinct c = category_at_index

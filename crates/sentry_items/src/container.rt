@@ -1,0 +1,150 @@
+//! Items that hold many values of one type.
+
+ghost use Rattle.std.specs.Prelude.{◌≡◌, IfOk};
+ghost use Rattle.sentry_members.specs.Made.{made};
+ghost use Rattle.sentry_items.specs.Containers.{container_kind, items_cell};
+
+use crate::listed::Lent;
+use json::Writer;
+use sentry_framing::ItemKind;
+use sentry_givers::plain::rows_are_plain;
+use sentry_givers::table::write_table;
+use sentry_members::{Member, Way};
+use sentry_records::{Log, Metric};
+use std::alloc::AllocError;
+
+/// An item that holds many values of one type.
+///
+/// <https://develop.sentry.dev/sdk/data-model/envelope-items/>
+#[derive(Debug, Drop, PartialEq)]
+pub enum ItemContainer {
+    /// Logs.
+    Logs(Vec<Log>),
+    /// Metrics.
+    Metrics(Vec<Metric>),
+}
+
+impl ItemContainer {
+    ghost use Rattle.std.specs.Prelude.{◌≡◌, ◌↔◌, nat_eq, IfOk, IsTrue, OnOk};
+    ghost use Rattle.sentry_tables.specs.Meets.{IsPlain, IsStored};
+    ghost use Rattle.sentry_members.specs.Made.{made};
+    ghost use Rattle.sentry_members.specs.Written.{written, WritesTree};
+    ghost use Rattle.sentry_framing.specs.ItemWords.{kind_word};
+    ghost use Rattle.sentry_items.specs.Containers.{container_cell, container_len, container_type, content_type};
+    ghost use Rattle.sentry_items.specs.View.{payload_kind};
+
+    /// How many values it holds.
+    pub fn len(&self) -> usize
+        ensures { result ≡ container_len self.now }
+    {
+        match self {
+            ItemContainer::Logs(logs) => logs.len(),
+            ItemContainer::Metrics(metrics) => metrics.len(),
+        }
+    }
+
+    /// Whether it holds no values.
+    pub fn is_empty(&self) -> bool
+        ensures { result ≡ nat_eq (container_len self.now) 0 }
+    {
+        self.len() == 0
+    }
+
+    /// The type of items that it is.
+    pub fn kind(&self) -> ItemKind
+        ensures { result ≡ container_type self.now }
+    {
+        match self {
+            ItemContainer::Logs(_) => ItemKind::Logs,
+            ItemContainer::Metrics(_) => ItemKind::Metrics,
+        }
+    }
+
+    /// The word of that type: `log` or `trace_metric`.
+    pub fn ty(&self) -> &'static str
+        ensures { result.now ≡ kind_word (container_type self.now) }
+    {
+        self.kind().word()
+    }
+
+    /// The media type that the item's header states.
+    pub fn content_type(&self) -> &'static str
+        ensures { result.now ≡ content_type self.now }
+    {
+        match self {
+            ItemContainer::Logs(_) => "application/vnd.sentry.items.log+json",
+            ItemContainer::Metrics(_) => "application/vnd.sentry.items.trace-metric+json",
+        }
+    }
+
+    /// Writes the text of the payload. It fails where memory is refused, with a part of the text written.
+    pub fn write(&self, out: &mut Writer) -> Result<(), AllocError>
+        ensures { OnOk result (WritesTree (written (payload_kind (container_type self.now)) (container_cell self.now)) out.old out.new) }
+    {
+        match self {
+            ItemContainer::Logs(logs) => write_table(&Lent { items: logs }, out),
+            ItemContainer::Metrics(metrics) => write_table(&Lent { items: metrics }, out),
+        }
+    }
+
+    /// Whether no tree in the values holds a float.
+    pub fn is_plain(&self) -> bool
+        ensures plain { IsTrue result ↔ IsPlain (payload_kind (container_type self.now)) (container_cell self.now) }
+        ensures stored { IsTrue result → IsStored (payload_kind (container_type self.now)) (container_cell self.now) }
+    {
+        match self {
+            ItemContainer::Logs(logs) => rows_are_plain(&Lent { items: logs }),
+            ItemContainer::Metrics(metrics) => rows_are_plain(&Lent { items: metrics }),
+        }
+    }
+
+    /// The same container, or its normal form. It fails where memory is refused.
+    pub fn remade(&self, way: Way) -> Result<ItemContainer, AllocError>
+        ensures kind { IfOk result (λ container. container_type container ≡ container_type self.now) }
+        ensures made { IfOk result (λ container. container_cell container ≡ made way (payload_kind (container_type self.now)) (container_cell self.now)) }
+    {
+        Ok(match self {
+            ItemContainer::Logs(logs) => ItemContainer::Logs(remade_items(logs, way)?),
+            ItemContainer::Metrics(metrics) => ItemContainer::Metrics(remade_items(metrics, way)?),
+        })
+    }
+
+    /// The same container. It fails where memory is refused.
+    #[tactic(auto, unfolding(sentry_members::specs::Made::made))]
+    pub fn clone(&self) -> Result<ItemContainer, AllocError>
+        ensures kind { IfOk result (λ container. container_type container ≡ container_type self.now) }
+        ensures same { IfOk result (λ container. container_cell container ≡ container_cell self.now) }
+    {
+        self.remade(Way::Same)
+    }
+}
+
+/// The values of a container made anew.
+#[tactic(auto, using(crate::proofs::Containers::items_made))]
+fn remade_items<T: Member>(items: &Vec<T>, way: Way) -> Result<Vec<T>, AllocError>
+    ensures { IfOk result (λ copy. items_cell T.cell_of copy.items ≡ made way (container_kind T.kind) (items_cell T.cell_of items.now.items)) }
+{
+    items.remade(way)
+}
+
+impl From<Vec<Log>> for ItemContainer {
+    ghost use Rattle.std.specs.Prelude.{◌≡◌};
+    ghost use Rattle.sentry_items.specs.declared.container.ItemContainer.TheVariants as variants;
+
+    ghost from_gives = { λ logs container. container ≡ variants.Logs logs };
+
+    fn from(logs: Vec<Log>) -> ItemContainer {
+        ItemContainer::Logs(logs)
+    }
+}
+
+impl From<Vec<Metric>> for ItemContainer {
+    ghost use Rattle.std.specs.Prelude.{◌≡◌};
+    ghost use Rattle.sentry_items.specs.declared.container.ItemContainer.TheVariants as variants;
+
+    ghost from_gives = { λ metrics container. container ≡ variants.Metrics metrics };
+
+    fn from(metrics: Vec<Metric>) -> ItemContainer {
+        ItemContainer::Metrics(metrics)
+    }
+}

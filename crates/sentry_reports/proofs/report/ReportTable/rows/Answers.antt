@@ -1,0 +1,7 @@
+use Rattle.std.proofs.Common.{refl}
+use Rattle.sentry_reports.specs.Reports.{report_fields}
+use Rattle.sentry_reports.proofs.report.ReportTable.rows.Goals as goal
+
+pub returns : goal.returns
+unfolding report_fields
+returns g c = rw (← c.self.view_is) (_, c.required.ensures, (_, c.at_once_as.ensures, refl))

@@ -1,0 +1,76 @@
+//! An item of a report.
+
+ghost use Rattle.sentry_reports.specs.ItemTable.{item_fields, item_in_order};
+
+use crate::category::Category;
+use crate::reason::Reason;
+use sentry_members::Formed;
+use sentry_rows::{AsTable, Copier, CopyTable, Giver, ReadTable, Reader, Sink, Table};
+use sentry_trees::Node;
+use std::alloc::AllocError;
+
+/// How much of a category was lost for a reason.
+///
+/// <https://develop.sentry.dev/sdk/telemetry/client-reports/>
+#[derive(Clone, Copy, Debug)]
+pub struct Item {
+    pub(crate) category: Category,
+    pub(crate) reason: Reason,
+    pub(crate) quantity: u64,
+}
+
+impl Item {
+    ghost use Rattle.std.specs.Prelude.{◌≡◌};
+
+    /// So much of a category, lost for a reason.
+    pub fn new(category: Category, reason: Reason, quantity: u64) -> Item
+        ensures category { result.category ≡ category }
+        ensures reason { result.reason ≡ reason }
+        ensures quantity { result.quantity ≡ quantity }
+    {
+        Item {
+            category,
+            reason,
+            quantity,
+        }
+    }
+}
+
+impl Formed for Item {
+    type Form = AsTable;
+}
+
+#[tactic(auto, unfolding(crate::specs::ItemTable::item_fields))]
+impl Table for Item {
+    ghost lines = { item_fields };
+
+    fn rows<S: Sink>(&self, to: &mut Giver<'_, S>) {
+        to.required("category", &self.category);
+        to.required("quantity", &self.quantity);
+        to.required("reason", &self.reason);
+    }
+
+    ghost ordered = { item_in_order };
+}
+
+#[tactic(auto, unfolding(crate::specs::ItemTable::item_fields))]
+impl ReadTable for Item {
+    fn read<N: Node>(from: &mut Reader<'_, N>) -> Item {
+        Item {
+            category: from.required("category", Category::Error),
+            quantity: from.required("quantity", 0),
+            reason: from.required("reason", Reason::SendError),
+        }
+    }
+}
+
+#[tactic(auto, unfolding(crate::specs::ItemTable::item_fields))]
+impl CopyTable for Item {
+    fn copied(&self, copies: &mut Copier) -> Result<Item, AllocError> {
+        Ok(Item {
+            category: copies.plain(&self.category),
+            quantity: copies.plain(&self.quantity),
+            reason: copies.plain(&self.reason),
+        })
+    }
+}

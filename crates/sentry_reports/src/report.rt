@@ -1,0 +1,154 @@
+//! Reports of what was lost.
+
+ghost use Rattle.sentry_reports.specs.Reports.{report_fields, report_in_order};
+
+use crate::category::Category;
+use crate::item::Item;
+use crate::kept_sums::{SUMS, pair_place, sums_of};
+use crate::reason::Reason;
+use rand_core::Rng;
+use sentry_members::{Formed, Member};
+use sentry_moments::{Moment, Seconds};
+use sentry_rows::{AsTable, Copier, CopyTable, Giver, ReadTableAt, Reader, Sink, Table};
+use sentry_trees::Node;
+use std::alloc::AllocError;
+use std::fmt;
+use std::marker::Model;
+
+/// What a client reports as lost: items in the order in which they were given, and when the report was made.
+///
+/// Beside its items a report keeps the sum of each pair of a category and a reason, cut at 2^64-1. Two reports are
+/// equal where their moments and all these sums are.
+///
+/// A report that is read without a `timestamp` takes the moment of reading.
+///
+/// <https://develop.sentry.dev/sdk/telemetry/client-reports/>
+#[derive(Drop)]
+pub struct Report {
+    timestamp: Moment,
+    discarded_events: Vec<Item>,
+    sums: [u64; SUMS],
+}
+
+impl Model for Report {
+    ghost use Rattle.sentry_reports.specs.Reported.{Reported};
+    ghost use Rattle.sentry_reports.specs.ReportSums.{KeepsSums};
+
+    ghost Value = { Reported };
+
+    ghost view = { λ r. record { timestamp = r.timestamp; items = r.discarded_events.items } };
+
+    ghost invariant = { λ r. KeepsSums r.sums r.discarded_events.items };
+}
+
+impl Report {
+    ghost use Rattle.std.specs.Prelude.{◌≡◌, nat_eq, IfOk};
+    ghost use Rattle.std.specs.Cmp.Lexicographic.{pointwise};
+    ghost use Rattle.sentry_reports.specs.ReportSums.{report_sum, all_sums};
+    ghost use Rattle.sentry_reports.specs.Reports.{report_cell};
+
+    /// A report of this moment, with these items, unmerged and in order. It takes no memory.
+    pub fn new(now: Moment, discarded_events: Vec<Item>) -> Report
+        ensures timestamp { result.timestamp ≡ now }
+        ensures items { result.items ≡ discarded_events.items }
+    {
+        let sums = sums_of(&discarded_events);
+        Report {
+            timestamp: now,
+            discarded_events,
+            sums,
+        }
+    }
+
+    /// The items, in order.
+    pub fn discarded_events(&self) -> &[Item]
+        ensures { result.now ≡ self.now.items }
+    {
+        &self.discarded_events
+    }
+
+    /// How much of a category was lost for a reason: the sum of the items' quantities, cut at 2^64-1.
+    ///
+    /// It takes no memory.
+    pub fn sum(&self, category: Category, reason: Reason) -> u64
+        ensures { result ≡ report_sum category reason self.now.items }
+    {
+        self.sums[pair_place(category, reason)]
+    }
+
+    /// Whether each sum is the same in both reports.
+    #[tactic(auto, using(crate::proofs::ReportSums::same_verdict))]
+    fn has_sums_of(&self, other: &Report) -> bool
+        ensures { result ≡ pointwise nat_eq (all_sums self.now.items) (all_sums other.now.items) }
+    {
+        self.sums == other.sums
+    }
+
+    /// The same report. It fails where memory is refused.
+    pub fn clone(&self) -> Result<Report, AllocError>
+        ensures { IfOk result (λ copy. report_cell copy ≡ report_cell self.now) }
+    {
+        self.copy()
+    }
+}
+
+impl fmt::Debug for Report {
+    /// Shows the moment and the items, and no sums.
+    fn fmt<W: fmt::Write>(&self, f: &mut fmt::Formatter<W>) -> fmt::Result {
+        f.debug_struct("Report")
+            .field("timestamp", &self.timestamp)
+            .field("discarded_events", &self.discarded_events)
+            .finish()
+    }
+}
+
+impl PartialEq for Report {
+    ghost use Rattle.std.specs.Prelude.{nat_eq};
+    ghost use Rattle.std.proofs.Common.{rules};
+    ghost use Rattle.std.specs.Cmp.Lexicographic.{pointwise};
+    ghost use Rattle.std.specs.Cmp.Rules.{comparing};
+    ghost use Rattle.std.specs.Ordering.{on, eq_of_both};
+    ghost use Rattle.sentry_reports.specs.ReportSums.{all_sums};
+
+    ghost eq = { eq_of_both (on (λ r. r.timestamp) ⟦<Moment as PartialEq>⟧.eq) (on (λ r. all_sums r.items) (pointwise nat_eq)) };
+
+    ghost laws = { Prim.search (comparing, rules) };
+
+    fn eq(&self, other: &Report) -> bool {
+        self.timestamp == other.timestamp && self.has_sums_of(other)
+    }
+}
+
+impl Formed for Report {
+    type Form = AsTable;
+}
+
+#[tactic(auto, unfolding(crate::specs::Reports::report_fields))]
+impl Table for Report {
+    ghost lines = { report_fields };
+
+    fn rows<S: Sink>(&self, to: &mut Giver<'_, S>) {
+        to.required("discarded_events", &self.discarded_events);
+        to.at_once_as::<Seconds, Moment>("timestamp", &self.timestamp);
+    }
+
+    ghost ordered = { report_in_order };
+}
+
+#[tactic(auto, unfolding(crate::specs::Reports::report_fields))]
+impl ReadTableAt for Report {
+    fn read<N: Node, R: Rng>(from: &mut Reader<'_, N>, now: Moment, _ids: &mut R) -> Report {
+        let discarded_events = from.required("discarded_events", Vec::new(from.alloc));
+        let timestamp = from.at_once_as::<Seconds>("timestamp", now);
+        Report::new(timestamp, discarded_events)
+    }
+}
+
+#[tactic(auto, unfolding(crate::specs::Reports::report_fields))]
+impl CopyTable for Report {
+    fn copied(&self, copies: &mut Copier) -> Result<Report, AllocError> {
+        let discarded_events = copies.list(&self.discarded_events);
+        let timestamp = copies.plain_as::<Seconds, Moment>(&self.timestamp);
+        Ok(Report::new(timestamp, discarded_events))
+    }
+}
