@@ -1,4 +1,4 @@
-//! Sampling contexts, sessions, check-ins, logs, metrics and reports of users that lines of JSON show.
+//! Sampling contexts, sessions, check-ins, logs, metrics and reports of users and clients that lines of JSON show.
 
 use crate::form::{answered, own, own_at};
 use sentry_members::{Own, read_tree};
@@ -7,6 +7,7 @@ use sentry_records::{
     MonitorSchedule, SessionAggregateItem, SessionAggregates, SessionAttributes, SessionUpdate,
     UserReport,
 };
+use sentry_reports::{Item, Report};
 use serde_json::Value;
 use std::alloc::{AllocError, Global};
 
@@ -41,6 +42,8 @@ pub fn of_record(alloc: Global, name: &str, line: &[u8]) -> Result<Option<Value>
         "LogAttribute" => own::<LogAttribute>(alloc, line)?,
         "LogAttribute::from" => of_attribute(alloc, line)?,
         "UserReport" => own::<UserReport>(alloc, line)?,
+        "Report" => own_at::<Report>(alloc, line)?,
+        "Item" => own::<Item>(alloc, line)?,
         _ => return Ok(None),
     }))
 }

@@ -13,8 +13,8 @@ pub use sentry_envelope::{
 pub use sentry_event::{Event, Span, Transaction};
 pub use sentry_framing::{ItemHeader, ItemKind, read_item_header};
 pub use sentry_items::{
-    Attachment, AttachmentType, AttachmentWriteError, Category, EnvelopeItem, ItemLoss,
-    ItemLossIter, LossSlice, LossSource, Reason, ReplayRecording,
+    Attachment, AttachmentType, AttachmentWriteError, EnvelopeItem, ItemContainer, ItemLossIter,
+    LossSlice, LossSource, ReplayRecording,
 };
 pub use sentry_parts::{
     AppleDebugImage, Breadcrumb, CError, ClientSdkInfo, ClientSdkPackage, DebugImage, DebugMeta,
@@ -23,10 +23,11 @@ pub use sentry_parts::{
     Thread, ThreadId, User, WasmDebugImage,
 };
 pub use sentry_records::{
-    DynamicSamplingContext, LogAttribute, MonitorCheckIn, MonitorConfig, MonitorSchedule,
-    ScheduleError, SessionAggregateItem, SessionAggregates, SessionAttributes, SessionUpdate,
-    UserReport,
+    DynamicSamplingContext, Log, LogAttribute, Metric, MonitorCheckIn, MonitorConfig,
+    MonitorSchedule, ScheduleError, SessionAggregateItem, SessionAggregates, SessionAttributes,
+    SessionUpdate, UserReport,
 };
+pub use sentry_reports::{Category, Item, ItemLoss, Reason, Report, Report as ClientReport};
 pub use sentry_rows::Values;
 
 // Small texts.
@@ -53,7 +54,8 @@ pub use self::value::Value;
 
 /// What is lost with items that are taken out.
 pub mod client_report {
-    pub use sentry_items::{Category, ItemLoss, ItemLossIter, LossSlice, LossSource, Reason};
+    pub use sentry_items::{ItemLossIter, LossSlice, LossSource};
+    pub use sentry_reports::{Category, Item, ItemLoss, Reason, Report};
 }
 
 /// Trees of JSON.
