@@ -16,6 +16,9 @@ use Rattle.sentry_keys.proofs.Equal.{dsns_decide}
 use Rattle.sentry_parts.specs.ClientSdk.{sdk_cell}
 use Rattle.sentry_parts.specs.contracts.client_sdk_info.ClientSdkInfoPartialEq.TheImpl.{eq-value as of_software}
 use Rattle.sentry_parts.proofs.Equal.{software_decides}
+use Rattle.sentry_records.specs.Sampling.{sampling_cell}
+use Rattle.sentry_records.specs.contracts.sampling.DynamicSamplingContextPartialEq.TheImpl.{eq-value as of_contexts}
+use Rattle.sentry_records.proofs.Equal.{contexts_decide}
 use Rattle.sentry_items.specs.contracts.item.EnvelopeItemPartialEq.TheImpl.{eq-value as of_items}
 use Rattle.sentry_items.specs.declared.item.EnvelopeItem.{EnvelopeItem}
 use Rattle.sentry_items.proofs.Equal.{items_decide}
@@ -41,8 +44,9 @@ headers_decide a b =
     let parts = Decides-and _ _ (options_decide of_dsns.it dsn_cell dsns_decide a.dsn b.dsn)
     (Decides-and _ _ (options_decide of_ids.it octets ids_decide a.event_id b.event_id)
     (Decides-and _ _ (options_decide of_software.it sdk_cell software_decides a.sdk b.sdk)
-    (options_decide of_moments.it moment_cell moments_decide a.sent_at b.sent_at))) in
-    (λ same. let e = parts.0 same in let dsn = e.0 in let id = e.1.0 in let sdk = e.1.1.0 in let sent = e.1.1.1 in cc, λ same. parts.1 (cc, (cc, (cc, cc))))
+    (Decides-and _ _ (options_decide of_moments.it moment_cell moments_decide a.sent_at b.sent_at)
+    (options_decide of_contexts.it sampling_cell contexts_decide a.trace b.trace)))) in
+    (λ same. let e = parts.0 same in let dsn = e.0 in let id = e.1.0 in let sdk = e.1.1.0 in let sent = e.1.1.1.0 in let trace = e.1.1.1.1 in cc, λ same. parts.1 (cc, (cc, (cc, (cc, cc)))))
 
 each_decides : (xs ys : List EnvelopeItem) → EachHoldsNoTree xs → EachHoldsNoTree ys → Decides (pointwise of_items.it xs ys) (EachAlike xs ys)
 each_decides [] [] s t = (λ same. tt, λ same. refl)

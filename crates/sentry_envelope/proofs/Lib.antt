@@ -25,6 +25,7 @@ pub mod OneEnvelope
 pub mod EnvelopeWriting
 pub mod EnvelopeFill
 pub mod EnvelopeSample
+pub mod ItemIds
 pub mod ConservationLemmas
 pub mod LossLemmas
 pub mod FilterLemmas

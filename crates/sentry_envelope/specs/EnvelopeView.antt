@@ -99,7 +99,7 @@ items_of e = items_in e.contents
 -- ---- making one
 
 abbrev pub no_fields : Cell
-no_fields = fields (cell absent (cell absent (cell absent (cell absent no_cells)))) no_members
+no_fields = fields (cell absent (cell absent (cell absent (cell absent (cell absent no_cells))))) no_members
 
 abbrev pub empty : Model
 empty = record { header = no_fields; items = [] }

@@ -96,7 +96,7 @@ empty_list_stays K = empty_list_stands K
 
 -- ---- sampling and sessions
 
-sampling_lawful : IsLawful sampling_kind
+pub sampling_lawful : IsLawful sampling_kind
 unfolding sampling_fields
 sampling_lawful = laws_by_rows (rows_of sampling_fields) refl (search (text_laws, trace_lawful, rand_lawful, rate_lawful, sampled_lawful, organization_lawful))
 
@@ -104,7 +104,7 @@ attributes_lawful : IsLawful attributes_kind
 unfolding attributes_fields
 attributes_lawful = laws_by_rows (rows_of attributes_fields) refl (search (text_laws, ip_lawful))
 
-session_lawful : IsLawful session_kind
+pub session_lawful : IsLawful session_kind
 unfolding session_fields
 session_lawful = laws_by_rows (rows_of session_fields) refl (search (text_laws, truth_laws, u64_laws, false_stands, no_errors_stand, ok_stands, status_lawful, hyphenated_laws, id_drawn, moment_lawful, moment_stands, now_stands, attributes_lawful))
 
@@ -112,7 +112,7 @@ group_lawful : IsLawful group_kind
 unfolding group_fields
 group_lawful = laws_by_rows (rows_of group_fields) refl (search (text_laws, u32_laws, none_stand, moment_lawful))
 
-groups_lawful : IsLawful groups_kind
+pub groups_lawful : IsLawful groups_kind
 unfolding groups_fields
 groups_lawful = laws_by_rows (rows_of groups_fields) refl (search (group_lawful, attributes_lawful, empty_list_stays))
 
@@ -134,11 +134,11 @@ config_lawful : IsLawful config_kind
 unfolding config_fields
 config_lawful = laws_by_rows (rows_of config_fields) refl (search (text_laws, u64_laws, schedule_lawful))
 
-check_in_lawful : IsLawful check_in_kind
+pub check_in_lawful : IsLawful check_in_kind
 unfolding check_in_fields
 check_in_lawful = laws_by_rows (rows_of check_in_fields) refl (search (text_laws, u64_laws, simple_laws, check_lawful, config_lawful))
 
-user_report_lawful : IsLawful user_report_kind
+pub user_report_lawful : IsLawful user_report_kind
 unfolding user_report_fields
 user_report_lawful = laws_by_rows (rows_of user_report_fields) refl (search (text_laws, simple_laws))
 
