@@ -11,16 +11,15 @@ use Rattle.sentry_tables.specs.Cell.{Cell, absent, octets, text, truth, fields, 
 use Rattle.sentry_tables.specs.Kind.{must, may, may_null, may_strict, default, always, draw, at_once, ignored, Kind, scalar, table, Rows, no_rows, row}
 use Rattle.sentry_tables.specs.Basic.{text_scalar, truth_scalar}
 use Rattle.sentry_tables.specs.Drawn.{NothingDrawn}
-use Rattle.sentry_tables.specs.Fields.{rows_of}
 use Rattle.sentry_tables.specs.Lawful.{is_ascii, IsLawful}
 use Rattle.sentry_tables.proofs.Basic.{text_laws, text_refuses_null, truth_laws, truth_refuses_null}
 use Rattle.sentry_tables.proofs.ByRows.{laws_by_rows}
 use Rattle.sentry_tables.proofs.Sound.{ascii_text}
-use Rattle.sentry_identifiers.specs.Uuids.{hyphenated, hyphenated_kind, IsUuid, IsRandomUuid}
-use Rattle.sentry_identifiers.proofs.UuidLaws.{drawn_uuid_laws, hyphenated_laws, uuid_normal}
+use Rattle.sentry_identifiers.specs.Uuids.{hyphenated, hyphenated_kind, IsRandomUuid}
+use Rattle.sentry_identifiers.proofs.UuidLaws.{drawn_uuid_laws, hyphenated_laws}
 use Rattle.sentry_moments.specs.MomentForms.{rfc3339_kind}
 use Rattle.sentry_moments.proofs.MomentSpellings.{rfc3339_at_once, rfc3339_scalar_laws}
-use Rattle.sentry_envelope.specs.HeaderFields.{header_fields, header_kind, header_in_order, fill_id}
+use Rattle.sentry_envelope.specs.HeaderFields.{header_kind, fill_id}
 use Rattle.sentry_envelope.specs.SentryProfile.{without_id}
 use Rattle.sentry_envelope.specs.OneEnvelope.{PayloadDrawsNothing, HasOneEnvelope}
 use Rattle.sentry_envelope.specs.Profile.{Form, attachment_form, opaque_form, json_form, container_form, container_kind, ItemType, Profile, FillLaws, GivesAlike, ProfileLaws}
