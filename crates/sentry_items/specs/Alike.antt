@@ -1,16 +1,31 @@
 -- Which items `==` does not tell apart.
 use Rattle.std.specs.Prelude.{◌≡◌, ⊤}
-use Rattle.sentry_items.specs.View.{ItemView, attachment, replay_recording, raw}
+use Rattle.sentry_framing.specs.declared.kind.ItemKind.{ItemKind}
+use Rattle.sentry_framing.specs.declared.kind.ItemKind.TheVariants as kinds
+use Rattle.sentry_items.specs.View.{ItemView, attachment, replay_recording, value, raw}
+
+-- items of the type hold no trees of JSON
+abbrev pub HasNoTrees : ItemKind → Type 0
+HasNoTrees kinds.Event = ⊥
+HasNoTrees kinds.SessionUpdate = ⊤
+HasNoTrees kinds.SessionAggregates = ⊤
+HasNoTrees kinds.Transaction = ⊥
+HasNoTrees kinds.Attachment = ⊤
+HasNoTrees kinds.MonitorCheckIn = ⊤
+HasNoTrees kinds.UserReport = ⊤
+HasNoTrees kinds.ReplayRecording = ⊤
 
 -- no tree of JSON stands in the item: of `==` on trees nothing is said
 abbrev pub HoldsNoTree : ItemView → Type 0
 HoldsNoTree (attachment a) = ⊤
 HoldsNoTree (replay_recording b) = ⊤
+HoldsNoTree (value k c) = HasNoTrees k
 HoldsNoTree raw = ⊤
 
 -- the two are of one type, and what that type compares is the same
 abbrev pub AreAlike : ItemView → ItemView → Type 0
 AreAlike (attachment a) (attachment b) = a ≡ b
 AreAlike (replay_recording a) (replay_recording b) = a ≡ b
+AreAlike (value k c) (value l d) = (k ≡ l) × (c ≡ d)
 AreAlike raw raw = ⊤
 AreAlike _ _ = ⊥

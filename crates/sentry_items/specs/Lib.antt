@@ -6,6 +6,7 @@ pub mod Counted
 pub mod HeaderTokens
 pub mod Losses
 pub mod Made
+pub mod Meets
 pub mod Sums
 pub mod UsualHeader
 pub mod View

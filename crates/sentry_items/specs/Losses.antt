@@ -1,6 +1,14 @@
 -- What is lost with items.
-use Rattle.std.specs.Prelude.{ℕ, List, [], ◌∷◌, ◌++◌, length, Option, Some, None}
+use Rattle.std.specs.Prelude.{ℕ, ◌+◌, ◌-◌, ◌^◌, min, List, [], ◌∷◌, ◌++◌, length, sum_by, Option, Some, None}
 use Rattle.std.specs.List.{flat_map}
+use Rattle.sentry_event.specs.declared.event.Event.{Event}
+use Rattle.sentry_event.specs.declared.span.Span.{Span}
+use Rattle.sentry_event.specs.declared.transaction.Transaction.{Transaction}
+use Rattle.sentry_records.specs.declared.monitor_check_in.MonitorCheckIn.{MonitorCheckIn}
+use Rattle.sentry_records.specs.declared.session_aggregate_item.SessionAggregateItem.{SessionAggregateItem}
+use Rattle.sentry_records.specs.declared.session_aggregates.SessionAggregates.{SessionAggregates}
+use Rattle.sentry_records.specs.declared.session_update.SessionUpdate.{SessionUpdate}
+use Rattle.sentry_records.specs.declared.user_report.UserReport.{UserReport}
 use Rattle.sentry_items.specs.declared.category.Category.{Category}
 use Rattle.sentry_items.specs.declared.category.Category.TheVariants as category
 use Rattle.sentry_items.specs.declared.attachment.Attachment.{Attachment}
@@ -16,17 +24,63 @@ use Rattle.sentry_items.specs.declared.replay_recording.ReplayRecording.{ReplayR
 abbrev pub loss : Category → ℕ → ItemLoss
 loss category quantity = record { category = category; quantity = quantity; reason = None }
 
+-- a sum is cut once, at what 64 bits hold
+abbrev pub cut : ℕ → ℕ
+cut n = min n (2 ^ 64 - 1)
+
+-- one of a category
+abbrev pub one_of : Category → List ItemLoss
+one_of category = loss category 1 ∷ []
+
+-- an event: one error
+abbrev pub losses_of_event : Event → List ItemLoss
+losses_of_event e = one_of category.Error
+
+-- an update of a session: one session
+abbrev pub losses_of_session : SessionUpdate → List ItemLoss
+losses_of_session s = one_of category.Session
+
+-- the sessions of a group, however they ended
+abbrev pub sessions_in : SessionAggregateItem → ℕ
+sessions_in g = g.exited + g.errored + g.abnormal + g.crashed
+
+-- counted sessions: those of all groups
+abbrev pub losses_of_groups : SessionAggregates → List ItemLoss
+losses_of_groups g = loss category.Session (cut (sum_by sessions_in g.aggregates.items)) ∷ []
+
+-- a transaction: itself, its spans and the one that it is
+abbrev pub losses_of_transaction : Transaction → List ItemLoss
+losses_of_transaction t = loss category.Transaction 1 ∷ loss category.Span (length t.spans.items + 1) ∷ []
+
+-- a span: itself
+abbrev pub losses_of_span : Span → List ItemLoss
+losses_of_span s = one_of category.Span
+
+-- a check-in: one
+abbrev pub losses_of_check_in : MonitorCheckIn → List ItemLoss
+losses_of_check_in c = one_of category.Monitor
+
+-- a report of a user: one
+abbrev pub losses_of_user_report : UserReport → List ItemLoss
+losses_of_user_report r = one_of category.Feedback
+
 -- an attachment: its bytes
 abbrev pub losses_of_attachment : Attachment → List ItemLoss
 losses_of_attachment a = loss category.Attachment (length a.buffer.items) ∷ []
 
 -- a recording: one replay
 abbrev pub losses_of_recording : ReplayRecording → List ItemLoss
-losses_of_recording r = loss category.Replay 1 ∷ []
+losses_of_recording r = one_of category.Replay
 
 -- what is lost with an item
 abbrev pub losses_of_item : EnvelopeItem → List ItemLoss
+losses_of_item (item.Event b) = losses_of_event b.value
+losses_of_item (item.SessionUpdate s) = losses_of_session s
+losses_of_item (item.SessionAggregates g) = losses_of_groups g
+losses_of_item (item.Transaction b) = losses_of_transaction b.value
 losses_of_item (item.Attachment a) = losses_of_attachment a
+losses_of_item (item.MonitorCheckIn c) = losses_of_check_in c
+losses_of_item (item.UserReport r) = losses_of_user_report r
 losses_of_item (item.ReplayRecording r) = losses_of_recording r
 losses_of_item item.Raw = []
 
@@ -40,7 +94,7 @@ one_or_none (Some one) = one ∷ []
 
 -- the losses that are left of one source
 abbrev pub source_left : SourceLosses → List ItemLoss
-source_left (source.Single next) = one_or_none next
+source_left (source.Pair next after) = one_or_none next ++ one_or_none after
 source_left (source.Listed losses) = losses.now
 
 -- the losses that an iterator has left: of the source it is at, and of each item after it

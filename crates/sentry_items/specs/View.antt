@@ -1,6 +1,16 @@
 -- What the values of this crate mean.
-use Rattle.std.specs.Prelude.{ℕ, List, codes, option_map, string_bytes}
+use Rattle.std.specs.Prelude.{◌≡◌, ℕ, List, Option, Some, None, codes, option_map, string_bytes}
 use Rattle.sentry_tables.specs.Cell.{Cell}
+use Rattle.sentry_tables.specs.Kind.{Kind, tagged, no_cases}
+use Rattle.sentry_event.specs.Events.{event_cell, event_kind}
+use Rattle.sentry_event.specs.Transactions.{transaction_cell, transaction_kind}
+use Rattle.sentry_event.specs.declared.event.Event.{Event}
+use Rattle.sentry_event.specs.declared.transaction.Transaction.{Transaction}
+use Rattle.sentry_records.specs.Monitors.{check_in_cell, check_in_kind}
+use Rattle.sentry_records.specs.Sessions.{groups_cell, groups_kind, session_cell, session_kind}
+use Rattle.sentry_records.specs.UserReports.{user_report_cell, user_report_kind}
+use Rattle.sentry_framing.specs.declared.kind.ItemKind.{ItemKind}
+use Rattle.sentry_framing.specs.declared.kind.ItemKind.TheVariants as kinds
 use Rattle.sentry_items.specs.Attached.{Attached}
 use Rattle.sentry_items.specs.AttachmentWords.{known, custom}
 use Rattle.sentry_items.specs.declared.attachment.Attachment.{Attachment}
@@ -31,11 +41,48 @@ attachment_view a = record {
 
 pub data ItemView : Type 0 where
   attachment : Attached → ItemView
+  -- the bytes of a recording
   replay_recording : List ℕ → ItemView
+  -- a value of the type, whose payload is JSON
+  value : ItemKind → Cell → ItemView
   raw : ItemView
 
 -- an item by what it holds
 abbrev pub item_held : EnvelopeItem → ItemView
+item_held (item_variants.Event b) = value kinds.Event (event_cell b.value)
+item_held (item_variants.SessionUpdate s) = value kinds.SessionUpdate (session_cell s)
+item_held (item_variants.SessionAggregates g) = value kinds.SessionAggregates (groups_cell g)
+item_held (item_variants.Transaction b) = value kinds.Transaction (transaction_cell b.value)
 item_held (item_variants.Attachment a) = attachment (attachment_view a)
+item_held (item_variants.MonitorCheckIn c) = value kinds.MonitorCheckIn (check_in_cell c)
+item_held (item_variants.UserReport r) = value kinds.UserReport (user_report_cell r)
 item_held (item_variants.ReplayRecording r) = replay_recording r.buffer.items
 item_held item_variants.Raw = raw
+
+-- the type of an item; a raw one has none
+abbrev pub kind_held : ItemView → Option ItemKind
+kind_held (attachment a) = Some kinds.Attachment
+kind_held (replay_recording b) = Some kinds.ReplayRecording
+kind_held (value k c) = Some k
+kind_held raw = None
+
+-- the kind of the JSON in the payloads of a type; of a type whose payload is other bytes it is one that no tree shows
+abbrev pub payload_kind : ItemKind → Kind
+payload_kind kinds.Event = event_kind
+payload_kind kinds.SessionUpdate = session_kind
+payload_kind kinds.SessionAggregates = groups_kind
+payload_kind kinds.Transaction = transaction_kind
+payload_kind kinds.Attachment = tagged no_cases
+payload_kind kinds.MonitorCheckIn = check_in_kind
+payload_kind kinds.UserReport = user_report_kind
+payload_kind kinds.ReplayRecording = tagged no_cases
+
+-- ---- the item is this event, or this transaction
+
+abbrev pub IsEvent : Event → EnvelopeItem → Type 0
+IsEvent e (item_variants.Event b) = b.value ≡ e
+IsEvent e _ = ⊥
+
+abbrev pub IsTransaction : Transaction → EnvelopeItem → Type 0
+IsTransaction t (item_variants.Transaction b) = b.value ≡ t
+IsTransaction t _ = ⊥

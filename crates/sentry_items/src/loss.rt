@@ -1,10 +1,18 @@
 //! What is lost with items that aren't sent.
 
+ghost use Rattle.std.specs.Prelude.{◌≡◌, sum_by};
+ghost use Rattle.sentry_items.specs.Losses.{cut, sessions_in};
+ghost use Rattle.sentry_items.specs.Losses.{loss as lost_without_reason};
+
 use crate::attachment::Attachment;
 use crate::category::Category;
 use crate::item::EnvelopeItem;
 use crate::reason::Reason;
 use crate::replay_recording::ReplayRecording;
+use sentry_event::{Event, Span, Transaction};
+use sentry_records::{
+    MonitorCheckIn, SessionAggregateItem, SessionAggregates, SessionUpdate, UserReport,
+};
 
 /// A quantity that was lost.
 #[derive(Clone, Copy, Debug)]
@@ -29,31 +37,79 @@ pub struct ItemLossIter<'a> {
 /// The losses that are left of one source.
 #[derive(Clone, Copy)]
 enum SourceLosses<'a> {
-    Single(Option<ItemLoss>),
+    /// The next one and the one after it.
+    Pair(Option<ItemLoss>, Option<ItemLoss>),
+    /// All of a list.
     Listed(&'a [ItemLoss]),
+}
+
+/// So much of a category, without a reason.
+fn loss(category: Category, quantity: u64) -> ItemLoss
+    ensures { result ≡ lost_without_reason category quantity }
+{
+    ItemLoss {
+        category,
+        quantity,
+        reason: None,
+    }
+}
+
+/// The sessions of a group, however they ended.
+fn sessions_in_group(group: &SessionAggregateItem) -> u64
+    ensures { result ≡ sessions_in group.now }
+{
+    u64::from(group.exited)
+        + u64::from(group.errored)
+        + u64::from(group.abnormal)
+        + u64::from(group.crashed)
+}
+
+/// The sessions of all groups: a sum that is cut at 2^64-1.
+fn sessions_in_groups(groups: &[SessionAggregateItem]) -> u64
+    ensures { result ≡ cut (sum_by sessions_in groups.now) }
+{
+    let mut sum: u64 = 0;
+    for group in groups {
+        sum = sum.saturating_add(sessions_in_group(group));
+    }
+    sum
 }
 
 impl<'a> SourceLosses<'a> {
     ghost use Rattle.std.specs.Prelude.{◌≡◌, ◌∷◌, []};
     ghost use Rattle.std.specs.Iterator.{YieldsFirst};
-    ghost use Rattle.sentry_items.specs.Losses.{loss, losses_of_item, source_left};
+    ghost use Rattle.sentry_items.specs.Losses.{loss, losses_of_groups, losses_of_item, losses_of_transaction, source_left};
 
     /// No losses.
     fn none() -> SourceLosses<'a>
         ensures { source_left result ≡ [] }
     {
-        SourceLosses::Single(None)
+        SourceLosses::Pair(None, None)
     }
 
     /// So much of a category, without a reason.
     fn single(category: Category, quantity: u64) -> SourceLosses<'a>
         ensures { source_left result ≡ loss category quantity ∷ [] }
     {
-        SourceLosses::Single(Some(ItemLoss {
-            category,
-            quantity,
-            reason: None,
-        }))
+        SourceLosses::Pair(Some(loss(category, quantity)), None)
+    }
+
+    /// What is lost with counted sessions.
+    fn of_groups(groups: &SessionAggregates<'_>) -> SourceLosses<'a>
+        ensures { source_left result ≡ losses_of_groups groups.now }
+    {
+        SourceLosses::single(Category::Session, sessions_in_groups(&groups.aggregates))
+    }
+
+    /// What is lost with a transaction.
+    fn of_transaction(transaction: &Transaction<'_>) -> SourceLosses<'a>
+        ensures { source_left result ≡ losses_of_transaction transaction.now }
+    {
+        let spans = transaction.spans.len() as u64 + 1;
+        SourceLosses::Pair(
+            Some(loss(Category::Transaction, 1)),
+            Some(loss(Category::Span, spans)),
+        )
     }
 
     /// What is lost with an item.
@@ -61,9 +117,15 @@ impl<'a> SourceLosses<'a> {
         ensures { source_left result ≡ losses_of_item item.now }
     {
         match item {
+            EnvelopeItem::Event(_) => SourceLosses::single(Category::Error, 1),
+            EnvelopeItem::SessionUpdate(_) => SourceLosses::single(Category::Session, 1),
+            EnvelopeItem::SessionAggregates(groups) => SourceLosses::of_groups(groups),
+            EnvelopeItem::Transaction(transaction) => SourceLosses::of_transaction(transaction),
             EnvelopeItem::Attachment(attachment) => {
                 SourceLosses::single(Category::Attachment, attachment.buffer.len() as u64)
             }
+            EnvelopeItem::MonitorCheckIn(_) => SourceLosses::single(Category::Monitor, 1),
+            EnvelopeItem::UserReport(_) => SourceLosses::single(Category::Feedback, 1),
             EnvelopeItem::ReplayRecording(_) => SourceLosses::single(Category::Replay, 1),
             EnvelopeItem::Raw => SourceLosses::none(),
         }
@@ -74,7 +136,13 @@ impl<'a> SourceLosses<'a> {
         ensures { YieldsFirst source_left self.old result self.new }
     {
         match self {
-            SourceLosses::Single(next) => next.take(),
+            SourceLosses::Pair(next, after) => {
+                if next.is_some() {
+                    next.take()
+                } else {
+                    after.take()
+                }
+            }
             SourceLosses::Listed(losses) => {
                 let (loss, others) = losses.split_first()?;
                 *losses = others;
@@ -142,6 +210,56 @@ pub trait LossSource {
         ensures { losses_left result ≡ losses_of self.now };
 }
 
+impl LossSource for Event<'_> {
+    ghost use Rattle.sentry_items.specs.Losses.{losses_of_event};
+
+    ghost losses_of = { losses_of_event };
+
+    fn losses(&self) -> ItemLossIter<'_> {
+        ItemLossIter::of_source(SourceLosses::single(Category::Error, 1))
+    }
+}
+
+impl LossSource for SessionUpdate<'_> {
+    ghost use Rattle.sentry_items.specs.Losses.{losses_of_session};
+
+    ghost losses_of = { losses_of_session };
+
+    fn losses(&self) -> ItemLossIter<'_> {
+        ItemLossIter::of_source(SourceLosses::single(Category::Session, 1))
+    }
+}
+
+impl LossSource for SessionAggregates<'_> {
+    ghost use Rattle.sentry_items.specs.Losses.{losses_of_groups};
+
+    ghost losses_of = { losses_of_groups };
+
+    fn losses(&self) -> ItemLossIter<'_> {
+        ItemLossIter::of_source(SourceLosses::of_groups(self))
+    }
+}
+
+impl LossSource for Transaction<'_> {
+    ghost use Rattle.sentry_items.specs.Losses.{losses_of_transaction};
+
+    ghost losses_of = { losses_of_transaction };
+
+    fn losses(&self) -> ItemLossIter<'_> {
+        ItemLossIter::of_source(SourceLosses::of_transaction(self))
+    }
+}
+
+impl LossSource for Span {
+    ghost use Rattle.sentry_items.specs.Losses.{losses_of_span};
+
+    ghost losses_of = { losses_of_span };
+
+    fn losses(&self) -> ItemLossIter<'_> {
+        ItemLossIter::of_source(SourceLosses::single(Category::Span, 1))
+    }
+}
+
 impl LossSource for Attachment {
     ghost use Rattle.sentry_items.specs.Losses.{losses_of_attachment};
 
@@ -150,6 +268,26 @@ impl LossSource for Attachment {
     fn losses(&self) -> ItemLossIter<'_> {
         let bytes = self.buffer.len() as u64;
         ItemLossIter::of_source(SourceLosses::single(Category::Attachment, bytes))
+    }
+}
+
+impl LossSource for MonitorCheckIn {
+    ghost use Rattle.sentry_items.specs.Losses.{losses_of_check_in};
+
+    ghost losses_of = { losses_of_check_in };
+
+    fn losses(&self) -> ItemLossIter<'_> {
+        ItemLossIter::of_source(SourceLosses::single(Category::Monitor, 1))
+    }
+}
+
+impl LossSource for UserReport {
+    ghost use Rattle.sentry_items.specs.Losses.{losses_of_user_report};
+
+    ghost losses_of = { losses_of_user_report };
+
+    fn losses(&self) -> ItemLossIter<'_> {
+        ItemLossIter::of_source(SourceLosses::single(Category::Feedback, 1))
     }
 }
 
