@@ -1,6 +1,6 @@
 -- The id of an event or a transaction: its normal form holds the same, and it may fill a header.
-use Rattle.std.proofs.Common.{◌≡◌, ℕ, List, Bool, true, false, cond, bytes_eq, if◌then◌else◌, refl, sym, ap, subst}
-use Rattle.serde_json.specs.Data.{Members}
+use Rattle.std.proofs.Common.{◌≡◌, ℕ, List, [], ◌∷◌, Bool, true, false, cond, bytes_eq, Option, map, if◌then◌else◌, refl}
+use Rattle.std.specs.Prelude.{is_some}
 use Rattle.sentry_tables.specs.Cell.{Cell, absent, octets, fields, Cells, no_cells, cell}
 use Rattle.sentry_tables.specs.Kind.{Rule, draw, Other, Kind, table, Rows, no_rows, row}
 use Rattle.sentry_tables.specs.Norm.{norm, rows_norm, row_norm, is_null_of}
@@ -8,9 +8,17 @@ use Rattle.sentry_tables.specs.Meets.{RowsMeet, RowMeets, Meets, stored_demand, 
 use Rattle.sentry_tables.specs.Fields.{rows_of}
 use Rattle.sentry_identifiers.specs.Uuids.{IsUuid, hyphenated}
 use Rattle.sentry_identifiers.proofs.UuidLaws.{uuid_normal}
-use Rattle.sentry_envelope.specs.HeaderFields.{header_fields, header_kind, header_in_order, fill_id}
+use Rattle.sentry_event.specs.Events.{event_fields}
+use Rattle.sentry_event.specs.Transactions.{transaction_fields}
+use Rattle.sentry_items.specs.declared.item.EnvelopeItem.{EnvelopeItem}
+use Rattle.sentry_items.specs.declared.item.EnvelopeItem.TheVariants as variants
+use Rattle.uuid.specs.declared.Uuid.{Uuid}
+use Rattle.sentry_envelope.specs.Envelope.{given_by, or_else, first_id}
+use Rattle.sentry_envelope.specs.EnvelopeView.{item_view}
+use Rattle.sentry_envelope.specs.Filter.{id_in, id_of, first_id_of}
+use Rattle.sentry_envelope.specs.HeaderFields.{header_fields, header_kind, header_in_order, fill_id, given_id}
 use Rattle.sentry_envelope.specs.Profile.{FillLaws, GivesAlike}
-use Rattle.sentry_envelope.specs.SentryProfile.{cell_at, held_at}
+use Rattle.sentry_envelope.specs.SentryProfile.{cell_at, held_at, item_types}
 use Rattle.sentry_envelope.proofs.EnvelopeFill.{fill_place, place_fills}
 
 -- ---- an id fills the second row of the header
@@ -69,3 +77,22 @@ table_gives key rows other ids (fields cs ms) stored plain =
     let same = rows_id key rows cs ids stored.0 in
     (same.1, any_id_fills (cell_at key rows cs) same.0)
 table_gives key rows other ids _ stored plain = absurd stored
+
+-- ---- items
+
+-- what an item gives is an id or nothing
+pub gives_id_or_none : (i : EnvelopeItem) → given_id (id_in (given_by item_types (item_view i))) ≡ given_by item_types (item_view i)
+unfolding event_fields transaction_fields
+gives_id_or_none (variants.Event e) = refl
+gives_id_or_none _ = refl
+
+choose : (given rest : Cell) (id : Option Uuid) → given_id (id_in given) ≡ given → rest ≡ given_id id → or_else given rest ≡ given_id (if is_some (id_in given) then id_in given else id)
+choose absent rest id is more = more
+choose (octets own) rest id is more = refl
+choose _ rest id is more = absurd cc
+
+-- the first id that items give
+pub first_given : (xs : List EnvelopeItem) → first_id item_types (map item_view xs) ≡ given_id (first_id_of xs)
+unfolding id_of
+first_given [] = refl
+first_given (x ∷ xs) = choose (given_by item_types (item_view x)) (first_id item_types (map item_view xs)) (first_id_of xs) (gives_id_or_none x) (first_given xs)

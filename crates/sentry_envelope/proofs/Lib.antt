@@ -6,6 +6,7 @@ pub mod EnvelopeShown
 pub mod EnvelopeSized
 pub mod EnvelopeAnswers
 pub mod EnvelopeReading
+pub mod ItemIds
 pub mod SentryProfile
 pub mod ItemReads
 pub mod WholeReads
@@ -25,7 +26,6 @@ pub mod OneEnvelope
 pub mod EnvelopeWriting
 pub mod EnvelopeFill
 pub mod EnvelopeSample
-pub mod ItemIds
 pub mod ConservationLemmas
 pub mod LossLemmas
 pub mod FilterLemmas

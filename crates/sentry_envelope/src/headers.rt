@@ -121,6 +121,15 @@ impl EnvelopeHeaders {
         }
     }
 
+    /// Takes this event id where there is none.
+    pub(crate) fn fill(&mut self, id: Option<Uuid>)
+        ensures { headers_cell self.new ≡ fill_id (given_id id) (headers_cell self.old) }
+    {
+        if self.event_id.is_none() {
+            self.event_id = id;
+        }
+    }
+
     /// The event id.
     pub(crate) fn event_id(&self) -> Option<&Uuid>
         ensures { option_map (λ id. id.now) result ≡ self.now.event_id }

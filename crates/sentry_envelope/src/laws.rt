@@ -5,7 +5,7 @@ ghost use Rattle.sentry_envelope.specs.declared.headers.EnvelopeHeaders.{Envelop
 ghost use Rattle.sentry_envelope.specs.EnvelopeAlike.{HasNoTree, AreEnvelopesAlike};
 ghost use Rattle.sentry_envelope.specs.HeaderFields.{headers_cell};
 ghost use Rattle.sentry_envelope.specs.EnvelopeLaws.{HasOneAnswer, EnvelopesReadBack, EnvelopesAreStable, EnvelopesHaveOneForm, EnvelopesAreRewritten, RewritingTwiceIsOnce, ShortTextsAreSized, NormalFormsAreSized, SpelledHaveOneForm};
-ghost use Rattle.sentry_envelope.specs.OneEnvelope.{HasOneEnvelope, AlwaysHasOneEnvelope, TextsDrawNothing};
+ghost use Rattle.sentry_envelope.specs.OneEnvelope.{HasOneEnvelope, TextsDrawNothing};
 ghost use Rattle.sentry_envelope.specs.Accepted.{AcceptedIsReadable};
 ghost use Rattle.sentry_envelope.specs.SentryProfile.{profile};
 
@@ -25,11 +25,10 @@ pub fn one_answer()
 {}
 
 /// At each moment bytes in which nothing is drawn spell at most one envelope, and nothing is drawn in the text of an
-/// envelope that is read back. No item or header that is carried now draws an id: so any bytes spell at most one.
+/// envelope that is read back: so written bytes spell at most one.
 pub fn one_envelope()
     ensures undrawn { HasOneEnvelope profile }
     ensures written { TextsDrawNothing profile }
-    ensures always { AlwaysHasOneEnvelope profile }
 {}
 
 /// At each moment the text of a stored, plain, readable and sized envelope spells its normal form, and nothing else.

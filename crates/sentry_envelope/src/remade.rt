@@ -107,9 +107,6 @@ fn stands(item: &EnvelopeItem, way: Way) -> bool
 {
     match way {
         Way::Same => true,
-        Way::Normal(_) => match item {
-            EnvelopeItem::Attachment(_) | EnvelopeItem::ReplayRecording(_) => true,
-            EnvelopeItem::Raw => false,
-        },
+        Way::Normal(_) => !matches!(item, EnvelopeItem::Raw),
     }
 }
