@@ -11,3 +11,4 @@ pub mod Faults
 pub mod StatedLengths
 pub mod Written
 pub mod Flat
+pub mod Words

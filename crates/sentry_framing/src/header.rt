@@ -2,7 +2,8 @@
 ghost use Rattle.std.specs.Prelude.{◌≡◌, ◌⊎◌, Some, None, IfOk, IfErr, OnOk, option_map, string_bytes};
 ghost use Rattle.serde_json.specs.Find.{as_str};
 ghost use Rattle.sentry_framing.specs.ItemHeader.{header_of, read_header, optional, whole_number};
-ghost use Rattle.sentry_framing.specs.ItemWords.{item_words};
+ghost use Rattle.sentry_framing.specs.ItemWords.{item_words, kind_place};
+ghost use Rattle.sentry_framing.specs.declared.kind.ItemKind.TheVariants as kinds;
 ghost use Rattle.sentry_framing.specs.HeaderView.{header_view};
 
 use crate::error::EnvelopeError;
@@ -32,7 +33,7 @@ pub struct ItemHeader {
 impl ItemHeader {
     /// A header that says that the item is an attachment, and nothing else.
     pub fn new() -> ItemHeader
-        ensures { header_view result ≡ record { kind = 0; length = None; content_type = None; filename = None; attachment_type = None } }
+        ensures { header_view result ≡ record { kind = kind_place kinds.Attachment; length = None; content_type = None; filename = None; attachment_type = None } }
     {
         ItemHeader {
             kind: ItemKind::Attachment,

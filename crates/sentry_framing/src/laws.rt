@@ -3,6 +3,9 @@ ghost use Rattle.std.specs.Prelude.{◌≡◌, ◌⊎◌, ◌++◌, [], List, �
 ghost use Rattle.serde_json.specs.Data.{Data, Members, object};
 ghost use Rattle.serde_json.specs.Written.{compact_text};
 ghost use Rattle.sentry_json.specs.Balanced.{IsBalanced};
+ghost use Rattle.sentry_framing.specs.ItemHeader.{place_of};
+ghost use Rattle.sentry_framing.specs.ItemWords.{item_words, kind_place, kind_word};
+ghost use Rattle.sentry_framing.specs.declared.kind.ItemKind.{ItemKind as Kinds};
 ghost use Rattle.sentry_framing.specs.Framing.{Reading, Frame, IsFirstFrame, HasOneVerdict, HasSize, IsLineAndBody, with_line};
 
 /// No balanced piece is a proper beginning of another.
@@ -38,4 +41,10 @@ pub fn a_written_item_is_read()
         reads (compact_text (object members)) ≡ Some stated → HasSize stated payload →
         IsFirstFrame reads (with_line (compact_text (object members)) (with_line payload body))
         (record { header = compact_text (object members); payload = payload }) body }
+{}
+
+/// The word of each type of item stands at the type's place among the words of all, and at no place before.
+#[tactic(auto, using(crate::proofs::Words::word_in_place))]
+pub fn item_words_stand_in_order()
+    ensures { (kind : Kinds) → place_of (kind_word kind) item_words ≡ Some (kind_place kind) }
 {}

@@ -1,4 +1,5 @@
 pub mod AttachmentTypes
+pub mod Cut
 pub mod Equal
 pub mod HeaderTokens
 pub mod Made

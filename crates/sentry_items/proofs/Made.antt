@@ -4,10 +4,12 @@ use Rattle.std.specs.declared.alloc.Global.{Global}
 use Rattle.sentry_members.specs.Made.{made}
 use Rattle.sentry_members.specs.declared.way.Way.{Way}
 use Rattle.sentry_members.specs.declared.way.Way.TheVariants.{Same, Normal}
+use Rattle.sentry_tables.specs.Cell.{Cell}
+use Rattle.sentry_framing.specs.declared.kind.ItemKind.{ItemKind}
 use Rattle.sentry_items.specs.Attached.{Attached}
 use Rattle.sentry_items.specs.AttachmentWords.{known, attachment_type_norm, attachment_type_kind}
 use Rattle.sentry_items.specs.Made.{attached_made, item_made}
-use Rattle.sentry_items.specs.View.{attachment_type_cell, attachment_view, attachment, replay_recording, raw}
+use Rattle.sentry_items.specs.View.{attachment_type_cell, attachment_view, attachment, replay_recording, value, raw, payload_kind}
 use Rattle.sentry_items.specs.declared.attachment.Attachment.{Attachment}
 use Rattle.sentry_items.specs.declared.attachment_type.AttachmentType.{AttachmentType}
 use Rattle.sentry_items.proofs.Equal.{views_same}
@@ -58,6 +60,11 @@ pub attachment_made : (way : Way) (a b : Attached) → b ≡ attached_made way a
 unfolding attached_made item_made
 attachment_made Same a b is = ap attachment is
 attachment_made (Normal alloc) a b is = ap attachment is
+
+pub value_made : (way : Way) (k : ItemKind) (a c : Cell) → c ≡ made way (payload_kind k) a → value k c ≡ item_made way (value k a)
+unfolding item_made made
+value_made Same k a c is = ap (value k) is
+value_made (Normal alloc) k a c is = ap (value k) is
 
 pub recording_made : (way : Way) (a b : List ℕ) → b ≡ a → replay_recording b ≡ item_made way (replay_recording a)
 unfolding item_made

@@ -103,6 +103,7 @@ impl EnvelopeItem {
     }
 
     /// The same item, or its normal form. It fails where memory is refused.
+    #[tactic(auto, using(crate::proofs::Made::value_made, crate::proofs::Made::attachment_made, crate::proofs::Made::recording_made, crate::proofs::Made::raw_made))]
     pub fn remade(&self, way: Way) -> Result<EnvelopeItem, AllocError>
         ensures { IfOk result (λ item. item_held item ≡ item_made way (item_held self.now)) }
     {

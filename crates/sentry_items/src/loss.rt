@@ -65,6 +65,7 @@ fn sessions_in_group(group: &SessionAggregateItem) -> u64
 }
 
 /// The sessions of all groups: a sum that is cut at 2^64-1.
+#[tactic(auto, using(crate::proofs::Cut::cut_more))]
 fn sessions_in_groups(groups: &[SessionAggregateItem]) -> u64
     ensures { result ≡ cut (sum_by sessions_in groups.now) }
 {

@@ -2,7 +2,13 @@ use crate::{
     Attachment, Category, EnvelopeItem, ItemLoss, ItemLossIter, LossSlice, LossSource, Reason,
     ReplayRecording,
 };
+use rand_core::SeedableRng;
+use rand_pcg::Pcg32;
+use sentry_event::{Event, Span, Transaction};
+use sentry_moments::Moment;
+use sentry_records::{SessionAggregateItem, SessionAggregates, SessionAttributes};
 use std::alloc::{AllocError, Global};
+use std::borrow::CowStr;
 use std::test::Fail;
 
 fn attachment(alloc: Global, bytes: &[u8]) -> Result<Attachment, AllocError> {
@@ -91,5 +97,72 @@ fn losses_of_items(rt: HostRuntime) -> Result<(), Fail> {
     let raw = [EnvelopeItem::Raw, EnvelopeItem::Raw];
     let given = gives_in_order(ItemLossIter::of_items(&items), &losses);
     assert!(rt; given && gives_in_order(ItemLossIter::of_items(&raw), &[]));
+    Ok(())
+}
+
+#[derive(Debug, Drop)]
+struct OutOfRange;
+
+fn epoch() -> Result<Moment, OutOfRange> {
+    Moment::new(0, 0).ok_or(OutOfRange)
+}
+
+fn group(started: Moment, counts: [u32; 4]) -> SessionAggregateItem {
+    SessionAggregateItem {
+        started,
+        distinct_id: None,
+        exited: counts[0],
+        errored: counts[1],
+        abnormal: counts[2],
+        crashed: counts[3],
+    }
+}
+
+/// All four counts of all groups.
+#[test]
+fn losses_of_counted_sessions(rt: HostRuntime) -> Result<(), Fail> {
+    let alloc = rt.alloc();
+    let start = epoch()?;
+    let groups = [group(start, [2, 3, 5, 7]), group(start, [11, 13, 17, 19])];
+    for (count, sum) in [(0, 0), (1, 17), (2, 77)] {
+        let mut aggregates = Vec::new(alloc);
+        for group in &groups[..count] {
+            aggregates.push(group.clone()?)?;
+        }
+        let counted = SessionAggregates {
+            aggregates,
+            attributes: SessionAttributes {
+                release: CowStr::Borrowed("1"),
+                environment: None,
+                ip_address: None,
+                user_agent: None,
+            },
+        };
+        let lost = [("session", sum, "none")];
+        assert!(rt; gives(&counted, &lost) && gives(&EnvelopeItem::from(counted), &lost));
+    }
+    Ok(())
+}
+
+/// A transaction loses itself, its spans, and one span that it is.
+#[test]
+fn losses_of_traces(rt: HostRuntime) -> Result<(), Fail> {
+    let alloc = rt.alloc();
+    let start = epoch()?;
+    let mut ids = Pcg32::seed_from_u64(1);
+    for (count, spans) in [(0, 1), (3, 4)] {
+        let mut transaction = Transaction::new(alloc, start, &mut ids);
+        for _ in 0..count {
+            let span = Span::new(alloc, start, &mut ids);
+            assert!(rt; gives(&span, &[("span", 1, "none")]));
+            transaction.spans.push(span)?;
+        }
+        let lost = [("transaction", 1, "none"), ("span", spans, "none")];
+        let by_itself = gives(&transaction, &lost);
+        let item = EnvelopeItem::transaction(alloc, transaction)?;
+        assert!(rt; by_itself && gives(&item, &lost));
+    }
+    let event = Event::new(alloc, start, &mut ids)?;
+    assert!(rt; gives(&event, &[("error", 1, "none")]));
     Ok(())
 }
