@@ -1,6 +1,6 @@
 //! The items of an envelope, read.
 
-ghost use Rattle.std.specs.Prelude.{◌≡◌, ◌≢◌, ◌×◌, ◌⊎◌, IfOk, IfErr, [], Some, map};
+ghost use Rattle.std.specs.Prelude.{◌≡◌, ◌≢◌, ◌⊎◌, IfOk, IfErr, [], Some, map};
 ghost use Rattle.sentry_event.specs.Events.{event_cell};
 ghost use Rattle.sentry_event.specs.Transactions.{transaction_cell};
 ghost use Rattle.sentry_items.specs.View.{attachment_view, item_held, value};
