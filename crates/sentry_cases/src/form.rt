@@ -28,7 +28,8 @@ fn written<F: Codec<T>, T: Drop>(alloc: Global, value: &T) -> Result<Value, Allo
     }
 }
 
-fn answered<F: Codec<T>, T: Drop>(
+/// What is written of a value that was read, or why it was not.
+pub fn answered<F: Codec<T>, T: Drop>(
     alloc: Global,
     read: &Result<T, TreeError>,
 ) -> Result<Value, AllocError> {

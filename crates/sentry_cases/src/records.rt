@@ -1,9 +1,11 @@
-//! Sampling contexts, sessions, check-ins and reports of users that lines of JSON show.
+//! Sampling contexts, sessions, check-ins, logs, metrics and reports of users that lines of JSON show.
 
-use crate::form::{own, own_at};
+use crate::form::{answered, own, own_at};
+use sentry_members::{Own, read_tree};
 use sentry_records::{
-    DynamicSamplingContext, MonitorCheckIn, MonitorConfig, MonitorSchedule, SessionAggregateItem,
-    SessionAggregates, SessionAttributes, SessionUpdate, UserReport,
+    DynamicSamplingContext, Log, LogAttribute, Metric, MonitorCheckIn, MonitorConfig,
+    MonitorSchedule, SessionAggregateItem, SessionAggregates, SessionAttributes, SessionUpdate,
+    UserReport,
 };
 use serde_json::Value;
 use std::alloc::{AllocError, Global};
@@ -19,6 +21,12 @@ fn of_session(alloc: Global, name: &str, line: &[u8]) -> Result<Option<Value>, A
     }))
 }
 
+// What is written of the attribute that is the tree of a line.
+fn of_attribute(alloc: Global, line: &[u8]) -> Result<Value, AllocError> {
+    let read = read_tree(alloc, line).map(LogAttribute::from);
+    answered::<Own, LogAttribute>(alloc, &read)
+}
+
 /// What is written of the record that a line shows.
 pub fn of_record(alloc: Global, name: &str, line: &[u8]) -> Result<Option<Value>, AllocError> {
     if let Some(answer) = of_session(alloc, name, line)? {
@@ -28,6 +36,10 @@ pub fn of_record(alloc: Global, name: &str, line: &[u8]) -> Result<Option<Value>
         "MonitorSchedule" => own::<MonitorSchedule>(alloc, line)?,
         "MonitorConfig" => own::<MonitorConfig>(alloc, line)?,
         "MonitorCheckIn" => own::<MonitorCheckIn>(alloc, line)?,
+        "Log" => own::<Log>(alloc, line)?,
+        "Metric" => own::<Metric>(alloc, line)?,
+        "LogAttribute" => own::<LogAttribute>(alloc, line)?,
+        "LogAttribute::from" => of_attribute(alloc, line)?,
         "UserReport" => own::<UserReport>(alloc, line)?,
         _ => return Ok(None),
     }))

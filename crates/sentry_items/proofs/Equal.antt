@@ -7,8 +7,13 @@ use lib.Dec.{eqb}
 use Rattle.std.specs.Option.{option_eq}
 use Rattle.std.specs.String.{string_eq}
 use Rattle.sentry_items.specs.Attached.{Attached}
-use Rattle.sentry_items.specs.Alike.{HoldsNoTree, AreAlike}
-use Rattle.sentry_items.specs.View.{attachment_type_cell, attachment_view, item_held}
+use Rattle.sentry_tables.specs.Cell.{Cell}
+use Rattle.sentry_records.proofs.Equal.{check_ins_decide, reports_decide}
+use Rattle.sentry_records.proofs.SessionsEqual.{sessions_decide, aggregates_decide}
+use Rattle.sentry_framing.specs.declared.kind.ItemKind.{ItemKind}
+use Rattle.sentry_framing.specs.declared.kind.ItemKind.TheVariants as kinds
+use Rattle.sentry_items.specs.Alike.{HasStoredAddress, HoldsNoTree, AreAlike}
+use Rattle.sentry_items.specs.View.{ItemView, attachment, replay_recording, value, raw, attachment_type_cell, attachment_view, item_held, kind_held}
 use Rattle.sentry_items.specs.declared.attachment.Attachment.{Attachment}
 use Rattle.sentry_items.specs.declared.attachment_type.AttachmentType.{AttachmentType}
 use Rattle.sentry_items.specs.contracts.attachment_type.AttachmentTypePartialEq.TheImpl.{eq-value as of_types}
@@ -42,13 +47,29 @@ attachments_decide a b =
       λ same. parts.1 (ap (λ (v : Attached). v.buffer) same, (ap (λ (v : Attached). v.filename) same, (ap (λ (v : Attached). v.content_type) same, ap (λ (v : Attached). v.ty) same))),
     )
 
-pub items_decide : (a b : EnvelopeItem) → HoldsNoTree (item_held a) → HoldsNoTree (item_held b) → Decides (of_items.it a b) (AreAlike (item_held a) (item_held b))
-items_decide (item.Attachment a) (item.Attachment b) s t = attachments_decide a b
-items_decide (item.ReplayRecording a) (item.ReplayRecording b) s t = slice_eq-Decides Decides-eqb a.buffer.items b.buffer.items _ refl
-items_decide item.Raw item.Raw s t = (λ same. tt, λ same. refl)
-items_decide (item.Attachment a) (item.ReplayRecording b) s t = (λ same. cc, λ same. absurd same)
-items_decide (item.Attachment a) item.Raw s t = (λ same. cc, λ same. absurd same)
-items_decide (item.ReplayRecording a) (item.Attachment b) s t = (λ same. cc, λ same. absurd same)
-items_decide (item.ReplayRecording a) item.Raw s t = (λ same. cc, λ same. absurd same)
-items_decide item.Raw (item.Attachment b) s t = (λ same. cc, λ same. absurd same)
-items_decide item.Raw (item.ReplayRecording b) s t = (λ same. cc, λ same. absurd same)
+-- items that are alike are of one type
+alike_kinds : (x y : ItemView) → AreAlike x y → kind_held x ≡ kind_held y
+alike_kinds (attachment a) (attachment b) same = refl
+alike_kinds (replay_recording a) (replay_recording b) same = refl
+alike_kinds (value k c) (value l d) same = ap Some same.0
+alike_kinds raw raw same = refl
+alike_kinds _ _ same = absurd same
+
+-- values of one type are alike where their cells are the same
+values_decide : (k : ItemKind) (c d : Cell) (E : Bool) → Decides E (c ≡ d) → Decides E (AreAlike (value k c) (value k d))
+values_decide k c d E cells = (λ same. (refl, cells.0 same), λ same. cells.1 same.1)
+
+pub items_decide : (a b : EnvelopeItem) → HoldsNoTree (item_held a) → HoldsNoTree (item_held b) → HasStoredAddress a → HasStoredAddress b
+    → Decides (of_items.it a b) (AreAlike (item_held a) (item_held b))
+items_decide (item.Event a) b s t h k = absurd s
+items_decide (item.Transaction a) b s t h k = absurd s
+items_decide a (item.Event b) s t h k = absurd t
+items_decide a (item.Transaction b) s t h k = absurd t
+items_decide (item.SessionUpdate a) (item.SessionUpdate b) s t h k = values_decide kinds.SessionUpdate _ _ _ (sessions_decide a b h k)
+items_decide (item.SessionAggregates a) (item.SessionAggregates b) s t h k = values_decide kinds.SessionAggregates _ _ _ (aggregates_decide a b h k)
+items_decide (item.MonitorCheckIn a) (item.MonitorCheckIn b) s t h k = values_decide kinds.MonitorCheckIn _ _ _ (check_ins_decide a b)
+items_decide (item.UserReport a) (item.UserReport b) s t h k = values_decide kinds.UserReport _ _ _ (reports_decide a b)
+items_decide (item.Attachment a) (item.Attachment b) s t h k = attachments_decide a b
+items_decide (item.ReplayRecording a) (item.ReplayRecording b) s t h k = slice_eq-Decides Decides-eqb a.buffer.items b.buffer.items _ refl
+items_decide item.Raw item.Raw s t h k = (λ same. tt, λ same. refl)
+items_decide a b s t h k = (λ same. cc, λ same. let e = alike_kinds (item_held a) (item_held b) same in absurd (cc))

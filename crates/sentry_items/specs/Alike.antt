@@ -2,6 +2,9 @@
 use Rattle.std.specs.Prelude.{◌≡◌, ⊤}
 use Rattle.sentry_framing.specs.declared.kind.ItemKind.{ItemKind}
 use Rattle.sentry_framing.specs.declared.kind.ItemKind.TheVariants as kinds
+use Rattle.sentry_records.specs.Sessions.{IsStoredAddress}
+use Rattle.sentry_items.specs.declared.item.EnvelopeItem.{EnvelopeItem}
+use Rattle.sentry_items.specs.declared.item.EnvelopeItem.TheVariants as item
 use Rattle.sentry_items.specs.View.{ItemView, attachment, replay_recording, value, raw}
 
 -- items of the type hold no trees of JSON
@@ -21,6 +24,12 @@ HoldsNoTree (attachment a) = ⊤
 HoldsNoTree (replay_recording b) = ⊤
 HoldsNoTree (value k c) = HasNoTrees k
 HoldsNoTree raw = ⊤
+
+-- the address of a user that the item tells, where it tells one, has numbers in range, as every address of a program
+abbrev pub HasStoredAddress : EnvelopeItem → Type 0
+HasStoredAddress (item.SessionUpdate s) = IsStoredAddress s.attributes
+HasStoredAddress (item.SessionAggregates g) = IsStoredAddress g.attributes
+HasStoredAddress _ = ⊤
 
 -- the two are of one type, and what that type compares is the same
 abbrev pub AreAlike : ItemView → ItemView → Type 0

@@ -7,6 +7,7 @@ pub mod HeaderTokens
 pub mod Losses
 pub mod Made
 pub mod Meets
+pub mod Sizes
 pub mod Sums
 pub mod UsualHeader
 pub mod View

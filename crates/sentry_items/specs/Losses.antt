@@ -1,14 +1,14 @@
 -- What is lost with items.
-use Rattle.std.specs.Prelude.{ℕ, ◌+◌, ◌-◌, ◌^◌, min, List, [], ◌∷◌, ◌++◌, length, sum_by, Option, Some, None}
+use Rattle.std.specs.Prelude.{ℕ, ◌+◌, List, [], ◌∷◌, ◌++◌, length, sum_by, Option, Some, None}
 use Rattle.std.specs.List.{flat_map}
 use Rattle.sentry_event.specs.declared.event.Event.{Event}
 use Rattle.sentry_event.specs.declared.span.Span.{Span}
 use Rattle.sentry_event.specs.declared.transaction.Transaction.{Transaction}
 use Rattle.sentry_records.specs.declared.monitor_check_in.MonitorCheckIn.{MonitorCheckIn}
-use Rattle.sentry_records.specs.declared.session_aggregate_item.SessionAggregateItem.{SessionAggregateItem}
 use Rattle.sentry_records.specs.declared.session_aggregates.SessionAggregates.{SessionAggregates}
 use Rattle.sentry_records.specs.declared.session_update.SessionUpdate.{SessionUpdate}
 use Rattle.sentry_records.specs.declared.user_report.UserReport.{UserReport}
+use Rattle.sentry_items.specs.Sizes.{cut, sessions_in}
 use Rattle.sentry_items.specs.declared.category.Category.{Category}
 use Rattle.sentry_items.specs.declared.category.Category.TheVariants as category
 use Rattle.sentry_items.specs.declared.attachment.Attachment.{Attachment}
@@ -24,10 +24,6 @@ use Rattle.sentry_items.specs.declared.replay_recording.ReplayRecording.{ReplayR
 abbrev pub loss : Category → ℕ → ItemLoss
 loss category quantity = record { category = category; quantity = quantity; reason = None }
 
--- a sum is cut once, at what 64 bits hold
-abbrev pub cut : ℕ → ℕ
-cut n = min n (2 ^ 64 - 1)
-
 -- one of a category
 abbrev pub one_of : Category → List ItemLoss
 one_of category = loss category 1 ∷ []
@@ -39,10 +35,6 @@ losses_of_event e = one_of category.Error
 -- an update of a session: one session
 abbrev pub losses_of_session : SessionUpdate → List ItemLoss
 losses_of_session s = one_of category.Session
-
--- the sessions of a group, however they ended
-abbrev pub sessions_in : SessionAggregateItem → ℕ
-sessions_in g = g.exited + g.errored + g.abnormal + g.crashed
 
 -- counted sessions: those of all groups
 abbrev pub losses_of_groups : SessionAggregates → List ItemLoss

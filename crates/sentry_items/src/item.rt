@@ -44,8 +44,8 @@ impl EnvelopeItem {
 
     /// An event as an item, in a box. Where memory is refused it is handed back.
     pub fn event(alloc: Global, event: Event<'static>) -> Result<EnvelopeItem, Event<'static>>
-        ensures boxed { IfOk result (IsEvent event) }
-        ensures handed_back { IfErr result (λ back. back ≡ event) }
+        ensures boxed { IfOk result (IsEvent event.entry) }
+        ensures handed_back { IfErr result (λ back. back ≡ event.entry) }
     {
         match Box::new(alloc, event) {
             Ok(boxed) => Ok(EnvelopeItem::Event(boxed)),
@@ -58,8 +58,8 @@ impl EnvelopeItem {
         alloc: Global,
         transaction: Transaction<'static>,
     ) -> Result<EnvelopeItem, Transaction<'static>>
-        ensures boxed { IfOk result (IsTransaction transaction) }
-        ensures handed_back { IfErr result (λ back. back ≡ transaction) }
+        ensures boxed { IfOk result (IsTransaction transaction.entry) }
+        ensures handed_back { IfErr result (λ back. back ≡ transaction.entry) }
     {
         match Box::new(alloc, transaction) {
             Ok(boxed) => Ok(EnvelopeItem::Transaction(boxed)),

@@ -2,7 +2,7 @@
 ghost use Rattle.std.specs.Prelude.{◌≡◌, ◌↔◌, true, Some, codes, slice_get};
 ghost use Rattle.sentry_tables.specs.Laws.{HasLaws};
 ghost use Rattle.sentry_words.specs.Lookup.{HasEachOnce};
-ghost use Rattle.sentry_items.specs.Alike.{HoldsNoTree, AreAlike};
+ghost use Rattle.sentry_items.specs.Alike.{HasStoredAddress, HoldsNoTree, AreAlike};
 ghost use Rattle.sentry_items.specs.AttachmentWords.{attachment_type_kind, known};
 ghost use Rattle.sentry_items.specs.View.{attachment_type_cell, attachment_view, item_held};
 ghost use Rattle.sentry_items.specs.declared.attachment.Attachment.{Attachment as Attachments};
@@ -73,10 +73,12 @@ pub fn equal_categories_and_reasons()
 
 /// Two types of attachments, attachments and recordings are equal exactly where what they hold is the same: a known
 /// type or a custom one's text, the bytes and texts. Two items that hold no trees are equal exactly where they are of one
-/// type, and what that type compares is the same.
+/// type, and what that type compares is the same; an address of a user has numbers in range, as every address has in
+/// a program.
 pub fn equal_items()
     ensures types { (a b : Types) → ⟦<AttachmentType as PartialEq>⟧.eq a b ≡ true ↔ (attachment_type_cell a ≡ attachment_type_cell b) }
     ensures attachments { (a b : Attachments) → ⟦<Attachment as PartialEq>⟧.eq a b ≡ true ↔ (attachment_view a ≡ attachment_view b) }
     ensures recordings { (a b : Recordings) → ⟦<ReplayRecording as PartialEq>⟧.eq a b ≡ true ↔ (a.buffer.items ≡ b.buffer.items) }
-    ensures items { (a b : Items) → HoldsNoTree (item_held a) → HoldsNoTree (item_held b) → ⟦<EnvelopeItem as PartialEq>⟧.eq a b ≡ true ↔ AreAlike (item_held a) (item_held b) }
+    ensures items { (a b : Items) → HoldsNoTree (item_held a) → HoldsNoTree (item_held b) → HasStoredAddress a → HasStoredAddress b
+        → ⟦<EnvelopeItem as PartialEq>⟧.eq a b ≡ true ↔ AreAlike (item_held a) (item_held b) }
 {}

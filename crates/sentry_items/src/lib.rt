@@ -11,6 +11,7 @@ pub mod laws;
 pub mod loss;
 pub mod reason;
 pub mod replay_recording;
+mod sizes;
 mod usual;
 
 pub use attachment::{Attachment, AttachmentWriteError};

@@ -1,7 +1,6 @@
 //! What is lost with items that aren't sent.
 
-ghost use Rattle.std.specs.Prelude.{◌≡◌, sum_by};
-ghost use Rattle.sentry_items.specs.Losses.{cut, sessions_in};
+ghost use Rattle.std.specs.Prelude.{◌≡◌};
 ghost use Rattle.sentry_items.specs.Losses.{loss as lost_without_reason};
 
 use crate::attachment::Attachment;
@@ -9,10 +8,9 @@ use crate::category::Category;
 use crate::item::EnvelopeItem;
 use crate::reason::Reason;
 use crate::replay_recording::ReplayRecording;
+use crate::sizes::sum_of_sizes;
 use sentry_event::{Event, Span, Transaction};
-use sentry_records::{
-    MonitorCheckIn, SessionAggregateItem, SessionAggregates, SessionUpdate, UserReport,
-};
+use sentry_records::{MonitorCheckIn, SessionAggregates, SessionUpdate, UserReport};
 
 /// A quantity that was lost.
 #[derive(Clone, Copy, Debug)]
@@ -54,28 +52,6 @@ fn loss(category: Category, quantity: u64) -> ItemLoss
     }
 }
 
-/// The sessions of a group, however they ended.
-fn sessions_in_group(group: &SessionAggregateItem) -> u64
-    ensures { result ≡ sessions_in group.now }
-{
-    u64::from(group.exited)
-        + u64::from(group.errored)
-        + u64::from(group.abnormal)
-        + u64::from(group.crashed)
-}
-
-/// The sessions of all groups: a sum that is cut at 2^64-1.
-#[tactic(auto, using(crate::proofs::Cut::cut_more))]
-fn sessions_in_groups(groups: &[SessionAggregateItem]) -> u64
-    ensures { result ≡ cut (sum_by sessions_in groups.now) }
-{
-    let mut sum: u64 = 0;
-    for group in groups {
-        sum = sum.saturating_add(sessions_in_group(group));
-    }
-    sum
-}
-
 impl<'a> SourceLosses<'a> {
     ghost use Rattle.std.specs.Prelude.{◌≡◌, ◌∷◌, []};
     ghost use Rattle.std.specs.Iterator.{YieldsFirst};
@@ -99,7 +75,7 @@ impl<'a> SourceLosses<'a> {
     fn of_groups(groups: &SessionAggregates<'_>) -> SourceLosses<'a>
         ensures { source_left result ≡ losses_of_groups groups.now }
     {
-        SourceLosses::single(Category::Session, sessions_in_groups(&groups.aggregates))
+        SourceLosses::single(Category::Session, sum_of_sizes(&groups.aggregates))
     }
 
     /// What is lost with a transaction.

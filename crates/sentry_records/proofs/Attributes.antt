@@ -1,5 +1,5 @@
 -- Attributes are lawful; what their readers and writers answer.
-use Rattle.std.proofs.Common.{◌≡◌, ◌≤◌, ◌^◌, ℕ, pos, negsuc, nat_lt, List, codes, Bool, true, false, cond, Option, Some, None, option_map, option_and_then, Result, Ok, Err, refl, sym, ap, ◌∙◌, subst, arith, IsUtf8}
+use Rattle.std.proofs.Common.{Global, ◌≡◌, ◌≤◌, ◌^◌, ℕ, pos, negsuc, nat_lt, List, codes, Bool, true, false, cond, Option, Some, None, option_map, option_and_then, Result, Ok, Err, refl, sym, ap, ◌∙◌, subst, arith, IsUtf8}
 use Rattle.std.proofs.lemmas.Bool.{false≢true}
 use Rattle.std.proofs.lemmas.Option.{none-some, same_Some}
 use Rattle.std.specs.Prelude.{OnOk, is_some, if◌then◌else◌}
@@ -22,12 +22,14 @@ use Rattle.sentry_tables.proofs.Basic.{told}
 use Rattle.sentry_tables.proofs.Shown.{SoundIf, found_sound}
 use Rattle.sentry_tables.proofs.Sound.{ascii_text}
 use Rattle.sentry_members.specs.Kinds.{any_kind}
+use Rattle.sentry_members.specs.Made.{made}
 use Rattle.sentry_members.specs.Written.{written, WritesTree, WritesMembers}
 use Rattle.sentry_members.proofs.Tokens.{object_wrote}
 use Rattle.sentry_sinks.specs.Given.{both}
 use Rattle.sentry_members.specs.Reading.{Shown, Refused, Only}
 use Rattle.sentry_members.specs.declared.error.TreeError.{TreeError}
 use Rattle.sentry_members.specs.declared.error.TreeError.TheVariants.{Misfit, Memory}
+use Rattle.sentry_members.specs.declared.way.Way.TheVariants.{Same, Normal}
 use Rattle.sentry_records.specs.LogAttribute.{value_key, is_integer, text_value, integer_value, truth_value, typed_value, attribute_of, compacted, attribute_form, type_word, attribute_members, attribute_tree, attribute_norm, attribute_scalar, attribute_kind}
 
 -- ---- the form
@@ -195,6 +197,16 @@ attribute_lawful = attribute_laws
 pub attribute_refuses_null : RefusesNull attribute_kind
 unfolding attribute_kind
 attribute_refuses_null now c h = absurd cc
+
+-- ---- made anew
+
+pub attribute_same : (c d : Cell) → d ≡ c → d ≡ made Same attribute_kind c
+unfolding made
+attribute_same c d is = is
+
+pub attribute_normal : (alloc : Global) (v w : Data) → w ≡ attribute_form v → any w ≡ made (Normal alloc) attribute_kind (any v)
+unfolding made attribute_kind
+attribute_normal alloc v w is = ap any is
 
 -- ---- read
 

@@ -53,13 +53,13 @@ use Rattle.sentry_records.specs.declared.user_report.UserReport.{UserReport}
 
 -- ---- scalars
 
-naturals_decide : (m n : ℕ) → Decides (m == n) (natural_cell m ≡ natural_cell n)
+pub naturals_decide : (m n : ℕ) → Decides (m == n) (natural_cell m ≡ natural_cell n)
 naturals_decide m n = Decides-like (m == n) (λ same. ap natural_cell same) (λ same. cc) (Decides-eqb m n)
 
-ids_decide : (a b : Uuid) → Decides (of_ids.it a b) (octets a ≡ octets b)
+pub ids_decide : (a b : Uuid) → Decides (of_ids.it a b) (octets a ≡ octets b)
 ids_decide a b = search rules
 
-moments_decide : (a b : Moment) → Decides (of_moments.it a b) (moment_cell a ≡ moment_cell b)
+pub moments_decide : (a b : Moment) → Decides (of_moments.it a b) (moment_cell a ≡ moment_cell b)
 moments_decide a b = search rules
 
 traces_decide : (a b : TraceId) → Decides (of_traces.it a b) (trace_cell a ≡ trace_cell b)
@@ -85,7 +85,7 @@ module _ {V : Type 0} (E : V → V → Bool) (same : (a b : V) → Decides (E a 
   one_word : (a b : V) → word a ≡ word b → a ≡ b
   one_word a b e = same_Some a b (sym (own a) ∙ (ap of_text e ∙ own b))
 
-  words_decide : (a b : V) → Decides (E a b) (word_cell word a ≡ word_cell word b)
+  pub words_decide : (a b : V) → Decides (E a b) (word_cell word a ≡ word_cell word b)
   words_decide a b = Decides-like (E a b) (λ e. ap (word_cell word) e) (λ e. one_word a b (cc)) (same a b)
 
 units_same : (a b : MonitorIntervalUnit) → Decides (of_units.it a b) (a ≡ b)
@@ -110,17 +110,17 @@ statuses_decide = words_decide of_statuses.it statuses_same (λ s. Some (check_i
 
 -- ---- tables
 
-cells_in : Cell → Cells
+unfoldable pub cells_in : Cell → Cells
 cells_in (fields cs ms) = cs
 cells_in _ = no_cells
 
-nth : ℕ → Cells → Cell
+unfoldable pub nth : ℕ → Cells → Cell
 nth n no_cells = absent
 nth zero (cell c cs) = c
 nth (suc n) (cell c cs) = nth n cs
 
 -- rows of one place hold the same where all do
-row : (n : ℕ) (c d : Cell) → c ≡ d → nth n (cells_in c) ≡ nth n (cells_in d)
+pub row : (n : ℕ) (c d : Cell) → c ≡ d → nth n (cells_in c) ≡ nth n (cells_in d)
 row n c d e = ap (λ x. nth n (cells_in x)) e
 
 pub contexts_decide : (a b : DynamicSamplingContext) → Decides (of_contexts.it a b) (sampling_cell a ≡ sampling_cell b)

@@ -1,4 +1,5 @@
 pub mod Attributes
 pub mod Equal
 pub mod Schedules
+pub mod SessionsEqual
 pub mod TableLaws

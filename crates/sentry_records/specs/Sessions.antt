@@ -1,5 +1,5 @@
 -- The tables of sessions, of their attributes, and of sessions that are counted. Members of other keys are ignored.
-use Rattle.std.specs.Prelude.{◌≡◌, ◌^◌, List, [], ◌∷◌, codes, true, false, refl}
+use Rattle.std.specs.Prelude.{◌≡◌, ◌^◌, List, [], ◌∷◌, IfSome, codes, true, false, refl}
 use Rattle.sentry_tables.specs.Cell.{Cell, octets, truth}
 use Rattle.sentry_tables.specs.Fields.{Field, field, rows_of, table_of, fields_by}
 use Rattle.sentry_tables.specs.Kind.{must, may, may_null, may_strict, default, always, draw, at_once, Kind, list, keys}
@@ -7,6 +7,7 @@ use Rattle.sentry_tables.specs.Written.{in_order}
 use Rattle.sentry_members.specs.Cells.{text_cell, cow_cell, natural_cell, option_cell, list_cell, empty_list}
 use Rattle.sentry_members.specs.Kinds.{text_kind, truth_kind, unsigned_kind}
 use Rattle.sentry_members.specs.Spelling.{word_cell}
+use Rattle.sentry_addresses.specs.Ip.{IsStoredIp}
 use Rattle.sentry_addresses.specs.IpTree.{ip_cell, ip_kind}
 use Rattle.sentry_identifiers.specs.Uuids.{IsRandomUuid, hyphenated_kind}
 use Rattle.sentry_moments.specs.MomentForms.{rfc3339_kind}
@@ -37,6 +38,10 @@ attributes_kind = table_of attributes_fields
 
 abbrev pub attributes_cell : SessionAttributes → Cell
 attributes_cell a = fields_by attributes_fields a
+
+-- the address of the user, where there is one, has numbers in range
+abbrev pub IsStoredAddress : SessionAttributes → Type 0
+IsStoredAddress a = IfSome a.ip_address IsStoredIp
 
 pub attributes_in_order : in_order (keys (rows_of attributes_fields)) ≡ true
 unfolding attributes_fields

@@ -5,24 +5,29 @@ ghost use Rattle.std.specs.Prelude.{◌≡◌, ◌↔◌, true};
 ghost use Rattle.sentry_tables.specs.Laws.{HasLaws};
 ghost use Rattle.sentry_tables.specs.Lawful.{RefusesNull};
 ghost use Rattle.sentry_records.specs.LogAttribute.{attribute_kind};
+ghost use Rattle.sentry_records.specs.Logs.{log_kind};
+ghost use Rattle.sentry_records.specs.Metrics.{metric_kind};
 ghost use Rattle.sentry_records.specs.Monitors.{schedule_cell, schedule_kind, config_cell, config_kind, check_in_cell, check_in_kind};
 ghost use Rattle.sentry_records.specs.Sampling.{sampling_cell, sampling_kind};
-ghost use Rattle.sentry_records.specs.Sessions.{attributes_kind, session_kind, group_cell, group_kind, groups_kind};
+ghost use Rattle.sentry_records.specs.Sessions.{IsStoredAddress, attributes_cell, attributes_kind, session_cell, session_kind, group_cell, group_kind, groups_cell, groups_kind};
 ghost use Rattle.sentry_records.specs.UserReports.{user_report_cell, user_report_kind};
 ghost use Rattle.sentry_records.specs.declared.monitor_check_in.MonitorCheckIn.{MonitorCheckIn as CheckIns};
 ghost use Rattle.sentry_records.specs.declared.monitor_config.MonitorConfig.{MonitorConfig as Configs};
 ghost use Rattle.sentry_records.specs.declared.monitor_schedule.MonitorSchedule.{MonitorSchedule as Schedules};
 ghost use Rattle.sentry_records.specs.declared.sampling.DynamicSamplingContext.{DynamicSamplingContext as Contexts};
 ghost use Rattle.sentry_records.specs.declared.session_aggregate_item.SessionAggregateItem.{SessionAggregateItem as Groups};
+ghost use Rattle.sentry_records.specs.declared.session_aggregates.SessionAggregates.{SessionAggregates as Aggregates};
+ghost use Rattle.sentry_records.specs.declared.session_attributes.SessionAttributes.{SessionAttributes as Attributes};
+ghost use Rattle.sentry_records.specs.declared.session_update.SessionUpdate.{SessionUpdate as Updates};
 ghost use Rattle.sentry_records.specs.declared.user_report.UserReport.{UserReport as Reports};
 
 use crate::{
     DynamicSamplingContext, MonitorCheckIn, MonitorConfig, MonitorSchedule, SessionAggregateItem,
-    UserReport,
+    SessionAggregates, SessionAttributes, SessionUpdate, UserReport,
 };
 
 /// The laws of each table, and of schedules by their tag.
-#[tactic(auto, using(crate::proofs::TableLaws::sampling_laws, crate::proofs::TableLaws::attributes_laws, crate::proofs::TableLaws::session_laws, crate::proofs::TableLaws::group_laws, crate::proofs::TableLaws::groups_laws, crate::proofs::TableLaws::schedule_laws, crate::proofs::TableLaws::config_laws, crate::proofs::TableLaws::check_in_laws, crate::proofs::TableLaws::user_report_laws))]
+#[tactic(auto, using(crate::proofs::TableLaws::sampling_laws, crate::proofs::TableLaws::attributes_laws, crate::proofs::TableLaws::session_laws, crate::proofs::TableLaws::group_laws, crate::proofs::TableLaws::groups_laws, crate::proofs::TableLaws::schedule_laws, crate::proofs::TableLaws::config_laws, crate::proofs::TableLaws::check_in_laws, crate::proofs::TableLaws::user_report_laws, crate::proofs::TableLaws::log_laws, crate::proofs::TableLaws::metric_laws))]
 pub fn tables()
     ensures sampling_contexts { HasLaws sampling_kind }
     ensures session_attributes { HasLaws attributes_kind }
@@ -33,6 +38,8 @@ pub fn tables()
     ensures configurations { HasLaws config_kind }
     ensures check_ins { HasLaws check_in_kind }
     ensures reports { HasLaws user_report_kind }
+    ensures logs { HasLaws log_kind }
+    ensures metrics { HasLaws metric_kind }
 {}
 
 /// Attributes of logs and metrics in trees; null is none.
@@ -42,11 +49,18 @@ pub fn attributes()
     ensures no_null { RefusesNull attribute_kind }
 {}
 
-/// Two values of a type are equal exactly where their fields are the same.
-#[tactic(auto, using(crate::proofs::Equal::contexts_decide, crate::proofs::Equal::groups_decide, crate::proofs::Equal::schedules_decide, crate::proofs::Equal::configs_decide, crate::proofs::Equal::check_ins_decide, crate::proofs::Equal::reports_decide))]
+/// Two values of a type are equal exactly where their fields are the same. An address of a user has numbers in
+/// range, as every address has in a program.
+#[tactic(auto, using(crate::proofs::Equal::contexts_decide, crate::proofs::Equal::groups_decide, crate::proofs::Equal::schedules_decide, crate::proofs::Equal::configs_decide, crate::proofs::Equal::check_ins_decide, crate::proofs::Equal::reports_decide, crate::proofs::SessionsEqual::attributes_decide, crate::proofs::SessionsEqual::sessions_decide, crate::proofs::SessionsEqual::aggregates_decide))]
 pub fn equal_tables()
     ensures sampling_contexts { (a b : Contexts) → ⟦<DynamicSamplingContext as PartialEq>⟧.eq a b ≡ true ↔ (sampling_cell a ≡ sampling_cell b) }
     ensures groups_of_sessions { (a b : Groups) → ⟦<SessionAggregateItem as PartialEq>⟧.eq a b ≡ true ↔ (group_cell a ≡ group_cell b) }
+    ensures session_attributes { (a b : Attributes) → IsStoredAddress a → IsStoredAddress b
+        → ⟦<SessionAttributes<'static> as PartialEq>⟧.eq a b ≡ true ↔ (attributes_cell a ≡ attributes_cell b) }
+    ensures sessions { (a b : Updates) → IsStoredAddress a.attributes → IsStoredAddress b.attributes
+        → ⟦<SessionUpdate<'static> as PartialEq>⟧.eq a b ≡ true ↔ (session_cell a ≡ session_cell b) }
+    ensures counted_sessions { (a b : Aggregates) → IsStoredAddress a.attributes → IsStoredAddress b.attributes
+        → ⟦<SessionAggregates<'static> as PartialEq>⟧.eq a b ≡ true ↔ (groups_cell a ≡ groups_cell b) }
     ensures schedules { (a b : Schedules) → ⟦<MonitorSchedule as PartialEq>⟧.eq a b ≡ true ↔ (schedule_cell a ≡ schedule_cell b) }
     ensures configurations { (a b : Configs) → ⟦<MonitorConfig as PartialEq>⟧.eq a b ≡ true ↔ (config_cell a ≡ config_cell b) }
     ensures check_ins { (a b : CheckIns) → ⟦<MonitorCheckIn as PartialEq>⟧.eq a b ≡ true ↔ (check_in_cell a ≡ check_in_cell b) }

@@ -3,7 +3,9 @@
 #![tactic(auto)]
 
 pub mod laws;
+pub mod log;
 pub mod log_attribute;
+pub mod metric;
 pub mod monitor_check_in;
 pub mod monitor_config;
 pub mod monitor_schedule;
@@ -16,7 +18,9 @@ pub mod session_update;
 mod stand_in;
 pub mod user_report;
 
+pub use log::Log;
 pub use log_attribute::LogAttribute;
+pub use metric::Metric;
 pub use monitor_check_in::MonitorCheckIn;
 pub use monitor_config::MonitorConfig;
 pub use monitor_schedule::{MonitorSchedule, ScheduleError};

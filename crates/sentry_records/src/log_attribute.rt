@@ -1,17 +1,16 @@
 //! Attributes of logs and metrics.
 
-ghost use Rattle.std.specs.Prelude.{◌≡◌, OnOk, None};
+ghost use Rattle.std.specs.Prelude.{◌≡◌, IfOk, OnOk, None};
 ghost use Rattle.serde_json.specs.Data.{number as number_data, string as string_data, member, no_members};
 ghost use Rattle.serde_json.specs.Find.{as_i64};
 ghost use Rattle.serde_json.specs.View.{view, number_view};
 ghost use Rattle.sentry_tables.specs.Kind.{tag};
-ghost use Rattle.sentry_members.specs.Reading.{Reads};
 ghost use Rattle.sentry_records.specs.LogAttribute.{attribute_cell, attribute_form, attribute_kind, attribute_members, compacted, value_key, ReadsTyped};
 
 use json::Writer;
 use sentry_members::spelled::printed;
 use sentry_members::tree::has_float;
-use sentry_members::{Own, Room, TreeError, text_of};
+use sentry_members::{FromTree, Member, Own, Room, TreeError, Way, text_of};
 use sentry_rows::Sink;
 use sentry_rows::sink::TreeRows;
 use sentry_rows::tagged::tag;
@@ -30,54 +29,6 @@ use std::str;
 pub struct LogAttribute(pub Value);
 
 impl LogAttribute {
-    ghost use Rattle.std.specs.Prelude.{◌↔◌, IfOk, IsTrue};
-    ghost use Rattle.sentry_tables.specs.Meets.{IsPlain, IsStored};
-    ghost use Rattle.sentry_members.specs.Written.{written, WritesTree};
-
-    /// The attribute that a tree shows, by the text at `type` and the value at `value`.
-    ///
-    /// # Errors
-    ///
-    /// - `Misfit`: the tree shows none: the value is not of the type that is named, or is a number from 2^63 on.
-    /// - `Memory`: memory is refused.
-    pub fn from_tree(alloc: Global, tree: &Value) -> Result<LogAttribute, TreeError>
-        ensures { Reads attribute_kind attribute_cell (view tree.now) result }
-    {
-        LogAttribute::from_node(alloc, &tree)
-    }
-
-    // The attribute that a node shows.
-    #[tactic(auto, using(crate::proofs::Attributes::attribute_is, crate::proofs::Attributes::no_type, crate::proofs::Attributes::no_value, crate::proofs::Attributes::another_type))]
-    fn from_node<N: Node>(alloc: Global, node: &N) -> Result<LogAttribute, TreeError>
-        ensures { Reads attribute_kind attribute_cell (N.data_of node.now) result }
-    {
-        let Some(word) = tag(node) else {
-            return Err(TreeError::Misfit);
-        };
-        match node.get("value") {
-            Some(value) => Ok(LogAttribute(typed(alloc, word, &value)?)),
-            None => Err(TreeError::Misfit),
-        }
-    }
-
-    /// The written tree. It fails where memory is refused.
-    pub fn to_tree(&self, alloc: Global) -> Result<Value, AllocError>
-        ensures { IfOk result (λ t. view t ≡ written attribute_kind (attribute_cell self.now)) }
-    {
-        let mut rows = TreeRows::new(alloc);
-        self.give(&mut rows)?;
-        Ok(rows.into_tree())
-    }
-
-    /// Writes the text of that tree. It fails where memory is refused, with a part of the text written.
-    pub fn write(&self, out: &mut Writer) -> Result<(), AllocError>
-        ensures { OnOk result (WritesTree (written attribute_kind (attribute_cell self.now)) out.old out.new) }
-    {
-        out.begin_object()?;
-        self.give(out)?;
-        out.end_object()
-    }
-
     // Gives a sink the members of the written tree.
     fn give<S: Sink<Refusal = AllocError>>(&self, sink: &mut S) -> Result<(), AllocError>
         ensures { OnOk result (S.Adds sink.old sink.new (attribute_members (attribute_form (view self.now.0)))) }
@@ -101,13 +52,21 @@ impl LogAttribute {
         }
     }
 
-    /// Whether the value's tree holds no floats.
-    #[tactic(auto, using(sentry_members::proofs::SoundTrees::sound_is_stored), unfolding(crate::specs::LogAttribute::attribute_kind))]
-    pub fn is_plain(&self) -> bool
-        ensures plain { IsTrue result ↔ IsPlain attribute_kind (attribute_cell self.now) }
-        ensures stored { IsTrue result → IsStored attribute_kind (attribute_cell self.now) }
+    // The attribute that the written tree shows.
+    fn formed(&self, alloc: Global) -> Result<LogAttribute, AllocError>
+        ensures { IfOk result (λ a. view a.0 ≡ attribute_form (view self.now.0)) }
     {
-        !has_float(&self.0)
+        match &self.0 {
+            Value::Bool(_) | Value::String(_) => self.clone(),
+            Value::Number(number) => {
+                if number.as_i64().is_some() {
+                    self.clone()
+                } else {
+                    compact(alloc, &self.0)
+                }
+            }
+            Value::Null | Value::Array(_) | Value::Object(_) => compact(alloc, &self.0),
+        }
     }
 
     /// The same attribute. It fails where memory is refused.
@@ -115,6 +74,69 @@ impl LogAttribute {
         ensures { IfOk result (λ copy. attribute_cell copy ≡ attribute_cell self.now) }
     {
         Ok(LogAttribute(self.0.clone()?))
+    }
+}
+
+impl Member for LogAttribute {
+    ghost kind = { attribute_kind };
+
+    ghost cell_of = { attribute_cell };
+
+    fn to_tree(&self, alloc: Global) -> Result<Value, AllocError> {
+        let mut rows = TreeRows::new(alloc);
+        self.give(&mut rows)?;
+        Ok(rows.into_tree())
+    }
+
+    fn write(&self, out: &mut Writer) -> Result<(), AllocError> {
+        out.begin_object()?;
+        self.give(out)?;
+        out.end_object()
+    }
+
+    #[tactic(auto, using(crate::proofs::Attributes::attribute_same, crate::proofs::Attributes::attribute_normal))]
+    fn remade(&self, way: Way) -> Result<LogAttribute, AllocError> {
+        match way {
+            Way::Same => self.clone(),
+            Way::Normal(alloc) => self.formed(alloc),
+        }
+    }
+
+    #[tactic(auto, unfolding(crate::specs::LogAttribute::attribute_kind))]
+    fn is_null_tree(&self) -> bool {
+        false
+    }
+
+    #[tactic(auto, using(sentry_members::proofs::SoundTrees::sound_is_stored), unfolding(crate::specs::LogAttribute::attribute_kind))]
+    fn is_plain(&self) -> bool {
+        !has_float(&self.0)
+    }
+}
+
+impl FromTree for LogAttribute {
+    #[tactic(auto, using(crate::proofs::Attributes::attribute_is, crate::proofs::Attributes::no_type, crate::proofs::Attributes::no_value, crate::proofs::Attributes::another_type))]
+    fn from_node<N: Node>(alloc: Global, node: &N) -> Result<LogAttribute, TreeError> {
+        let Some(word) = tag(node) else {
+            return Err(TreeError::Misfit);
+        };
+        match node.get("value") {
+            Some(value) => Ok(LogAttribute(typed(alloc, word, &value)?)),
+            None => Err(TreeError::Misfit),
+        }
+    }
+}
+
+// The attribute that is the compact text of a tree; an empty one where the tree holds a float.
+fn compact(alloc: Global, tree: &Value) -> Result<LogAttribute, AllocError>
+    ensures { IfOk result (λ a. view a.0 ≡ compacted (view tree.now)) }
+{
+    if has_float(tree) {
+        return Ok(LogAttribute::from(String::new(alloc)));
+    }
+    let text = text_of(alloc, tree)?;
+    match String::from_utf8(text) {
+        Ok(text) => Ok(LogAttribute::from(text)),
+        Err(_) => unreachable!(),
     }
 }
 
