@@ -1,6 +1,6 @@
 -- What frames show, and what a reader of them has so far.
 use Rattle.std.proofs.Common.{◌≡◌, ◌≢◌, ℕ, List, [], ◌∷◌, ◌++◌, inl, inr, refl, sym, ap, subst}
-use Rattle.std.specs.Prelude.{◌⊎◌, map, Some}
+use Rattle.std.specs.Prelude.{◌⊎◌, map, Some, Result, Ok, Err, IfOk}
 use Rattle.std.proofs.lemmas.List.{map-append}
 use Rattle.sentry_tables.specs.Cell.{Cell}
 use Rattle.sentry_tables.specs.Kind.{Kind}
@@ -49,6 +49,11 @@ module _ (frame : Frame) (h : ItemHeader) (read : read_header item_words frame.h
     pub value_read : (c : Cell) (i : EnvelopeItem) → TextShown K frame.payload c → item_held i ≡ value_view k c → ItemShows profile now frame (item_view i)
     unfolding TextShown TextShownAt
     value_read c i shown same = value_read_at c i (shown now) same
+
+    -- the same of a value that is put into a box, if there is memory
+    pub boxed_read_at : (c : Cell) (r : Result EnvelopeItem EnvelopeError) → TextShownAt now K frame.payload c → IfOk r (λ i. item_held i ≡ value_view k c) → IfOk r (λ i. ItemShows profile now frame (item_view i))
+    boxed_read_at c (Ok i) shown same = value_read_at c i shown same
+    boxed_read_at c (Err e) shown same = tt
 
     abbrev IsRefusal : EnvelopeError → Type 0 → Type 0
     IsRefusal e P = (e ≡ OutOfMemory) ⊎ ((e ≡ InvalidItemPayload) × P)

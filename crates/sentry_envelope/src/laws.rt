@@ -2,7 +2,7 @@
 ghost use Rattle.std.specs.Prelude.{◌≡◌, ◌↔◌, true};
 ghost use Rattle.sentry_envelope.specs.declared.envelope.Envelope.{Envelope as Envelopes};
 ghost use Rattle.sentry_envelope.specs.declared.headers.EnvelopeHeaders.{EnvelopeHeaders as Headers};
-ghost use Rattle.sentry_envelope.specs.EnvelopeAlike.{HasNoTree, AreEnvelopesAlike};
+ghost use Rattle.sentry_envelope.specs.EnvelopeAlike.{HasNoTree, HasStoredAddresses, AreEnvelopesAlike};
 ghost use Rattle.sentry_envelope.specs.HeaderFields.{headers_cell};
 ghost use Rattle.sentry_envelope.specs.EnvelopeLaws.{HasOneAnswer, EnvelopesReadBack, EnvelopesAreStable, EnvelopesHaveOneForm, EnvelopesAreRewritten, RewritingTwiceIsOnce, ShortTextsAreSized, NormalFormsAreSized, SpelledHaveOneForm};
 ghost use Rattle.sentry_envelope.specs.OneEnvelope.{HasOneEnvelope, TextsDrawNothing};
@@ -77,8 +77,10 @@ pub fn sized()
 {}
 
 /// Two headers are equal exactly where their fields are the same. Two envelopes without trees are equal exactly where
-/// their headers are the same, and their items alike one by one, or their bytes the same.
+/// their headers are the same, and their items alike one by one, or their bytes the same; addresses of users have numbers
+/// in range, as every address has in a program.
 pub fn equal_envelopes()
     ensures headers { (a b : Headers) → ⟦<EnvelopeHeaders as PartialEq>⟧.eq a b ≡ true ↔ (headers_cell a ≡ headers_cell b) }
-    ensures envelopes { (a b : Envelopes) → HasNoTree a → HasNoTree b → ⟦<Envelope as PartialEq>⟧.eq a b ≡ true ↔ AreEnvelopesAlike a b }
+    ensures envelopes { (a b : Envelopes) → HasNoTree a → HasNoTree b → HasStoredAddresses a → HasStoredAddresses b
+        → ⟦<Envelope as PartialEq>⟧.eq a b ≡ true ↔ AreEnvelopesAlike a b }
 {}

@@ -62,26 +62,30 @@ fn read_item<R: Rng>(
         ⊎ ((e ≡ EnvelopeError.InvalidItemPayload) × FrameIsRefused profile (frame_of frame.now))) }
 {
     let payload = frame.payload;
-    Ok(match header.kind {
-        ItemKind::Event => event(alloc, read_value_at(alloc, payload, now, ids, scratch)?)?,
-        ItemKind::SessionUpdate => {
-            EnvelopeItem::SessionUpdate(read_value_at(alloc, payload, now, ids, scratch)?)
-        }
-        ItemKind::SessionAggregates => {
-            EnvelopeItem::SessionAggregates(read_value(alloc, payload, scratch)?)
-        }
+    match header.kind {
+        ItemKind::Event => event(alloc, read_value_at(alloc, payload, now, ids, scratch)?),
+        ItemKind::SessionUpdate => Ok(EnvelopeItem::SessionUpdate(read_value_at(
+            alloc, payload, now, ids, scratch,
+        )?)),
+        ItemKind::SessionAggregates => Ok(EnvelopeItem::SessionAggregates(read_value(
+            alloc, payload, scratch,
+        )?)),
         ItemKind::Transaction => {
-            transaction(alloc, read_value_at(alloc, payload, now, ids, scratch)?)?
+            transaction(alloc, read_value_at(alloc, payload, now, ids, scratch)?)
         }
-        ItemKind::Attachment => EnvelopeItem::Attachment(attachment(alloc, payload, header)?),
-        ItemKind::MonitorCheckIn => {
-            EnvelopeItem::MonitorCheckIn(read_value(alloc, payload, scratch)?)
-        }
-        ItemKind::UserReport => EnvelopeItem::UserReport(read_value(alloc, payload, scratch)?),
-        ItemKind::ReplayRecording => {
-            EnvelopeItem::ReplayRecording(replay_recording(alloc, payload)?)
-        }
-    })
+        ItemKind::Attachment => Ok(EnvelopeItem::Attachment(attachment(
+            alloc, payload, header,
+        )?)),
+        ItemKind::MonitorCheckIn => Ok(EnvelopeItem::MonitorCheckIn(read_value(
+            alloc, payload, scratch,
+        )?)),
+        ItemKind::UserReport => Ok(EnvelopeItem::UserReport(read_value(
+            alloc, payload, scratch,
+        )?)),
+        ItemKind::ReplayRecording => Ok(EnvelopeItem::ReplayRecording(replay_recording(
+            alloc, payload,
+        )?)),
+    }
 }
 
 /// The value that a payload of JSON shows.
@@ -122,7 +126,7 @@ fn read_value_at<T: FromTreeAt, R: Rng>(
 
 /// The event as an item.
 fn event(alloc: Global, event: Event<'static>) -> Result<EnvelopeItem, EnvelopeError>
-    ensures ok { IfOk result (λ item. item_held item ≡ value kinds.Event (event_cell event)) }
+    ensures ok { IfOk result (λ item. item_held item ≡ value kinds.Event (event_cell event.entry)) }
     ensures err { IfErr result (λ e. e ≡ EnvelopeError.OutOfMemory) }
 {
     match EnvelopeItem::event(alloc, event) {
@@ -133,7 +137,7 @@ fn event(alloc: Global, event: Event<'static>) -> Result<EnvelopeItem, EnvelopeE
 
 /// The transaction as an item.
 fn transaction(alloc: Global, transaction: Transaction<'static>) -> Result<EnvelopeItem, EnvelopeError>
-    ensures ok { IfOk result (λ item. item_held item ≡ value kinds.Transaction (transaction_cell transaction)) }
+    ensures ok { IfOk result (λ item. item_held item ≡ value kinds.Transaction (transaction_cell transaction.entry)) }
     ensures err { IfErr result (λ e. e ≡ EnvelopeError.OutOfMemory) }
 {
     match EnvelopeItem::transaction(alloc, transaction) {
