@@ -4,7 +4,7 @@ ghost use Rattle.std.specs.Prelude.{◌≡◌, ◌∷◌, ◌++◌, [], false, S
 ghost use Rattle.serde_json.specs.Written.{compact_text, has_float};
 ghost use Rattle.sentry_tables.specs.Written.{tree};
 ghost use Rattle.sentry_framing.specs.Framing.{with_line};
-ghost use Rattle.sentry_envelope.specs.Envelope.{value, envelope_text, frame_by, frame_text, frame_of_item};
+ghost use Rattle.sentry_envelope.specs.Envelope.{value as content, envelope_text, frame_by, frame_text, frame_of_item};
 ghost use Rattle.sentry_envelope.specs.EnvelopeView.{item_view, AreReady, IsReady};
 ghost use Rattle.sentry_envelope.specs.HeaderFields.{header_kind, headers_cell};
 ghost use Rattle.sentry_envelope.specs.Profile.{json_form};
@@ -100,7 +100,7 @@ fn write_value<T: Member>(
 ) -> Result<(), AllocError>
     requires { line.old.items ≡ [] }
     ensures { OnOk result (has_float (tree T.kind (T.cell_of value.now)) ≡ false
-        → out.new.items ≡ out.old.items ++ frame_text (Some (frame_by (without_id word.now (json_form T.kind)) (value (T.cell_of value.now)))) []) }
+        → out.new.items ≡ out.old.items ++ frame_text (Some (frame_by (without_id word.now (json_form T.kind)) (content (T.cell_of value.now)))) []) }
 {
     payload.clear();
     write_text(value, payload)?;
