@@ -1,5 +1,5 @@
 -- The id of an event or a transaction: its normal form holds the same, and it may fill a header.
-use Rattle.std.proofs.Common.{◌≡◌, ℕ, List, [], ◌∷◌, Bool, true, false, cond, bytes_eq, Option, map, if◌then◌else◌, refl}
+use Rattle.std.proofs.Common.{◌≡◌, ℕ, List, [], ◌∷◌, Bool, true, false, cond, bytes_eq, Option, map, if◌then◌else◌, refl, ap, ◌∙◌}
 use Rattle.std.specs.Prelude.{is_some}
 use Rattle.sentry_tables.specs.Cell.{Cell, absent, octets, fields, Cells, no_cells, cell}
 use Rattle.sentry_tables.specs.Kind.{Rule, draw, Other, Kind, table, Rows, no_rows, row}
@@ -85,6 +85,10 @@ pub gives_id_or_none : (i : EnvelopeItem) → given_id (id_in (given_by item_typ
 unfolding event_fields transaction_fields
 gives_id_or_none (variants.Event e) = refl
 gives_id_or_none _ = refl
+
+pub given_of : (i : EnvelopeItem) (id : Option Uuid) → id ≡ id_of i → given_id id ≡ given_by item_types (item_view i)
+unfolding id_of
+given_of i id is = ap given_id is ∙ gives_id_or_none i
 
 choose : (given rest : Cell) (id : Option Uuid) → given_id (id_in given) ≡ given → rest ≡ given_id id → or_else given rest ≡ given_id (if is_some (id_in given) then id_in given else id)
 choose absent rest id is more = more

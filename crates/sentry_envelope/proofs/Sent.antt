@@ -10,7 +10,7 @@ use Rattle.sentry_tables.specs.Written.{tree}
 use Rattle.sentry_tables.proofs.Laws.{has_laws}
 use Rattle.sentry_framing.specs.Framing.{Frame, with_line}
 use Rattle.sentry_envelope.specs.EnvelopeView.{item_view, AreReady}
-use Rattle.sentry_envelope.specs.SentryProfile.{item_types, profile, without_id}
+use Rattle.sentry_envelope.specs.SentryProfile.{item_types, profile}
 use Rattle.sentry_envelope.specs.HeaderFields.{header_kind, fill_id}
 use Rattle.sentry_items.specs.Attached.{attachment_header, short_header}
 use Rattle.sentry_items.specs.HeaderTokens.{header_text}
@@ -20,7 +20,7 @@ use Rattle.sentry_items.specs.declared.replay_recording.ReplayRecording.{ReplayR
 use Rattle.sentry_items.specs.declared.item.EnvelopeItem.{EnvelopeItem}
 use Rattle.sentry_items.specs.declared.item.EnvelopeItem.TheVariants as variants
 use Rattle.sentry_envelope.specs.Profile.{json_form, ItemType, Profile, TypesAreLawful}
-use Rattle.sentry_envelope.specs.Envelope.{Item, item, raw, value, frame_by, frame_text, frame_of_item, items_text, envelope_text, stored_content, plain_content, ContentDemand, ContentMeetsAt, ItemsMeet}
+use Rattle.sentry_envelope.specs.Envelope.{Item, item, raw, value, frame_text, frame_of_item, items_text, envelope_text, stored_content, plain_content, ContentDemand, ContentMeetsAt, ItemsMeet}
 use Rattle.sentry_envelope.proofs.EnvelopeTypes.{IsAt, meets_at, frame_is, lawful_at}
 use Rattle.sentry_envelope.proofs.SentryProfile.{profile_lawful}
 
@@ -69,6 +69,17 @@ value_whole word K gives at H fill laws c stored plain =
     let own = (lawful_at at H fill laws).form in
     sound_without_float (tree K c) ((has_laws K own).written c (subst (λ X. X) (meets_at at stored_content (value c)) stored) (subst (λ X. X) (meets_at at plain_content (value c)) plain))
 
+-- a header that states a payload's length, and the payload
+abbrev pub value_text : List ℕ → List ℕ → List ℕ
+value_text word text = with_line (header_text (short_header word text)) (with_line text [])
+
+-- a value's text stands after the header that states its length
+pub frame_sent : {E : Type 0} (r : Result (Unit {0}) E) (old new line text : List ℕ) (word : List ℕ) (K : Kind) (c : Cell) → (has_float (tree K c) ≡ false → text ≡ compact_text (tree K c))
+    → line ≡ header_text (short_header word text) → OnOk r (new ≡ old ++ with_line line (with_line text []))
+    → OnOk r (has_float (tree K c) ≡ false → new ≡ old ++ value_text word (compact_text (tree K c)))
+frame_sent r old new line text word K c texts headed sent =
+    then_ok r _ _ (λ e whole. e ∙ ap (λ l. old ++ with_line l (with_line text [])) headed ∙ ap (λ t. old ++ value_text word t) (texts whole)) sent
+
 module _ {E : Type 0} (r : Result (Unit {0}) E) where
   abbrev Sends : List ℕ → List ℕ → EnvelopeItem → Type 0
   Sends old new i = OnOk r (AreReady (item_view i ∷ []) → new ≡ old ++ frame_text (frame_of_item profile (item_view i)) [])
@@ -89,12 +100,9 @@ module _ {E : Type 0} (r : Result (Unit {0}) E) where
 
   -- of a type whose payload is JSON of this kind
   module _ (n : ℕ) (word : List ℕ) (K : Kind) (gives : Cell → Cell) (at : IsAt item_types n (record { word = word; form = json_form K; gives = gives })) where
-    abbrev frame_of_value : Cell → Option Frame
-    frame_of_value c = Some (frame_by (without_id word (json_form K)) (value c))
-
     pub value_sent : (i : EnvelopeItem) (old new : List ℕ) (c : Cell) → item_view i ≡ item n (value c)
-        → OnOk r (has_float (tree K c) ≡ false → new ≡ old ++ frame_text (frame_of_value c) []) → Sends old new i
-    unfolding profile
+        → OnOk r (has_float (tree K c) ≡ false → new ≡ old ++ value_text word (compact_text (tree K c))) → Sends old new i
+    unfolding profile header_text
     value_sent i old new c is sent =
         subst (λ v. OnOk r (AreReady (v ∷ []) → new ≡ old ++ frame_text (frame_of_item profile v) [])) (sym is)
         (then_ok r _ _ (λ e ready. e (value_whole word K gives at header_kind fill_id profile_lawful.types c ready.0.0 ready.1.0) ∙ ap (λ f. old ++ frame_text f []) (sym (frame_is at (value c)))) sent)

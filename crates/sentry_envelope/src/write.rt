@@ -1,14 +1,15 @@
 //! The text of a structured envelope.
 
-ghost use Rattle.std.specs.Prelude.{◌≡◌, ◌∷◌, ◌++◌, [], false, Some, IfOk, OnOk, map};
+ghost use Rattle.std.specs.Prelude.{◌≡◌, ◌∷◌, ◌++◌, [], false, IfOk, OnOk, map};
 ghost use Rattle.serde_json.specs.Written.{compact_text, has_float};
 ghost use Rattle.sentry_tables.specs.Written.{tree};
 ghost use Rattle.sentry_framing.specs.Framing.{with_line};
-ghost use Rattle.sentry_envelope.specs.Envelope.{value as content, envelope_text, frame_by, frame_text, frame_of_item};
+ghost use Rattle.sentry_items.specs.Attached.{short_header};
+ghost use Rattle.sentry_items.specs.HeaderTokens.{header_text};
+ghost use Rattle.sentry_envelope.specs.Envelope.{envelope_text, frame_text, frame_of_item};
 ghost use Rattle.sentry_envelope.specs.EnvelopeView.{item_view, AreReady, IsReady};
 ghost use Rattle.sentry_envelope.specs.HeaderFields.{header_kind, headers_cell};
-ghost use Rattle.sentry_envelope.specs.Profile.{json_form};
-ghost use Rattle.sentry_envelope.specs.SentryProfile.{profile, without_id};
+ghost use Rattle.sentry_envelope.specs.SentryProfile.{profile};
 
 use crate::headers::EnvelopeHeaders;
 use sentry_items::EnvelopeItem;
@@ -100,7 +101,8 @@ fn write_value<T: Member>(
 ) -> Result<(), AllocError>
     requires { line.old.items ≡ [] }
     ensures { OnOk result (has_float (tree T.kind (T.cell_of value.now)) ≡ false
-        → out.new.items ≡ out.old.items ++ frame_text (Some (frame_by (without_id word.now (json_form T.kind)) (content (T.cell_of value.now)))) []) }
+        → out.new.items ≡ out.old.items ++ with_line (header_text (short_header word.now (compact_text (tree T.kind (T.cell_of value.now)))))
+          (with_line (compact_text (tree T.kind (T.cell_of value.now))) [])) }
 {
     payload.clear();
     write_text(value, payload)?;

@@ -6,7 +6,7 @@ use Rattle.sentry_envelope.proofs.write.write_item.Goals as goal
 
 pub returns-in-Event : goal.returns-in-Event
 returns-in-Event c =
-    value_sent c.write_value-in-Event.result 0 _ _ _ first c.args.item.now c.args.out.now.items c.write_value-in-Event.new.out.items _ (ap item_view c.in-Event.is) c.write_value-in-Event.ensures
+    value_sent c.write_value.result 0 _ _ _ first c.args.item.now c.args.out.now.items c.write_value.new.out.items _ (ap item_view c.in-Event.is) (rw c.as_ref.ensures at c.write_value.ensures)
 
 pub returns-in-SessionUpdate : goal.returns-in-SessionUpdate
 returns-in-SessionUpdate c =
@@ -18,7 +18,7 @@ returns-in-SessionAggregates c =
 
 pub returns-in-Transaction : goal.returns-in-Transaction
 returns-in-Transaction c =
-    value_sent c.write_value-in-Transaction.result 3 _ _ _ (later (later (later first))) c.args.item.now c.args.out.now.items c.write_value-in-Transaction.new.out.items _ (ap item_view c.in-Transaction.is) c.write_value-in-Transaction.ensures
+    value_sent c.write_value-in-Transaction.result 3 _ _ _ (later (later (later first))) c.args.item.now c.args.out.now.items c.write_value-in-Transaction.new.out.items _ (ap item_view c.in-Transaction.is) (rw c.as_ref-in-Transaction.ensures at c.write_value-in-Transaction.ensures)
 
 pub returns-in-MonitorCheckIn : goal.returns-in-MonitorCheckIn
 returns-in-MonitorCheckIn c =
