@@ -1,19 +1,34 @@
 -- An envelope meets a demand where its header and its items do.
-use Rattle.std.proofs.Common.{◌≡◌, ◌↔◌, ◌<◌, ◌^◌, ℕ, length, arith, Bool, true, false, sym, subst, ◌∙◌, IsTrue}
+use Rattle.std.proofs.Common.{◌≡◌, ◌↔◌, ◌<◌, ◌^◌, ℕ, [], ◌∷◌, length, arith, Bool, true, false, sym, subst, ◌∙◌, IsTrue}
 use Rattle.std.proofs.lemmas.Bool.{false≢true}
 use Rattle.std.specs.Prelude.{map, Vec, Option, Some, None, IsSomeAnd, IfSome}
 use Rattle.std.specs.declared.alloc.Global.{Global}
 use Rattle.sentry_tables.specs.Cell.{Cell}
 use Rattle.sentry_tables.specs.Meets.{IsPlain, IsStored}
+use Rattle.sentry_items.specs.Meets.{IsItemPlain, IsItemStored}
+use Rattle.sentry_items.specs.View.{item_held}
 use Rattle.sentry_items.specs.declared.item.EnvelopeItem.{EnvelopeItem}
+use Rattle.sentry_items.specs.declared.item.EnvelopeItem.TheVariants as item_variants
 use Rattle.sentry_envelope.specs.Envelope.{Envelope as Model, plain_content, stored_content, ItemsMeet, IsEnvelopePlain, IsEnvelopeSized, IsEnvelopeStored}
-use Rattle.sentry_envelope.specs.EnvelopeView.{item_view, header_of, structured, structured_by, held, held_in, Held, items, bytes, ready_by, HasReadyHeader, text_by, text_of}
+use Rattle.sentry_envelope.specs.EnvelopeView.{item_view, header_of, structured, structured_by, held, held_in, Held, items, bytes, ready_by, HasReadyParts, text_by, text_of}
 use Rattle.sentry_envelope.specs.HeaderFields.{header_kind}
 use Rattle.sentry_envelope.specs.SentryProfile.{item_types, profile}
 use Rattle.sentry_envelope.proofs.EnvelopeSized.{short}
 use Rattle.sentry_envelope.specs.declared.envelope.Contents.{Contents}
 use Rattle.sentry_envelope.specs.declared.envelope.Contents.TheVariants as variants
 use Rattle.sentry_envelope.specs.declared.envelope.Envelope.{Envelope}
+
+-- ---- one item
+
+pub item_plain : (i : EnvelopeItem) (r : Bool) → (IsTrue r ↔ IsItemPlain (item_held i)) → IsTrue r ↔ ItemsMeet plain_content item_types (item_view i ∷ [])
+item_plain item_variants.Raw r is = (λ t. tt, λ m. is.1 tt)
+item_plain _ r is = (λ t. (is.0 t, tt), λ m. is.1 m.0)
+
+pub item_stored : (i : EnvelopeItem) (r : Bool) → (IsTrue r → IsItemStored (item_held i)) → IsTrue r → ItemsMeet stored_content item_types (item_view i ∷ [])
+item_stored item_variants.Raw r is t = tt
+item_stored _ r is t = (is t, tt)
+
+-- ---- an envelope
 
 module _ (e : Envelope) (r : Bool) (items : Vec EnvelopeItem Global) (is : e.contents ≡ variants.Items items) where
   abbrev IsPlainIn : Contents → Type 0
@@ -38,14 +53,14 @@ module _ (e : Envelope) (r : Bool) (items : Vec EnvelopeItem Global) (is : e.con
   unfolding profile IsEnvelopePlain
   not_plain_header a isnt header none = subst (λ x. IsTrue r ↔ IsPlainIn x) (sym is) ((λ t. absurd (false≢true (sym none ∙ t))), (λ p. absurd (false≢true (sym isnt ∙ header.1 p.0))))
 
--- the header of an envelope that is plain and stored can be written
+-- the parts of an envelope that is plain and stored can be written
 ready_held : (h : Cell) (x : Held) → IsSomeAnd (structured_by h x) (IsEnvelopePlain profile) → IsSomeAnd (structured_by h x) (IsEnvelopeStored profile) → ready_by h x
 unfolding profile IsEnvelopePlain IsEnvelopeStored
-ready_held h (items is) p s = (s.0, p.0)
+ready_held h (items is) p s = ((s.0, p.0), (s.1, p.1))
 ready_held h (bytes b) p s = tt
 
-pub ready_header : (e : Envelope) (r : Bool) → (IsTrue r ↔ IsSomeAnd (structured e) (IsEnvelopePlain profile)) → (IsTrue r → IsSomeAnd (structured e) (IsEnvelopeStored profile)) → r ≡ true → HasReadyHeader e
-ready_header e r plain stored is = ready_held (header_of e) (held e) (plain.0 is) (stored is)
+pub ready_parts : (e : Envelope) (r : Bool) → (IsTrue r ↔ IsSomeAnd (structured e) (IsEnvelopePlain profile)) → (IsTrue r → IsSomeAnd (structured e) (IsEnvelopeStored profile)) → r ≡ true → HasReadyParts e
+ready_parts e r plain stored is = ready_held (header_of e) (held e) (plain.0 is) (stored is)
 
 -- what is told of a structured envelope holds where an envelope is structured
 if_structured : (m : Option Model) → IsSomeAnd m (IsEnvelopeStored profile) → IfSome m (IsEnvelopeStored profile)

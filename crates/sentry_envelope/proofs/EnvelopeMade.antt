@@ -1,39 +1,40 @@
 -- Envelopes made anew.
 use Rattle.std.specs.declared.alloc.Global.{Global}
-use Rattle.std.proofs.Common.{◌≡◌, ℕ, suc, length, ◌<◌, ◌≤◌, ◌+◌, List, [], ◌∷◌, ◌++◌, true, false, Option, Some, None, Result, Ok, Err, map, drop, drop-cons, add-one, get_or, append_assoc, refl, sym, ap, ap₂, ◌∙◌, subst, if◌then◌else◌}
+use Rattle.std.proofs.Common.{◌≡◌, ℕ, suc, length, ◌<◌, ◌≤◌, ◌+◌, List, [], ◌∷◌, ◌++◌, true, false, Option, Some, None, Result, Ok, Err, map, drop, drop-cons, add-one, get_or, append_assoc, refl, sym, ap, ap₂, ◌∙◌, subst}
 use Rattle.std.proofs.Math.ListN.{drop_of_length-le}
 use Rattle.std.proofs.lemmas.List.{append-nil, map-append}
 use Rattle.std.proofs.lemmas.Option.{same_Some}
-use Rattle.std.specs.Prelude.{IfOk, IfSome, IsSome, IsSomeAnd, is_some}
+use Rattle.std.specs.Prelude.{IfOk, IfSome, IsSome, IsSomeAnd}
 use Rattle.sentry_members.specs.Made.{made}
 use Rattle.sentry_members.specs.declared.way.Way.{Way}
 use Rattle.sentry_members.specs.declared.way.Way.TheVariants.{Same, Normal}
-use Rattle.sentry_tables.specs.Cell.{Cell, absent, octets}
+use Rattle.sentry_tables.specs.Cell.{Cell}
 use Rattle.sentry_items.specs.Made.{item_made}
-use Rattle.sentry_items.specs.View.{ItemView, attachment, replay_recording, raw as raw_view, item_held}
+use Rattle.sentry_items.specs.View.{item_held}
 use Rattle.sentry_items.specs.declared.item.EnvelopeItem.{EnvelopeItem}
+use Rattle.sentry_items.specs.declared.item.EnvelopeItem.TheVariants as item_variants
 use Rattle.uuid.specs.declared.Uuid.{Uuid}
-use Rattle.sentry_envelope.specs.Envelope.{Item, item, raw, Envelope as Model, given_by, or_else, first_id, envelope_text, envelope_norm, IsEnvelopeStored, IsEnvelopePlain, IsEnvelopeReadable, IsEnvelopeSized}
+use Rattle.sentry_envelope.specs.Envelope.{Item, item, raw, Envelope as Model, envelope_text, envelope_norm, IsEnvelopeStored, IsEnvelopePlain, IsEnvelopeReadable, IsEnvelopeSized}
 use Rattle.sentry_envelope.specs.EnvelopeMade.{stands, items_made, header_made, IsMadeBy, IsMade, IsNormalForm, SpellsAlone}
 use Rattle.sentry_envelope.specs.EnvelopeView.{Held, items, bytes, bytes_in, held, header_of, placed, item_view, structured, structured_by, raw_bytes, IsSame}
-use Rattle.sentry_envelope.specs.Filter.{id_in, id_of, first_id_of}
+use Rattle.sentry_envelope.specs.Filter.{first_id_of}
 use Rattle.sentry_envelope.specs.HeaderFields.{header_fields, header_kind, headers_cell, fill_id, given_id, put_id}
-use Rattle.sentry_envelope.specs.SentryProfile.{item_types, profile}
+use Rattle.sentry_envelope.specs.SentryProfile.{profile}
 use Rattle.sentry_envelope.specs.declared.envelope.Envelope.{Envelope}
 use Rattle.sentry_envelope.specs.declared.headers.EnvelopeHeaders.{EnvelopeHeaders}
 use Rattle.sentry_envelope.proofs.EnvelopeBack.{back}
 use Rattle.sentry_envelope.proofs.EnvelopeNormal.{stable}
+use Rattle.sentry_envelope.proofs.ItemIds.{first_given}
 use Rattle.sentry_envelope.proofs.SentryProfile.{profile_lawful}
 
 -- ---- items
 
 -- an item that stands in what is made, made anew, and then the others
-item_then : (way : Way) (v : ItemView) (is : List Item) → stands way (placed v) ≡ true → items_made way (placed v ∷ is) ≡ placed (item_made way v) ∷ items_made way is
+item_then : (way : Way) (x : EnvelopeItem) (is : List Item) → stands way (item_view x) ≡ true → items_made way (item_view x ∷ is) ≡ placed (item_made way (item_held x)) ∷ items_made way is
 unfolding stands items_made item_made
-item_then Same v is there = refl
-item_then (Normal alloc) (attachment a) is there = refl
-item_then (Normal alloc) (replay_recording b) is there = refl
-item_then (Normal alloc) raw_view is there = absurd cc
+item_then Same x is there = refl
+item_then (Normal alloc) item_variants.Raw is there = absurd cc
+item_then (Normal alloc) _ is there = refl
 
 -- one that does not, and then the others
 others_then : (way : Way) (i : Item) (is : List Item) → stands way i ≡ false → items_made way (i ∷ is) ≡ items_made way is
@@ -46,25 +47,6 @@ nothing_made : (way : Way) → items_made way [] ≡ []
 unfolding items_made
 nothing_made Same = refl
 nothing_made (Normal alloc) = refl
-
--- ---- ids
-
--- what an item gives is an id or nothing
-gives_id_or_none : (v : ItemView) → given_id (id_in (given_by item_types (placed v))) ≡ given_by item_types (placed v)
-gives_id_or_none (attachment a) = refl
-gives_id_or_none (replay_recording b) = refl
-gives_id_or_none raw_view = refl
-
-choose : (given rest : Cell) (id : Option Uuid) → given_id (id_in given) ≡ given → rest ≡ given_id id → or_else given rest ≡ given_id (if is_some (id_in given) then id_in given else id)
-choose absent rest id is more = more
-choose (octets own) rest id is more = refl
-choose _ rest id is more = absurd cc
-
--- the first id that items give
-first_given : (xs : List EnvelopeItem) → first_id item_types (map item_view xs) ≡ given_id (first_id_of xs)
-unfolding id_of
-first_given [] = refl
-first_given (x ∷ xs) = choose (given_by item_types (item_view x)) (first_id item_types (map item_view xs)) (first_id_of xs) (gives_id_or_none (item_held x)) (first_given xs)
 
 -- ---- headers
 
@@ -104,7 +86,7 @@ module _ (way : Way) (xs : List EnvelopeItem) (i : ℕ) (x : EnvelopeItem) (with
   one_made y new there made pushed so_far =
       let rest = items_made way (map item_view others) in
       ap (λ ys. map item_view ys ++ rest) pushed ∙ ap (λ ys. ys ++ rest) (map-append item_view done (y ∷ [])) ∙ append_assoc (map item_view done) (item_view y ∷ []) rest
-      ∙ ap (λ v. map item_view done ++ placed v ∷ rest) made ∙ ap (λ ys. map item_view done ++ ys) (sym (item_then way (item_held x) (map item_view others) there))
+      ∙ ap (λ v. map item_view done ++ placed v ∷ rest) made ∙ ap (λ ys. map item_view done ++ ys) (sym (item_then way x (map item_view others) there))
       ∙ ap (λ ys. map item_view done ++ items_made way (map item_view ys)) (sym first_is) ∙ so_far
 
   pub none_made : stands way (item_view x) ≡ false → map item_view done ++ items_made way (map item_view (drop i xs)) ≡ all → map item_view done ++ items_made way (map item_view others) ≡ all

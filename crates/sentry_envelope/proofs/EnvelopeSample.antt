@@ -1,5 +1,5 @@
--- The envelopes of Sentry with two more types of items, events and logs: each form of item, each rule of rows, an id that fills the header and
--- is drawn. The premises of the laws can be met.
+-- Envelopes with Sentry's header, of attachments, recordings, events of a few rows and logs of these: each form of item, each rule of rows, an
+-- id that fills the header and is drawn. The premises of the laws can be met.
 use Rattle.std.proofs.Common.{◌≡◌, ◌≤◌, ℕ, List, [], ◌∷◌, true, Some, codes, refl, sym, ◌∙◌, subst, arith, IsUtf8}
 use Rattle.std.proofs.lemmas.Option.{same_Some}
 use Rattle.serde_json.specs.Data.{Data, string, array, object, no_items, item, Members, no_members, member, depth}
@@ -11,22 +11,21 @@ use Rattle.sentry_tables.specs.Cell.{Cell, absent, octets, text, truth, fields, 
 use Rattle.sentry_tables.specs.Kind.{must, may, may_null, may_strict, default, always, draw, at_once, ignored, Kind, scalar, table, Rows, no_rows, row}
 use Rattle.sentry_tables.specs.Basic.{text_scalar, truth_scalar}
 use Rattle.sentry_tables.specs.Drawn.{NothingDrawn}
-use Rattle.sentry_tables.specs.Fields.{rows_of}
 use Rattle.sentry_tables.specs.Lawful.{is_ascii, IsLawful}
 use Rattle.sentry_tables.proofs.Basic.{text_laws, text_refuses_null, truth_laws, truth_refuses_null}
 use Rattle.sentry_tables.proofs.ByRows.{laws_by_rows}
 use Rattle.sentry_tables.proofs.Sound.{ascii_text}
-use Rattle.sentry_identifiers.specs.Uuids.{hyphenated, hyphenated_kind, IsUuid, IsRandomUuid}
-use Rattle.sentry_identifiers.proofs.UuidLaws.{drawn_uuid_laws, hyphenated_laws, uuid_normal}
+use Rattle.sentry_identifiers.specs.Uuids.{hyphenated, hyphenated_kind, IsRandomUuid}
+use Rattle.sentry_identifiers.proofs.UuidLaws.{drawn_uuid_laws, hyphenated_laws}
 use Rattle.sentry_moments.specs.MomentForms.{rfc3339_kind}
 use Rattle.sentry_moments.proofs.MomentSpellings.{rfc3339_at_once, rfc3339_scalar_laws}
-use Rattle.sentry_envelope.specs.HeaderFields.{header_fields, header_kind, header_in_order, fill_id}
+use Rattle.sentry_envelope.specs.HeaderFields.{header_kind, fill_id}
 use Rattle.sentry_envelope.specs.SentryProfile.{without_id}
 use Rattle.sentry_envelope.specs.OneEnvelope.{PayloadDrawsNothing, HasOneEnvelope}
 use Rattle.sentry_envelope.specs.Profile.{Form, attachment_form, opaque_form, json_form, container_form, container_kind, ItemType, Profile, FillLaws, GivesAlike, ProfileLaws}
 use Rattle.sentry_envelope.specs.EnvelopeLaws.{EnvelopeLaws}
 use Rattle.sentry_envelope.proofs.EnvelopeIds.{none_given}
-use Rattle.sentry_envelope.proofs.EnvelopeFill.{fill_place, place_fills}
+use Rattle.sentry_envelope.proofs.ItemIds.{id_fills}
 use Rattle.sentry_envelope.proofs.EnvelopeLaws.{envelope_laws}
 use Rattle.sentry_envelope.proofs.OneEnvelope.{one_envelope}
 use Rattle.sentry_envelope.proofs.SentryProfile.{header_lawful}
@@ -71,18 +70,6 @@ event_lawful =
 abbrev gives : Cell → Cell
 gives (fields (cell culprit (cell id cs)) other) = id
 gives _ = absent
-
--- it fills the second row of the header
-fills_second : (b : List ℕ) (h : Cell) → fill_id (octets b) h ≡ fill_place 1 (octets b) h
-fills_second b (fields (cell dsn (cell absent cs)) other) = refl
-fills_second b (fields (cell dsn (cell _ cs)) other) = refl
-fills_second b (fields (cell dsn no_cells) other) = refl
-fills_second b (fields no_cells other) = refl
-fills_second b _ = refl
-
-id_fills : (b : List ℕ) → IsUuid (octets b) → FillLaws header_kind fill_id (octets b)
-unfolding header_fields
-id_fills b is = place_fills (rows_of header_fields) header_in_order 1 (octets b) (uuid_normal hyphenated (octets b) is, (λ c. refl), refl) fill_id (fills_second b)
 
 event_gives : GivesAlike header_kind fill_id gives event
 event_gives (fields (cell culprit (cell (octets b) cs)) other) stored plain = (refl, id_fills b stored.0.1.0)

@@ -24,7 +24,7 @@ with_ready (Err e) P Q R f h = tt
 -- a header without fields is plain, and one that is plain is so with another id
 pub no_fields_plain : IsPlain header_kind no_fields
 unfolding header_fields
-no_fields_plain = ((tt, (tt, (tt, (tt, tt)))), (tt, refl))
+no_fields_plain = ((tt, (tt, (tt, (tt, (tt, tt))))), (tt, refl))
 
 pub put_plain : (id : Option Uuid) (h : Cell) → IsPlain header_kind h → IsPlain header_kind (put_id id h)
 unfolding header_fields

@@ -1,10 +1,12 @@
 -- What frames show, and what a reader of them has so far.
-use Rattle.std.proofs.Common.{◌≡◌, ◌≢◌, ℕ, List, [], ◌∷◌, ◌++◌, refl, sym, ap, subst}
-use Rattle.std.specs.Prelude.{map, Some}
+use Rattle.std.proofs.Common.{◌≡◌, ◌≢◌, ℕ, List, [], ◌∷◌, ◌++◌, inl, inr, refl, sym, ap, subst}
+use Rattle.std.specs.Prelude.{◌⊎◌, map, Some, Result, Ok, Err, IfOk}
 use Rattle.std.proofs.lemmas.List.{map-append}
 use Rattle.sentry_tables.specs.Cell.{Cell}
+use Rattle.sentry_tables.specs.Kind.{Kind}
+use Rattle.sentry_members.specs.Reading.{TextShown, TextRefused, TextShownAt, TextRefusedAt}
 use Rattle.sentry_items.specs.Attached.{Attached}
-use Rattle.sentry_items.specs.View.{attachment_view}
+use Rattle.sentry_items.specs.View.{value as value_view, attachment_view, item_held}
 use Rattle.sentry_items.specs.declared.attachment.Attachment.{Attachment}
 use Rattle.sentry_items.specs.declared.replay_recording.ReplayRecording.{ReplayRecording}
 use Rattle.sentry_items.specs.declared.item.EnvelopeItem.{EnvelopeItem}
@@ -12,28 +14,59 @@ use Rattle.sentry_items.specs.declared.item.EnvelopeItem.TheVariants as variants
 use Rattle.sentry_framing.specs.Framing.{Frame, IsFirstFrame, IsFault}
 use Rattle.sentry_envelope.specs.EnvelopeFault.{BodyIsAtFault, FrameIsRefused}
 use Rattle.sentry_envelope.specs.Envelope.{item, attached, opaque, reads, attached_by, ItemShows, ItemsStand}
-use Rattle.sentry_envelope.specs.EnvelopeView.{item_view}
+use Rattle.sentry_envelope.specs.EnvelopeView.{item_view, placed}
 use Rattle.sentry_framing.specs.HeaderView.{header_view}
 use Rattle.sentry_framing.specs.ItemHeader.{read_header, stated_length}
 use Rattle.sentry_framing.specs.ItemWords.{item_words, kind_place}
-use Rattle.sentry_envelope.specs.SentryProfile.{profile}
+use Rattle.sentry_envelope.specs.SentryProfile.{item_types, profile}
 use Rattle.sentry_framing.specs.declared.error.EnvelopeError.{EnvelopeError}
-use Rattle.sentry_framing.specs.declared.error.EnvelopeError.TheVariants.{InvalidItemPayload}
+use Rattle.sentry_framing.specs.declared.error.EnvelopeError.TheVariants.{InvalidItemPayload, OutOfMemory}
 use Rattle.sentry_framing.specs.declared.header.ItemHeader.{ItemHeader}
+use Rattle.sentry_framing.specs.declared.kind.ItemKind.{ItemKind}
 use Rattle.sentry_framing.specs.declared.kind.ItemKind.TheVariants as kinds
-use Rattle.sentry_envelope.proofs.EnvelopeReading.{attachment_shows, opaque_shows, items_snoc, body_fault, framing_is_first, payload_is_first}
+use Rattle.sentry_envelope.specs.Profile.{json_form}
+use Rattle.sentry_envelope.proofs.EnvelopeReading.{form_at, the_form, attachment_shows, opaque_shows, json_shows, json_refused, items_snoc, body_fault, framing_is_first, payload_is_first}
 use Rattle.sentry_envelope.proofs.SentryProfile.{profile_lawful}
 
 module _ (frame : Frame) (h : ItemHeader) (read : read_header item_words frame.header ≡ Some (header_view h)) (now : Cell) where
   pub attachment_read : h.kind ≡ kinds.Attachment → (a : Attachment) → attachment_view a ≡ attached_by (header_view h) frame.payload → ItemShows profile now frame (item_view (variants.Attachment a))
   unfolding profile
   attachment_read is a same =
-      subst (λ (x : Attached). ItemShows profile now frame (item 0 (attached x))) (sym same) (attachment_shows profile frame (header_view h) 0 read (ap kind_place is) refl now)
+      subst (λ (x : Attached). ItemShows profile now frame (item 4 (attached x))) (sym same) (attachment_shows profile frame (header_view h) 4 read (ap kind_place is) refl now)
 
   pub recording_read : h.kind ≡ kinds.ReplayRecording → (x : ReplayRecording) → x.buffer.items ≡ frame.payload → ItemShows profile now frame (item_view (variants.ReplayRecording x))
   unfolding profile
   recording_read is x same =
-      subst (λ (b : List ℕ). ItemShows profile now frame (item 1 (opaque b))) (sym same) (opaque_shows profile frame (header_view h) 1 read (ap kind_place is) refl now)
+      subst (λ (b : List ℕ). ItemShows profile now frame (item 7 (opaque b))) (sym same) (opaque_shows profile frame (header_view h) 7 read (ap kind_place is) refl now)
+
+  -- a payload of JSON that shows a value of the type shows the item, and one that shows none is refused
+  module _ (k : ItemKind) (K : Kind) (is : h.kind ≡ k) (form : form_at item_types (kind_place k) ≡ the_form (json_form K)) where
+    pub value_read_at : (c : Cell) (i : EnvelopeItem) → TextShownAt now K frame.payload c → item_held i ≡ value_view k c → ItemShows profile now frame (item_view i)
+    unfolding profile TextShownAt
+    value_read_at c i shown same =
+        subst (λ v. ItemShows profile now frame (placed v)) (sym same) (json_shows profile frame (header_view h) (kind_place k) read (ap kind_place is) K form now c shown)
+
+    pub value_read : (c : Cell) (i : EnvelopeItem) → TextShown K frame.payload c → item_held i ≡ value_view k c → ItemShows profile now frame (item_view i)
+    unfolding TextShown TextShownAt
+    value_read c i shown same = value_read_at c i (shown now) same
+
+    -- the same of a value that is put into a box, if there is memory
+    pub boxed_read_at : (c : Cell) (r : Result EnvelopeItem EnvelopeError) → TextShownAt now K frame.payload c → IfOk r (λ i. item_held i ≡ value_view k c) → IfOk r (λ i. ItemShows profile now frame (item_view i))
+    boxed_read_at c (Ok i) shown same = value_read_at c i shown same
+    boxed_read_at c (Err e) shown same = tt
+
+    abbrev IsRefusal : EnvelopeError → Type 0 → Type 0
+    IsRefusal e P = (e ≡ OutOfMemory) ⊎ ((e ≡ InvalidItemPayload) × P)
+
+    pub value_refused_at : (e : EnvelopeError) → IsRefusal e (TextRefusedAt now K frame.payload) → IsRefusal e (FrameIsRefused profile frame)
+    unfolding profile TextRefusedAt
+    value_refused_at e (inl memory) = inl memory
+    value_refused_at e (inr (misfit, none)) = inr (misfit, json_refused profile frame (header_view h) (kind_place k) read (ap kind_place is) profile_lawful now K form none)
+
+    pub value_refused : (e : EnvelopeError) → IsRefusal e (TextRefused K frame.payload) → IsRefusal e (FrameIsRefused profile frame)
+    unfolding TextRefused TextRefusedAt
+    value_refused e (inl memory) = inl memory
+    value_refused e (inr (misfit, none)) = value_refused_at e (inr (misfit, none now))
 
 -- a frame by the words of the items is one of the profile
 pub first_of_profile : (body : List ℕ) (frame : Frame) (rest : List ℕ) → IsFirstFrame (stated_length item_words) body frame rest → IsFirstFrame (reads profile) body frame rest

@@ -6,6 +6,7 @@ pub mod EnvelopeShown
 pub mod EnvelopeSized
 pub mod EnvelopeAnswers
 pub mod EnvelopeReading
+pub mod ItemIds
 pub mod SentryProfile
 pub mod ItemReads
 pub mod WholeReads

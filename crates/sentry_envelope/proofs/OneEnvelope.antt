@@ -1,27 +1,23 @@
 -- At each moment bytes spell at most one envelope, where nothing is drawn.
 use Rattle.std.proofs.Common.{◌≡◌, ℕ, zero, suc, List, [], ◌∷◌, Option, Some, refl, sym, ap, ap₂, ◌∙◌, subst}
-use Rattle.std.proofs.lemmas.List.Elements.{All-nil, All-cons, All-head, All-tail}
+use Rattle.std.proofs.lemmas.List.Elements.{All-head, All-tail}
 use Rattle.std.specs.List.{All}
 use Rattle.sentry_tables.specs.Cell.{Cell}
 use Rattle.sentry_tables.specs.Kind.{Kind}
-use Rattle.sentry_tables.specs.Drawn.{NothingDrawnInText, NeverDraws}
+use Rattle.sentry_tables.specs.Drawn.{NothingDrawnInText}
 use Rattle.sentry_tables.specs.Laws.{TextShows}
 use Rattle.sentry_tables.specs.Lawful.{IsLawful}
-use Rattle.sentry_tables.proofs.Drawn.{never_drawn_in_text}
 use Rattle.sentry_tables.proofs.Laws.{text_shows_one}
 use Rattle.sentry_framing.specs.Framing.{Frame, AreFrames, IsFramed}
 use Rattle.sentry_framing.specs.ItemHeader.{Header, read_header}
 use Rattle.sentry_framing.proofs.Verdicts.{same_first}
 use Rattle.sentry_envelope.specs.Profile.{Form, attachment_form, opaque_form, json_form, container_form, container_kind, ItemType, words, Profile, FormIsLawful, TypesAreLawful, ProfileLaws}
 use Rattle.sentry_envelope.specs.Envelope.{Content, value, Item, item, raw, IsValue, reads, ContentShows, ContentShowsAt, ItemShows, ItemsStand, first_id}
-use Rattle.sentry_envelope.specs.HeaderFields.{header_fields, header_kind}
-use Rattle.sentry_envelope.specs.OneEnvelope.{PayloadDrawsNothing, PayloadDrawsNothingAt, FrameDrawsNothing, NothingDrawnIn, FormNeverDraws, TypesNeverDraw, ProfileNeverDraws, HasOneEnvelope, AlwaysHasOneEnvelope}
-use Rattle.sentry_envelope.specs.SentryProfile.{profile}
+use Rattle.sentry_envelope.specs.OneEnvelope.{PayloadDrawsNothing, PayloadDrawsNothingAt, FrameDrawsNothing, NothingDrawnIn, HasOneEnvelope}
 use Rattle.sentry_envelope.proofs.EnvelopeAnswers.{some_remain}
 use Rattle.sentry_envelope.proofs.EnvelopeBack.{envelopes_same}
 use Rattle.sentry_envelope.proofs.EnvelopeLine.{same_line}
 use Rattle.sentry_envelope.proofs.EnvelopeShown.{container_lawful}
-use Rattle.sentry_parts.specs.ClientSdk.{package_fields, package_kind, sdk_fields, sdk_kind}
 
 -- ---- contents
 
@@ -93,47 +89,3 @@ one_envelope P laws bytes now e f drawn p q =
     let items : e.items ≡ f.items =
     items_single P laws now p.body (λ frames framed. drawn.items p.line p.body frames p.parts framed) e.items f.items p.items (subst (λ b. ItemsStand P now b f.items []) bodies q.items) in
     envelopes_same e f (p.header ∙ ap₂ P.fill (ap (first_id P.types) items) headers ∙ sym q.header) items
-
--- ---- profiles that never draw
-
-payload_never : (f : Form) → FormNeverDraws f → (payload : List ℕ) → PayloadDrawsNothing f payload
-payload_never attachment_form never payload = tt
-payload_never opaque_form never payload = tt
-payload_never (json_form K) never payload = never_drawn_in_text K never payload
-payload_never (container_form content_type K) never payload = never_drawn_in_text (container_kind K) (tt, never, tt) payload
-
-payload_never_at : (ts : List ItemType) → TypesNeverDraw ts → (n : ℕ) (payload : List ℕ) → PayloadDrawsNothingAt ts n payload
-payload_never_at [] never n payload = tt
-payload_never_at (t ∷ ts) never zero payload = payload_never t.form never.0 payload
-payload_never_at (t ∷ ts) never (suc n) payload = payload_never_at ts never.1 n payload
-
-of_each : {A : Type 0} (Q : A → Type 0) → ((a : A) → Q a) → (xs : List A) → All Q xs
-of_each Q point [] = All-nil Q
-of_each Q point (x ∷ xs) = All-cons Q x xs (point x) (of_each Q point xs)
-
-pub never_drawn_in : (P : Profile) → ProfileNeverDraws P → (bytes : List ℕ) → NothingDrawnIn P bytes
-never_drawn_in P never bytes = record {
-  header = λ line body parts. never_drawn_in_text P.header never.header line;
-  items = λ line body frames parts framed. of_each (FrameDrawsNothing P) (λ frame h read. payload_never_at P.types never.types h.kind frame.payload) frames;
-}
-
-pub always_one_envelope : (P : Profile) → ProfileLaws P → ProfileNeverDraws P → AlwaysHasOneEnvelope P
-always_one_envelope P laws never bytes now e f = one_envelope P laws bytes now e f (never_drawn_in P never bytes)
-
--- ---- the envelopes of Sentry
-
-package_never : NeverDraws package_kind
-unfolding package_fields
-package_never = search
-
-sdk_never : NeverDraws sdk_kind
-unfolding sdk_fields
-sdk_never = search package_never
-
-header_never : NeverDraws header_kind
-unfolding header_fields
-header_never = search sdk_never
-
-pub profile_never_draws : ProfileNeverDraws profile
-unfolding profile
-profile_never_draws = record { header = header_never; types = (tt, (tt, tt)) }

@@ -1,14 +1,17 @@
 -- The text of an envelope, item by item, and demands on items, item by item.
-use Rattle.std.proofs.Common.{◌≡◌, ◌+◌, ◌<◌, ℕ, suc, length, get_or, drop, drop-cons, add-one, List, [], ◌∷◌, ◌++◌, Option, Some, None, Result, refl, sym, ap, ◌∙◌, subst, append_assoc}
+use Rattle.std.proofs.Common.{◌≡◌, ◌+◌, ◌<◌, ℕ, suc, length, get_or, drop, drop-cons, add-one, List, [], ◌∷◌, ◌++◌, Option, Some, None, Result, Ok, Err, false, refl, sym, ap, ◌∙◌, subst, append_assoc}
 use Rattle.std.specs.Prelude.{codes, map, OnOk}
-use Rattle.serde_json.specs.Written.{compact_text}
+use Rattle.serde_json.specs.Written.{compact_text, has_float}
+use Rattle.sentry_json.proofs.Sound.{sound_without_float}
 use Rattle.sentry_json.specs.Line.{newline}
 use Rattle.sentry_tables.specs.Cell.{Cell}
+use Rattle.sentry_tables.specs.Kind.{Kind}
 use Rattle.sentry_tables.specs.Written.{tree}
+use Rattle.sentry_tables.proofs.Laws.{has_laws}
 use Rattle.sentry_framing.specs.Framing.{Frame, with_line}
-use Rattle.sentry_envelope.specs.EnvelopeView.{item_view}
-use Rattle.sentry_envelope.specs.SentryProfile.{profile}
-use Rattle.sentry_envelope.specs.HeaderFields.{header_kind}
+use Rattle.sentry_envelope.specs.EnvelopeView.{item_view, AreReady}
+use Rattle.sentry_envelope.specs.SentryProfile.{item_types, profile}
+use Rattle.sentry_envelope.specs.HeaderFields.{header_kind, fill_id}
 use Rattle.sentry_items.specs.Attached.{attachment_header, short_header}
 use Rattle.sentry_items.specs.HeaderTokens.{header_text}
 use Rattle.sentry_items.specs.View.{attachment_view}
@@ -16,8 +19,10 @@ use Rattle.sentry_items.specs.declared.attachment.Attachment.{Attachment}
 use Rattle.sentry_items.specs.declared.replay_recording.ReplayRecording.{ReplayRecording}
 use Rattle.sentry_items.specs.declared.item.EnvelopeItem.{EnvelopeItem}
 use Rattle.sentry_items.specs.declared.item.EnvelopeItem.TheVariants as variants
-use Rattle.sentry_envelope.specs.Profile.{ItemType, Profile}
-use Rattle.sentry_envelope.specs.Envelope.{Item, item, raw, frame_text, frame_of_item, items_text, envelope_text, ContentDemand, ItemsMeet}
+use Rattle.sentry_envelope.specs.Profile.{json_form, ItemType, Profile, TypesAreLawful}
+use Rattle.sentry_envelope.specs.Envelope.{Item, item, raw, value, frame_text, frame_of_item, items_text, envelope_text, stored_content, plain_content, ContentDemand, ContentMeetsAt, ItemsMeet}
+use Rattle.sentry_envelope.proofs.EnvelopeTypes.{IsAt, meets_at, frame_is, lawful_at}
+use Rattle.sentry_envelope.proofs.SentryProfile.{profile_lawful}
 
 -- a frame, and then what follows it
 pub frame_then : (f : Option Frame) (next : List ℕ) → frame_text f [] ++ next ≡ frame_text f next
@@ -45,9 +50,39 @@ module _ (G : ContentDemand) (ts : List ItemType) where
 
 -- ---- one item
 
+-- what follows from what holds where something was written, holds there
+then_ok : {E : Type 0} (r : Result (Unit {0}) E) (P Q : Type 0) → (P → Q) → OnOk r P → OnOk r Q
+then_ok (Ok u) P Q f h = f h
+then_ok (Err e) P Q f h = tt
+
+-- where items are ready, the first and the others are
+pub ready_first : (i : Item) (is : List Item) → AreReady (i ∷ is) → AreReady (i ∷ [])
+ready_first i is ready = (meet_first stored_content item_types i is ready.0, meet_first plain_content item_types i is ready.1)
+
+pub ready_rest : (i : Item) (is : List Item) → AreReady (i ∷ is) → AreReady is
+ready_rest i is ready = (meet_rest stored_content item_types i is ready.0, meet_rest plain_content item_types i is ready.1)
+
+-- no number in the tree of a value that is ready is held as a float
+value_whole : {ts : List ItemType} {n : ℕ} (word : List ℕ) (K : Kind) (gives : Cell → Cell) → IsAt ts n (record { word = word; form = json_form K; gives = gives }) → (H : Kind) (fill : Cell → Cell → Cell)
+    → TypesAreLawful H fill ts → (c : Cell) → ContentMeetsAt stored_content ts n (value c) → ContentMeetsAt plain_content ts n (value c) → has_float (tree K c) ≡ false
+value_whole word K gives at H fill laws c stored plain =
+    let own = (lawful_at at H fill laws).form in
+    sound_without_float (tree K c) ((has_laws K own).written c (subst (λ X. X) (meets_at at stored_content (value c)) stored) (subst (λ X. X) (meets_at at plain_content (value c)) plain))
+
+-- a header that states a payload's length, and the payload
+abbrev pub value_text : List ℕ → List ℕ → List ℕ
+value_text word text = with_line (header_text (short_header word text)) (with_line text [])
+
+-- a value's text stands after the header that states its length
+pub frame_sent : {E : Type 0} (r : Result (Unit {0}) E) (old new line text : List ℕ) (word : List ℕ) (K : Kind) (c : Cell) → (has_float (tree K c) ≡ false → text ≡ compact_text (tree K c))
+    → line ≡ header_text (short_header word text) → OnOk r (new ≡ old ++ with_line line (with_line text []))
+    → OnOk r (has_float (tree K c) ≡ false → new ≡ old ++ value_text word (compact_text (tree K c)))
+frame_sent r old new line text word K c texts headed sent =
+    then_ok r _ _ (λ e whole. e ∙ ap (λ l. old ++ with_line l (with_line text [])) headed ∙ ap (λ t. old ++ value_text word t) (texts whole)) sent
+
 module _ {E : Type 0} (r : Result (Unit {0}) E) where
   abbrev Sends : List ℕ → List ℕ → EnvelopeItem → Type 0
-  Sends old new i = OnOk r (new ≡ old ++ frame_text (frame_of_item profile (item_view i)) [])
+  Sends old new i = OnOk r (AreReady (item_view i ∷ []) → new ≡ old ++ frame_text (frame_of_item profile (item_view i)) [])
 
   -- a frame with this header was sent
   abbrev IsSent : List ℕ → List ℕ → List ℕ → List ℕ → Type 0
@@ -56,12 +91,21 @@ module _ {E : Type 0} (r : Result (Unit {0}) E) where
   pub attachment_sent : (i : EnvelopeItem) (old new header : List ℕ) (a : Attachment) → i ≡ variants.Attachment a → header ≡ header_text (attachment_header (codes "attachment") (attachment_view a))
       → IsSent old new header a.buffer.items → Sends old new i
   unfolding profile header_text
-  attachment_sent i old new header a is headed sent = subst (Sends old new) (sym is) (subst (λ h. IsSent old new h a.buffer.items) headed sent)
+  attachment_sent i old new header a is headed sent = subst (Sends old new) (sym is) (then_ok r _ _ (λ e ready. e) (subst (λ h. IsSent old new h a.buffer.items) headed sent))
 
   pub recording_sent : (i : EnvelopeItem) (old new header : List ℕ) (x : ReplayRecording) → i ≡ variants.ReplayRecording x → header ≡ header_text (short_header (codes "replay_recording") x.buffer.items)
       → IsSent old new header x.buffer.items → Sends old new i
   unfolding profile header_text
-  recording_sent i old new header x is headed sent = subst (Sends old new) (sym is) (subst (λ h. IsSent old new h x.buffer.items) headed sent)
+  recording_sent i old new header x is headed sent = subst (Sends old new) (sym is) (then_ok r _ _ (λ e ready. e) (subst (λ h. IsSent old new h x.buffer.items) headed sent))
+
+  -- of a type whose payload is JSON of this kind
+  module _ (n : ℕ) (word : List ℕ) (K : Kind) (gives : Cell → Cell) (at : IsAt item_types n (record { word = word; form = json_form K; gives = gives })) where
+    pub value_sent : (i : EnvelopeItem) (old new : List ℕ) (c : Cell) → item_view i ≡ item n (value c)
+        → OnOk r (has_float (tree K c) ≡ false → new ≡ old ++ value_text word (compact_text (tree K c))) → Sends old new i
+    unfolding profile header_text
+    value_sent i old new c is sent =
+        subst (λ v. OnOk r (AreReady (v ∷ []) → new ≡ old ++ frame_text (frame_of_item profile v) [])) (sym is)
+        (then_ok r _ _ (λ e ready. e (value_whole word K gives at header_kind fill_id profile_lawful.types c ready.0.0 ready.1.0) ∙ ap (λ f. old ++ frame_text f []) (sym (frame_is at (value c)))) sent)
 
 -- ---- an envelope
 
@@ -72,9 +116,14 @@ envelope_begun h is line out e f = ap (λ s. s ++ items_text profile is) (f ∙ 
 
 -- one item more is written
 pub item_written : (items : List EnvelopeItem) (i : ℕ) (x : EnvelopeItem) (done new all : List ℕ) → i < length items → x ≡ get_or items i x
-    → new ≡ done ++ frame_text (frame_of_item profile (item_view x)) [] → done ++ items_text profile (map item_view (drop i items)) ≡ all
-    → new ++ items_text profile (map item_view (drop (i + 1) items)) ≡ all
-item_written items i x done new all within is sent so_far =
+    → (AreReady (item_view x ∷ []) → new ≡ done ++ frame_text (frame_of_item profile (item_view x)) [])
+    → AreReady (map item_view (drop i items)) × (done ++ items_text profile (map item_view (drop i items)) ≡ all)
+    → AreReady (map item_view (drop (i + 1) items)) × (new ++ items_text profile (map item_view (drop (i + 1) items)) ≡ all)
+item_written items i x done new all within is sent (ready, so_far) =
     let others = drop (i + 1) items in
     let first : drop i items ≡ x ∷ others = rw add-one (drop-cons items i x within ∙ ap (λ y. y ∷ drop (suc i) items) (sym is)) in
-    ap (λ s. s ++ items_text profile (map item_view others)) sent ∙ item_then profile done (item_view x) (map item_view others) ∙ ap (λ xs. done ++ items_text profile (map item_view xs)) (sym first) ∙ so_far
+    let now_ready : AreReady (item_view x ∷ map item_view others) = subst (λ xs. AreReady (map item_view xs)) first ready in (
+      ready_rest (item_view x) (map item_view others) now_ready,
+      ap (λ s. s ++ items_text profile (map item_view others)) (sent (ready_first (item_view x) (map item_view others) now_ready)) ∙ item_then profile done (item_view x) (map item_view others)
+      ∙ ap (λ xs. done ++ items_text profile (map item_view xs)) (sym first) ∙ so_far,
+    )

@@ -1,32 +1,23 @@
 -- What a whole reading knows: of the header line, and of the items.
-use Rattle.std.proofs.Common.{◌≡◌, ℕ, List, [], ◌∷◌, refl, sym, ap, ◌∙◌, inl, inr, arith}
+use Rattle.std.proofs.Common.{◌≡◌, ℕ, List, [], refl, sym, ap, ◌∙◌, inl, inr, arith}
 use Rattle.std.specs.Prelude.{map}
-use Rattle.sentry_tables.specs.Cell.{Cell, absent}
+use Rattle.sentry_tables.specs.Cell.{Cell}
 use Rattle.sentry_items.specs.declared.item.EnvelopeItem.{EnvelopeItem}
-use Rattle.sentry_items.specs.declared.item.EnvelopeItem.TheVariants as variants
 use Rattle.sentry_framing.specs.Framing.{IsLineAndBody}
-use Rattle.sentry_envelope.specs.Envelope.{Envelope, ItemsStand, Spells, given_by, or_else, first_id, envelope_text, envelope_norm, IsEnvelopeStored, IsEnvelopePlain}
+use Rattle.sentry_envelope.specs.Envelope.{Envelope, ItemsStand, Spells, envelope_text, envelope_norm, IsEnvelopeStored, IsEnvelopePlain}
 use Rattle.sentry_envelope.specs.EnvelopeFault.{BodyIsAtFault, Fault}
 use Rattle.sentry_envelope.specs.EnvelopeView.{item_view}
 use Rattle.sentry_moments.specs.Moments.{moment_cell}
-use Rattle.sentry_envelope.specs.HeaderFields.{header_kind, fill_id}
+use Rattle.sentry_envelope.specs.HeaderFields.{header_kind, fill_id, given_id}
+use Rattle.sentry_envelope.specs.Filter.{first_id_of}
 use Rattle.sentry_members.specs.Reading.{TextShown, TextRefused}
-use Rattle.sentry_envelope.specs.SentryProfile.{item_types, profile}
+use Rattle.sentry_envelope.specs.SentryProfile.{profile}
 use Rattle.sentry_framing.specs.declared.error.EnvelopeError.{EnvelopeError}
 use Rattle.sentry_framing.specs.declared.error.EnvelopeError.TheVariants.{InvalidHeader}
 use Rattle.sentry_moments.specs.declared.moment.Moment.{Moment}
 use Rattle.sentry_envelope.proofs.EnvelopeLaws.{envelope_laws}
+use Rattle.sentry_envelope.proofs.ItemIds.{first_given}
 use Rattle.sentry_envelope.proofs.SentryProfile.{profile_lawful}
-
--- no item gives an id
-pub gives_none : (i : EnvelopeItem) → given_by item_types (item_view i) ≡ absent
-gives_none (variants.Attachment a) = refl
-gives_none (variants.ReplayRecording r) = refl
-gives_none variants.Raw = refl
-
-none_of_them : (items : List EnvelopeItem) → first_id item_types (map item_view items) ≡ absent
-none_of_them [] = refl
-none_of_them (i ∷ items) = ap (λ c. or_else c (first_id item_types (map item_view items))) (gives_none i) ∙ none_of_them items
 
 module _ (bytes line body : List ℕ) (parts : IsLineAndBody bytes line body) where
   pub line_at_fault : TextRefused header_kind line → Fault profile bytes InvalidHeader
@@ -37,15 +28,17 @@ module _ (bytes line body : List ℕ) (parts : IsLineAndBody bytes line body) wh
   unfolding profile TextShown
   body_at_fault c x shown fault = record { line = line; body = body; parts = parts; first = inr ((λ now. (c, shown now)), fault) }
 
-  pub whole_spelled : (now c : Cell) (items : List EnvelopeItem) → TextShown header_kind line c → ItemsStand profile now body (map item_view items) [] → Spells profile bytes now (record { header = c; items = map item_view items })
+  -- the header is filled by the first id among the items
+  pub whole_spelled : (now c h : Cell) (items : List EnvelopeItem) → TextShown header_kind line c → ItemsStand profile now body (map item_view items) [] → h ≡ fill_id (given_id (first_id_of items)) c
+      → Spells profile bytes now (record { header = h; items = map item_view items })
   unfolding profile TextShown
-  whole_spelled now c items shown stand = record {
+  whole_spelled now c h items shown stand filled = record {
     line = line;
     body = body;
     shown = c;
     parts = parts;
     line_shows = shown now;
-    header = sym (ap (λ id. fill_id id c) (none_of_them items));
+    header = filled ∙ ap (λ id. fill_id id c) (sym (first_given items));
     items = stand;
   }
 

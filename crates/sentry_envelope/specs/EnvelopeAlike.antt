@@ -1,6 +1,6 @@
 -- Which envelopes `==` does not tell apart.
 use Rattle.std.specs.Prelude.{◌≡◌, List, [], ◌∷◌, ⊤}
-use Rattle.sentry_items.specs.Alike.{HoldsNoTree, AreAlike}
+use Rattle.sentry_items.specs.Alike.{HasStoredAddress, HoldsNoTree, AreAlike}
 use Rattle.sentry_items.specs.View.{item_held}
 use Rattle.sentry_items.specs.declared.item.EnvelopeItem.{EnvelopeItem}
 use Rattle.sentry_envelope.specs.EnvelopeView.{header_of, items_in}
@@ -15,6 +15,14 @@ EachHoldsNoTree (item ∷ items) = HoldsNoTree (item_held item) × EachHoldsNoTr
 -- no tree of JSON stands in its items: of `==` on trees nothing is said
 abbrev pub HasNoTree : Envelope → Type 0
 HasNoTree e = EachHoldsNoTree (items_in e.contents)
+
+abbrev pub EachHasStoredAddress : List EnvelopeItem → Type 0
+EachHasStoredAddress [] = ⊤
+EachHasStoredAddress (item ∷ items) = HasStoredAddress item × EachHasStoredAddress items
+
+-- the addresses of users that its items tell have numbers in range, as every address of a program
+abbrev pub HasStoredAddresses : Envelope → Type 0
+HasStoredAddresses e = EachHasStoredAddress (items_in e.contents)
 
 -- as many items, alike one by one
 abbrev pub EachAlike : List EnvelopeItem → List EnvelopeItem → Type 0

@@ -4,9 +4,13 @@ use Rattle.sentry_tables.specs.Cell.{Cell, absent, fields, no_cells, cell}
 use Rattle.serde_json.specs.Data.{no_members}
 use Rattle.sentry_tables.specs.Kind.{Kind}
 use Rattle.sentry_tables.specs.Meets.{IsPlain, IsStored}
-use Rattle.sentry_items.specs.View.{ItemView, attachment, replay_recording, raw as raw_view, item_held}
+use Rattle.sentry_event.specs.declared.event.Event.{Event}
+use Rattle.sentry_framing.specs.ItemWords.{kind_place}
+use Rattle.sentry_items.specs.View.{ItemView, attachment, replay_recording, value as value_view, raw as raw_view, item_held}
 use Rattle.sentry_items.specs.declared.item.EnvelopeItem.{EnvelopeItem}
-use Rattle.sentry_envelope.specs.Envelope.{Item, item, raw, attached, opaque, Envelope as Model, given_by, envelope_text, IsEnvelopePlain}
+use Rattle.sentry_items.specs.declared.item.EnvelopeItem.TheVariants as item_variants
+use Rattle.sentry_framing.specs.declared.kind.ItemKind.TheVariants as kinds
+use Rattle.sentry_envelope.specs.Envelope.{Item, item, raw, attached, opaque, value, Envelope as Model, given_by, envelope_text, stored_content, plain_content, ItemsMeet, IsEnvelopePlain}
 use Rattle.sentry_envelope.specs.HeaderFields.{header_kind, headers_cell, fill_id}
 use Rattle.sentry_envelope.specs.SentryProfile.{item_types, profile}
 use Rattle.uuid.specs.declared.Uuid.{Uuid}
@@ -18,8 +22,9 @@ use Rattle.sentry_envelope.specs.declared.envelope.AddRefused.TheVariants as ref
 
 -- what an item holds, at the place of its type
 abbrev pub placed : ItemView → Item
-placed (attachment a) = item 0 (attached a)
-placed (replay_recording b) = item 1 (opaque b)
+placed (attachment a) = item (kind_place kinds.Attachment) (attached a)
+placed (replay_recording b) = item (kind_place kinds.ReplayRecording) (opaque b)
+placed (value_view k c) = item (kind_place k) (value c)
 placed raw_view = raw
 
 abbrev pub item_view : EnvelopeItem → Item
@@ -76,13 +81,17 @@ text_of e = text_by (header_of e) (held e)
 abbrev pub IsReady : Kind → Cell → Type 0
 IsReady K c = IsStored K c × IsPlain K c
 
--- the header can be written, where there are items
+-- the same of each value in the items
+abbrev pub AreReady : List Item → Type 0
+AreReady is = ItemsMeet stored_content item_types is × ItemsMeet plain_content item_types is
+
+-- where there are items, the header and they can be written
 abbrev pub ready_by : Cell → Held → Type 0
-ready_by h (items is) = IsReady header_kind h
+ready_by h (items is) = IsReady header_kind h × AreReady is
 ready_by h (bytes b) = ⊤
 
-abbrev pub HasReadyHeader : Envelope → Type 0
-HasReadyHeader e = ready_by (header_of e) (held e)
+abbrev pub HasReadyParts : Envelope → Type 0
+HasReadyParts e = ready_by (header_of e) (held e)
 
 -- it is structured and isn't plain
 abbrev pub IsUnwritable : Envelope → Type 0
@@ -96,10 +105,16 @@ items_in (variants.Raw b) = []
 abbrev pub items_of : Envelope → List EnvelopeItem
 items_of e = items_in e.contents
 
+-- the first event among items
+abbrev pub first_event : List EnvelopeItem → Option Event
+first_event [] = None
+first_event (item_variants.Event event ∷ is) = Some event.value
+first_event (_ ∷ is) = first_event is
+
 -- ---- making one
 
 abbrev pub no_fields : Cell
-no_fields = fields (cell absent (cell absent (cell absent (cell absent no_cells)))) no_members
+no_fields = fields (cell absent (cell absent (cell absent (cell absent (cell absent no_cells))))) no_members
 
 abbrev pub empty : Model
 empty = record { header = no_fields; items = [] }

@@ -13,6 +13,8 @@ use Rattle.sentry_moments.specs.MomentForms.{rfc3339_kind}
 use Rattle.sentry_moments.specs.Moments.{moment_cell}
 use Rattle.sentry_moments.specs.declared.moment.Moment.{Moment}
 use Rattle.sentry_parts.specs.ClientSdk.{sdk_kind, sdk_cell}
+use Rattle.sentry_records.specs.Sampling.{sampling_kind, sampling_cell}
+use Rattle.sentry_records.specs.declared.sampling.DynamicSamplingContext.{DynamicSamplingContext}
 use Rattle.sentry_envelope.specs.declared.headers.EnvelopeHeaders.{EnvelopeHeaders}
 use Rattle.uuid.specs.declared.Uuid.{Uuid}
 
@@ -26,6 +28,7 @@ header_fields =
     ∷ field (codes "event_id") may hyphenated_kind (λ h. id_cell h.event_id)
     ∷ field (codes "sdk") may sdk_kind (λ h. option_cell sdk_cell h.sdk)
     ∷ field (codes "sent_at") may_strict rfc3339_kind (λ h. option_cell moment_cell h.sent_at)
+    ∷ field (codes "trace") may sampling_kind (λ h. option_cell sampling_cell h.trace)
     ∷ []
 
 abbrev pub header_kind : Kind
@@ -67,3 +70,9 @@ put_sdk s h = h
 abbrev pub put_sent_at : Moment → Cell → Cell
 put_sent_at m (fields (cell dsn (cell id (cell s (cell c cs)))) other) = fields (cell dsn (cell id (cell s (cell (present (moment_cell m)) cs)))) other
 put_sent_at m h = h
+
+-- the header with what its trace is sampled by
+abbrev pub put_trace : DynamicSamplingContext → Cell → Cell
+put_trace t (fields (cell dsn (cell id (cell sdk (cell sent (cell c cs))))) other) =
+    fields (cell dsn (cell id (cell sdk (cell sent (cell (present (sampling_cell t)) cs))))) other
+put_trace t h = h

@@ -2,7 +2,7 @@
 use Rattle.std.specs.Prelude.{◌≡◌, ℕ, zero, suc, List, [], ◌∷◌, Some, ⊤}
 use Rattle.std.specs.List.{All}
 use Rattle.sentry_tables.specs.Cell.{Cell}
-use Rattle.sentry_tables.specs.Drawn.{NothingDrawnInText, NeverDraws}
+use Rattle.sentry_tables.specs.Drawn.{NothingDrawnInText}
 use Rattle.sentry_framing.specs.Framing.{Frame, IsLineAndBody, IsFramed}
 use Rattle.sentry_framing.specs.ItemHeader.{Header, read_header}
 use Rattle.sentry_envelope.specs.Profile.{Form, attachment_form, opaque_form, json_form, container_form, container_kind, ItemType, words, Profile}
@@ -32,31 +32,11 @@ pub record NothingDrawnIn (P : Profile) (bytes : List ℕ) : Type 0 where
   pub header : (line body : List ℕ) → IsLineAndBody bytes line body → NothingDrawnInText P.header line
   pub items : (line body : List ℕ) (frames : List Frame) → IsLineAndBody bytes line body → IsFramed (reads P) body frames → All (FrameDrawsNothing P) frames
 
--- ---- profiles that never draw
-
-abbrev pub FormNeverDraws : Form → Type 0
-FormNeverDraws attachment_form = ⊤
-FormNeverDraws opaque_form = ⊤
-FormNeverDraws (json_form K) = NeverDraws K
-FormNeverDraws (container_form content_type K) = NeverDraws K
-
-abbrev pub TypesNeverDraw : List ItemType → Type 0
-TypesNeverDraw [] = ⊤
-TypesNeverDraw (t ∷ ts) = FormNeverDraws t.form × TypesNeverDraw ts
-
-pub record ProfileNeverDraws (P : Profile) : Type 0 where
-  pub header : NeverDraws P.header
-  pub types : TypesNeverDraw P.types
-
 -- ---- the law
 
 -- At each moment bytes in which nothing is drawn spell at most one envelope.
 abbrev pub HasOneEnvelope : Profile → Type 0
 HasOneEnvelope P = (bytes : List ℕ) (now : Cell) (e f : Envelope) → NothingDrawnIn P bytes → Spells P bytes now e → Spells P bytes now f → e ≡ f
-
--- At each moment any bytes spell at most one envelope.
-abbrev pub AlwaysHasOneEnvelope : Profile → Type 0
-AlwaysHasOneEnvelope P = (bytes : List ℕ) (now : Cell) (e f : Envelope) → Spells P bytes now e → Spells P bytes now f → e ≡ f
 
 -- Nothing is drawn in the text of an envelope that is read back.
 abbrev pub TextsDrawNothing : Profile → Type 0

@@ -1,6 +1,7 @@
 //! Envelopes.
 use crate::error::EnvelopeWriteError;
 use crate::file::read_file;
+use crate::filtering::{first_event, first_id, gives_id};
 use crate::headers::{EnvelopeHeaders, read_header_line};
 use crate::items::{EnvelopeItemIter, IntoItems};
 use crate::plain::items_are_plain;
@@ -8,6 +9,7 @@ use crate::read::read_items;
 use crate::write::write_envelope;
 use json::Scratch;
 use rand_core::Rng;
+use sentry_event::Event;
 use sentry_framing::{EnvelopeError, Frames};
 use sentry_items::EnvelopeItem;
 use sentry_items::counted::{CountedWriter, send, send_plain};
@@ -54,7 +56,7 @@ impl Envelope {
     ghost use Rattle.sentry_envelope.specs.Envelope.{Envelope as Model, IsEnvelopePlain, IsEnvelopeSized, IsEnvelopeStored, Spells, envelope_text, envelope_norm};
     ghost use Rattle.sentry_envelope.specs.EnvelopeFault.{Fault};
     ghost use Rattle.sentry_moments.specs.Moments.{moment_cell};
-    ghost use Rattle.sentry_envelope.specs.EnvelopeView.{held, header_of, event_id_of, structured, raw_bytes, IsSame, item_view, items_of, with_item, empty, no_fields, refused_item, text_of, HasReadyHeader, IsUnwritable};
+    ghost use Rattle.sentry_envelope.specs.EnvelopeView.{held, header_of, event_id_of, structured, raw_bytes, IsSame, item_view, items_of, first_event, with_item, empty, no_fields, refused_item, text_of, HasReadyParts, IsUnwritable};
     ghost use Rattle.sentry_envelope.specs.HeaderFields.{headers_cell};
     ghost use Rattle.sentry_envelope.specs.ItemsLeft.{items_left, owned_items_left};
     ghost use Rattle.sentry_envelope.specs.SentryProfile.{profile};
@@ -110,9 +112,10 @@ impl Envelope {
     /// The first check of the bytes, in order, that fails:
     ///
     /// - `InvalidHeader`: the first line isn't one JSON object without floats with `event_id` absent, null, or a UUID's
-    ///   text in any of its forms; `dsn` absent, null, or a DSN's text; `sent_at` absent, or an RFC 3339 text; and `sdk`
+    ///   text in any of its forms; `dsn` absent, null, or a DSN's text; `sent_at` absent, or an RFC 3339 text; `sdk`
     ///   absent, null, or an object with texts `name` and `version` and, where given, a list of texts `integrations` and
-    ///   a list `packages` of objects with texts `name` and `version`. Other keys are ignored.
+    ///   a list `packages` of objects with texts `name` and `version`; and `trace` absent, null, or an object whose
+    ///   fields `DynamicSamplingContext` reads. Other keys are ignored.
     /// - `UnexpectedEof`, `InvalidItemHeader` and `MissingNewline`: a frame's framing, as `Frames::next_frame` says.
     /// - `InvalidItemPayload`: a payload isn't read as its item's type.
     /// - `OutOfMemory`: memory was refused.
@@ -121,7 +124,7 @@ impl Envelope {
         alloc: Global,
         bytes: &[u8],
         now: Moment,
-        _ids: &mut R,
+        ids: &mut R,
     ) -> Result<Envelope, EnvelopeError>
         ensures spelled { IfOk result (λ e. IsSomeAnd (structured e) (Spells profile bytes.now (moment_cell now))) }
         ensures stored { IfOk result (λ e. IsSomeAnd (structured e) (λ m. IsEnvelopeStored profile m × IsEnvelopePlain profile m)) }
@@ -131,9 +134,9 @@ impl Envelope {
         let mut frames = Frames::new(bytes);
         let mut scratch = Scratch::new(alloc);
         let headers = read_header_line(alloc, frames.header_line(), &mut scratch)?;
-        let items = read_items(alloc, &mut frames, now, &mut scratch)?;
+        let items = read_items(alloc, &mut frames, now, ids, &mut scratch)?;
         Ok(Envelope {
-            headers,
+            headers: headers.filled(first_id(&items)),
             contents: Contents::Items(items),
         })
     }
@@ -189,6 +192,7 @@ impl Envelope {
     /// - `RawEnvelope`: the envelope is raw, and the item is not `Raw`. A raw envelope always takes a `Raw` item, which
     ///   adds nothing.
     /// - `Memory`: memory was refused.
+    #[tactic(auto, using(crate::proofs::ItemIds::given_of))]
     pub fn add_item(&mut self, item: EnvelopeItem) -> Result<(), AddRefused>
         ensures added { (old : Model) → structured self.old ≡ Some old → OnOk result (structured self.new ≡ Some (with_item old (item_view item))) }
         ensures raw_envelope { (result ≡ Err (AddRefused.RawEnvelope item)) ↔ (IsSome (raw_bytes self.old) × (item ≢ EnvelopeItem.Raw)) }
@@ -198,10 +202,16 @@ impl Envelope {
         ensures handed_back { IfErr result (λ refused. refused_item refused ≡ item) }
     {
         match &mut self.contents {
-            Contents::Items(items) => match items.push(item) {
-                Ok(()) => Ok(()),
-                Err(AllocFailed { value }) => Err(AddRefused::Memory(value)),
-            },
+            Contents::Items(items) => {
+                let id = gives_id(&item);
+                match items.push(item) {
+                    Ok(()) => {
+                        self.headers.fill(id);
+                        Ok(())
+                    }
+                    Err(AllocFailed { value }) => Err(AddRefused::Memory(value)),
+                }
+            }
             Contents::Raw(_) => match item {
                 EnvelopeItem::Raw => Ok(()),
                 item => Err(AddRefused::RawEnvelope(item)),
@@ -233,6 +243,16 @@ impl Envelope {
         ensures { option_map (λ id. id.now) result ≡ event_id_of self.now }
     {
         self.headers.event_id()
+    }
+
+    /// The first event among the items. A raw envelope gives none.
+    pub fn event(&self) -> Option<&Event<'static>>
+        ensures { option_map (λ event. event.now) result ≡ first_event (items_of self.now) }
+    {
+        match &self.contents {
+            Contents::Items(items) => first_event(items),
+            Contents::Raw(_) => None,
+        }
     }
 
     /// The items in order. Those of a raw envelope are not known, and none is given.
@@ -275,7 +295,7 @@ impl Envelope {
 
     /// The text that is written: of a structured envelope its header line and then its items, and of a raw one its bytes.
     pub(crate) fn write_text(&self, alloc: Global) -> Result<Vec<u8>, AllocError>
-        ensures { IfOk result (λ text. HasReadyHeader self.now → text.items ≡ text_of self.now) }
+        ensures { IfOk result (λ text. HasReadyParts self.now → text.items ≡ text_of self.now) }
     {
         match &self.contents {
             Contents::Items(items) => write_envelope(alloc, &self.headers, items),
@@ -284,10 +304,10 @@ impl Envelope {
     }
 
     /// Whether the envelope is structured, and can't be written.
-    #[tactic(auto, using(crate::proofs::Demands::ready_header, crate::proofs::Demands::stored_where_structured))]
+    #[tactic(auto, using(crate::proofs::Demands::ready_parts, crate::proofs::Demands::stored_where_structured))]
     fn is_unwritable(&self) -> bool
         ensures exactly { IsTrue result ↔ IsUnwritable self.now }
-        ensures ready { result ≡ false → HasReadyHeader self.now }
+        ensures ready { result ≡ false → HasReadyParts self.now }
         ensures stored { result ≡ false → IfSome (structured self.now) (IsEnvelopeStored profile) }
     {
         match &self.contents {

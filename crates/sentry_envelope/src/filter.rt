@@ -1,10 +1,11 @@
 //! What is asked about the items of an envelope.
 
+use crate::called::{Asked, Given};
 use sentry_items::EnvelopeItem;
 
 /// What is asked about each item of an envelope, and given the items that go.
 ///
-/// A closure `FnMut(&EnvelopeItem) -> bool` is a filter, and drops the items that go.
+/// A closure `FnMut(&EnvelopeItem) -> bool` is a filter, and drops the items that go: closures are [`Asked`].
 /// [`EnvelopeFilterCallbacks`] is one of two closures.
 ///
 /// The calls are those of Sentry's own crate `sentry-types`:
@@ -40,24 +41,22 @@ pub trait EnvelopeFilter: Drop {
     ghost hand_keeps: { (first : Self) (item : EnvelopeItem) (next : Self) → can_filter first → hand first item next → can_filter next };
 }
 
-impl<F: FnMut(&EnvelopeItem) -> bool> EnvelopeFilter for F {
-    ghost use Rattle.std.specs.Prelude.{◌≡◌, refl};
+impl<F: Asked<EnvelopeItem>> EnvelopeFilter for F {
+    ghost use Rattle.std.specs.Prelude.{◌≡◌};
     ghost use Rattle.std.proofs.Common.{subst, sym};
-    ghost use Rattle.std.specs.Fn.{CalledAt, always_mut};
-    ghost use denote.Param.Always.{mut_next};
 
-    ghost can_filter = { λ f. F.IsAlwaysCallable f };
+    ghost can_filter = { λ f. F.can_ask f };
 
-    ghost ask = { λ f item answer next. CalledAt F.FnMut f item answer next };
+    ghost ask = { λ f item answer next. F.asks f item answer next };
 
     ghost hand = { λ f item next. next ≡ f };
 
-    ghost ask_keeps = { λ first item answer next ready asked. mut_next F.FnMut first (asked.shown, tt) answer next next asked.called refl ready };
+    ghost ask_keeps = { λ first item answer next ready asked. F.ask_again first item answer next ready asked };
 
-    ghost hand_keeps = { λ first item next ready is. subst (always_mut F.FnMut) (sym is) ready };
+    ghost hand_keeps = { λ first item next ready is. subst F.can_ask (sym is) ready };
 
     fn filter(&mut self, item: &EnvelopeItem) -> bool {
-        self(item)
+        self.ask(item)
     }
 
     /// Drops the item.
@@ -89,29 +88,27 @@ impl<F, P> EnvelopeFilterCallbacks<F, P> {
     }
 }
 
-impl<F: FnMut(&EnvelopeItem) -> bool, P: FnMut(EnvelopeItem)> EnvelopeFilter
+impl<F: Asked<EnvelopeItem>, P: Given<EnvelopeItem>> EnvelopeFilter
     for EnvelopeFilterCallbacks<F, P> {
-    ghost use Rattle.std.specs.Prelude.{◌≡◌, refl};
+    ghost use Rattle.std.specs.Prelude.{◌≡◌};
     ghost use Rattle.std.proofs.Common.{subst, sym};
-    ghost use Rattle.std.specs.Fn.{CalledAt, always_mut};
-    ghost use denote.Param.Always.{mut_next};
     ghost use Rattle.sentry_envelope.specs.Callbacks.{asking, handing};
 
-    ghost can_filter = { λ f. F.IsAlwaysCallable (asking f) × P.IsAlwaysCallable (handing f) };
+    ghost can_filter = { λ f. F.can_ask (asking f) × P.can_give (handing f) };
 
-    ghost ask = { λ f item answer next. CalledAt F.FnMut (asking f) item answer (asking next) × (handing next ≡ handing f) };
+    ghost ask = { λ f item answer next. F.asks (asking f) item answer (asking next) × (handing next ≡ handing f) };
 
-    ghost hand = { λ f item next. P.step (handing f) item tt (handing next) × (asking next ≡ asking f) };
+    ghost hand = { λ f item next. P.gives (handing f) item (handing next) × (asking next ≡ asking f) };
 
-    ghost ask_keeps = { λ first item answer next ready asked. (mut_next F.FnMut (asking first) (asked.0.shown, tt) answer (asking next) (asking next) asked.0.called refl ready.0, subst (always_mut P.FnMut) (sym asked.1) ready.1) };
+    ghost ask_keeps = { λ first item answer next ready asked. (F.ask_again (asking first) item answer (asking next) ready.0 asked.0, subst P.can_give (sym asked.1) ready.1) };
 
-    ghost hand_keeps = { λ first item next ready given. (subst (always_mut F.FnMut) (sym given.1) ready.0, mut_next P.FnMut (handing first) (item, tt) tt (handing next) (handing next) given.0 refl ready.1) };
+    ghost hand_keeps = { λ first item next ready given. (subst F.can_ask (sym given.1) ready.0, P.give_again (handing first) item (handing next) ready.1 given.0) };
 
     fn filter(&mut self, item: &EnvelopeItem) -> bool {
-        (self.filter)(item)
+        self.filter.ask(item)
     }
 
     fn on_filtered(&mut self, item: EnvelopeItem) {
-        (self.on_filtered)(item);
+        self.on_filtered.give(item);
     }
 }

@@ -1,14 +1,15 @@
 //! Filtering an envelope.
 
-ghost use Rattle.std.specs.Prelude.{◌≡◌, ◌≤◌, not, if◌then◌else◌, map, filter as filter_list, vec_len, vec_capacity, []};
+ghost use Rattle.std.specs.Prelude.{◌≡◌, ◌≤◌, not, if◌then◌else◌, map, option_map, filter as filter_list, vec_len, vec_capacity, []};
 ghost use Rattle.std.specs.List.{list_any};
-ghost use Rattle.sentry_envelope.specs.EnvelopeView.{no_fields};
+ghost use Rattle.sentry_envelope.specs.EnvelopeView.{first_event, no_fields};
 ghost use Rattle.sentry_envelope.specs.HeaderFields.{headers_cell, put_id};
 ghost use Rattle.sentry_envelope.specs.Filter.{Asks, Run, Hand, Filters, is_main, is_orphan, id_of, first_id_of};
 
 use crate::envelope::{Contents, Envelope};
 use crate::filter::EnvelopeFilter;
 use crate::headers::EnvelopeHeaders;
+use sentry_event::Event;
 use sentry_items::EnvelopeItem;
 use std::alloc::Global;
 use uuid::Uuid;
@@ -232,6 +233,18 @@ pub(crate) fn first_id(items: &[EnvelopeItem]) -> Option<Uuid>
     None
 }
 
+/// The first event.
+pub(crate) fn first_event(items: &[EnvelopeItem]) -> Option<&Event<'static>>
+    ensures { option_map (λ event. event.now) result ≡ first_event items.now }
+{
+    for item in items {
+        if let EnvelopeItem::Event(event) = item {
+            return Some(event.as_ref());
+        }
+    }
+    None
+}
+
 /// Whether this is an event or a transaction.
 fn is_main(item: &EnvelopeItem) -> bool
     ensures { result ≡ is_main item.now }
@@ -240,12 +253,14 @@ fn is_main(item: &EnvelopeItem) -> bool
 }
 
 /// The id of an event or a transaction.
-#[tactic(auto, unfolding(crate::specs::Filter::id_of))]
-fn gives_id(item: &EnvelopeItem) -> Option<Uuid>
+#[tactic(auto, unfolding(crate::specs::Filter::id_of, sentry_event::specs::Events::event_fields, sentry_event::specs::Transactions::transaction_fields))]
+pub(crate) fn gives_id(item: &EnvelopeItem) -> Option<Uuid>
     ensures { result ≡ id_of item.now }
 {
     match item {
-        EnvelopeItem::Attachment(_) | EnvelopeItem::ReplayRecording(_) | EnvelopeItem::Raw => None,
+        EnvelopeItem::Event(event) => Some(event.event_id),
+        EnvelopeItem::Transaction(transaction) => Some(transaction.event_id),
+        _ => None,
     }
 }
 
@@ -254,8 +269,5 @@ fn gives_id(item: &EnvelopeItem) -> Option<Uuid>
 fn is_orphan(item: &EnvelopeItem) -> bool
     ensures { result ≡ is_orphan item.now }
 {
-    match item {
-        EnvelopeItem::Attachment(_) => true,
-        EnvelopeItem::ReplayRecording(_) | EnvelopeItem::Raw => false,
-    }
+    matches!(item, EnvelopeItem::Attachment(_))
 }

@@ -11,6 +11,7 @@ use sentry_keys::Dsn;
 use sentry_members::{Formed, Member, TreeError, read_line_with};
 use sentry_moments::{Moment, Rfc3339};
 use sentry_parts::ClientSdkInfo;
+use sentry_records::DynamicSamplingContext;
 use sentry_rows::{AsTable, Copier, CopyTable, Giver, ReadTable, Reader, Sink, Table};
 use sentry_trees::Node;
 use std::alloc::{AllocError, Global};
@@ -25,6 +26,7 @@ pub struct EnvelopeHeaders {
     event_id: Option<Uuid>,
     sdk: Option<ClientSdkInfo>,
     sent_at: Option<Moment>,
+    trace: Option<DynamicSamplingContext>,
 }
 
 #[tactic(auto, unfolding(crate::specs::HeaderFields::header_fields))]
@@ -32,7 +34,7 @@ impl EnvelopeHeaders {
     ghost use Rattle.std.specs.Prelude.{◌≡◌, Some, IfOk, option_map};
     ghost use Rattle.sentry_envelope.specs.EnvelopeView.{no_fields};
     ghost use Rattle.sentry_tables.specs.Norm.{norm};
-    ghost use Rattle.sentry_envelope.specs.HeaderFields.{fill_id, given_id, headers_cell, put_dsn, put_id, put_sdk, put_sent_at};
+    ghost use Rattle.sentry_envelope.specs.HeaderFields.{fill_id, given_id, headers_cell, put_dsn, put_id, put_sdk, put_sent_at, put_trace};
 
     /// A header without fields.
     pub fn new() -> EnvelopeHeaders
@@ -43,6 +45,7 @@ impl EnvelopeHeaders {
             event_id: None,
             sdk: None,
             sent_at: None,
+            trace: None,
         }
     }
 
@@ -90,6 +93,16 @@ impl EnvelopeHeaders {
         }
     }
 
+    /// The same header with what the trace is sampled by.
+    pub fn with_trace(self, trace: DynamicSamplingContext) -> EnvelopeHeaders
+        ensures { headers_cell result ≡ put_trace trace (headers_cell self) }
+    {
+        EnvelopeHeaders {
+            trace: Some(trace),
+            ..self
+        }
+    }
+
     /// The same header with this event id in place of its own, or without one.
     pub(crate) fn with_id(self, event_id: Option<Uuid>) -> EnvelopeHeaders
         ensures { headers_cell result ≡ put_id event_id (headers_cell self) }
@@ -105,6 +118,15 @@ impl EnvelopeHeaders {
         match self.event_id {
             Some(_) => self,
             None => self.with_id(id),
+        }
+    }
+
+    /// Takes this event id where there is none.
+    pub(crate) fn fill(&mut self, id: Option<Uuid>)
+        ensures { headers_cell self.new ≡ fill_id (given_id id) (headers_cell self.old) }
+    {
+        if self.event_id.is_none() {
+            self.event_id = id;
         }
     }
 
@@ -143,6 +165,7 @@ impl Table for EnvelopeHeaders {
         to.optional_as::<Hyphenated, Uuid>("event_id", &self.event_id);
         to.optional("sdk", &self.sdk);
         to.optional_strict_as::<Rfc3339, Moment>("sent_at", &self.sent_at);
+        to.optional("trace", &self.trace);
     }
 
     ghost ordered = { header_in_order };
@@ -156,6 +179,7 @@ impl ReadTable for EnvelopeHeaders {
             event_id: from.optional_as::<Hyphenated, Uuid>("event_id"),
             sdk: from.optional("sdk"),
             sent_at: from.optional_strict_as::<Rfc3339, Moment>("sent_at"),
+            trace: from.optional("trace"),
         }
     }
 }
@@ -168,6 +192,7 @@ impl CopyTable for EnvelopeHeaders {
             event_id: copies.optional_as::<Hyphenated, Uuid>(&self.event_id),
             sdk: copies.optional(&self.sdk),
             sent_at: copies.optional_strict_as::<Rfc3339, Moment>(&self.sent_at),
+            trace: copies.optional(&self.trace),
         })
     }
 }

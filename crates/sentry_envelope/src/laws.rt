@@ -2,10 +2,10 @@
 ghost use Rattle.std.specs.Prelude.{◌≡◌, ◌↔◌, true};
 ghost use Rattle.sentry_envelope.specs.declared.envelope.Envelope.{Envelope as Envelopes};
 ghost use Rattle.sentry_envelope.specs.declared.headers.EnvelopeHeaders.{EnvelopeHeaders as Headers};
-ghost use Rattle.sentry_envelope.specs.EnvelopeAlike.{HasNoTree, AreEnvelopesAlike};
+ghost use Rattle.sentry_envelope.specs.EnvelopeAlike.{HasNoTree, HasStoredAddresses, AreEnvelopesAlike};
 ghost use Rattle.sentry_envelope.specs.HeaderFields.{headers_cell};
 ghost use Rattle.sentry_envelope.specs.EnvelopeLaws.{HasOneAnswer, EnvelopesReadBack, EnvelopesAreStable, EnvelopesHaveOneForm, EnvelopesAreRewritten, RewritingTwiceIsOnce, ShortTextsAreSized, NormalFormsAreSized, SpelledHaveOneForm};
-ghost use Rattle.sentry_envelope.specs.OneEnvelope.{HasOneEnvelope, AlwaysHasOneEnvelope, TextsDrawNothing};
+ghost use Rattle.sentry_envelope.specs.OneEnvelope.{HasOneEnvelope, TextsDrawNothing};
 ghost use Rattle.sentry_envelope.specs.Accepted.{AcceptedIsReadable};
 ghost use Rattle.sentry_envelope.specs.SentryProfile.{profile};
 
@@ -25,11 +25,10 @@ pub fn one_answer()
 {}
 
 /// At each moment bytes in which nothing is drawn spell at most one envelope, and nothing is drawn in the text of an
-/// envelope that is read back. No item or header that is carried now draws an id: so any bytes spell at most one.
+/// envelope that is read back: so written bytes spell at most one.
 pub fn one_envelope()
     ensures undrawn { HasOneEnvelope profile }
     ensures written { TextsDrawNothing profile }
-    ensures always { AlwaysHasOneEnvelope profile }
 {}
 
 /// At each moment the text of a stored, plain, readable and sized envelope spells its normal form, and nothing else.
@@ -78,8 +77,10 @@ pub fn sized()
 {}
 
 /// Two headers are equal exactly where their fields are the same. Two envelopes without trees are equal exactly where
-/// their headers are the same, and their items alike one by one, or their bytes the same.
+/// their headers are the same, and their items alike one by one, or their bytes the same; addresses of users have numbers
+/// in range, as every address has in a program.
 pub fn equal_envelopes()
     ensures headers { (a b : Headers) → ⟦<EnvelopeHeaders as PartialEq>⟧.eq a b ≡ true ↔ (headers_cell a ≡ headers_cell b) }
-    ensures envelopes { (a b : Envelopes) → HasNoTree a → HasNoTree b → ⟦<Envelope as PartialEq>⟧.eq a b ≡ true ↔ AreEnvelopesAlike a b }
+    ensures envelopes { (a b : Envelopes) → HasNoTree a → HasNoTree b → HasStoredAddresses a → HasStoredAddresses b
+        → ⟦<Envelope as PartialEq>⟧.eq a b ≡ true ↔ AreEnvelopesAlike a b }
 {}

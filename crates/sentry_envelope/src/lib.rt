@@ -1,6 +1,7 @@
 //! Envelopes: their header, reading, writing and filtering.
 #![tactic(auto)]
 
+pub mod called;
 pub mod envelope;
 pub mod error;
 mod file;

@@ -21,12 +21,10 @@ pub(crate) fn items_are_plain(items: &[EnvelopeItem]) -> bool
 }
 
 /// Whether an item is plain. Of a raw item, which isn't written, nothing is asked.
+#[tactic(auto, using(crate::proofs::Demands::item_plain, crate::proofs::Demands::item_stored))]
 fn is_plain(item: &EnvelopeItem) -> bool
     ensures plain { IsTrue result ↔ ItemsMeet plain_content item_types (item_view item.now ∷ []) }
     ensures stored { IsTrue result → ItemsMeet stored_content item_types (item_view item.now ∷ []) }
 {
-    match item {
-        EnvelopeItem::Attachment(attachment) => attachment.is_plain(),
-        EnvelopeItem::ReplayRecording(_) | EnvelopeItem::Raw => true,
-    }
+    item.is_plain()
 }

@@ -1,28 +1,38 @@
 //! The items of an envelope, read.
 
 ghost use Rattle.std.specs.Prelude.{◌≡◌, ◌≢◌, ◌⊎◌, IfOk, IfErr, [], Some, map};
-ghost use Rattle.sentry_items.specs.View.{attachment_view};
+ghost use Rattle.sentry_event.specs.Events.{event_cell};
+ghost use Rattle.sentry_event.specs.Transactions.{transaction_cell};
+ghost use Rattle.sentry_items.specs.View.{attachment_view, item_held, value};
+ghost use Rattle.sentry_members.specs.Reading.{TextShown, TextRefused, TextShownAt, TextRefusedAt};
 ghost use Rattle.sentry_envelope.specs.Envelope.{attached_by, ItemShows, ItemsStand};
 ghost use Rattle.sentry_envelope.specs.EnvelopeFault.{BodyIsAtFault, FrameIsRefused};
 ghost use Rattle.sentry_envelope.specs.EnvelopeView.{item_view};
 ghost use Rattle.sentry_framing.specs.HeaderView.{header_view};
 ghost use Rattle.sentry_framing.specs.ItemHeader.{read_header};
 ghost use Rattle.sentry_framing.specs.ItemWords.{item_words};
+ghost use Rattle.sentry_framing.specs.declared.kind.ItemKind.TheVariants as kinds;
 ghost use Rattle.sentry_moments.specs.Moments.{moment_cell};
 ghost use Rattle.sentry_envelope.specs.SentryProfile.{profile};
 ghost use Rattle.sentry_framing.specs.View.{frame_of};
 
 use json::Scratch;
+use rand_core::Rng;
+use sentry_event::{Event, Transaction};
 use sentry_framing::{EnvelopeError, Frames, ItemFrame, ItemHeader, ItemKind};
 use sentry_items::{Attachment, AttachmentType, EnvelopeItem, ReplayRecording};
+use sentry_members::{FromTree, TreeError, read_line_with};
+use sentry_rows::FromTreeAt;
 use sentry_text::Moment;
+use sentry_text::timed::read_line_at_with;
 use std::alloc::{AllocError, Global};
 
 /// The items of the body that is left, or the first check of it that fails.
-pub(crate) fn read_items(
+pub(crate) fn read_items<R: Rng>(
     alloc: Global,
     frames: &mut Frames<'_>,
     now: Moment,
+    ids: &mut R,
     scratch: &mut Scratch,
 ) -> Result<Vec<EnvelopeItem>, EnvelopeError>
     ensures ok { IfOk result (λ items. ItemsStand profile (moment_cell now) frames.old.rest (map item_view items.items) []) }
@@ -32,33 +42,107 @@ pub(crate) fn read_items(
     let mut header = ItemHeader::new();
     while let Some(answer) = frames.next_item_into(alloc, scratch, &mut header) {
         let frame = answer?;
-        items.push(read_item(alloc, &frame, &mut header, now)?)?;
+        items.push(read_item(alloc, &frame, &mut header, now, ids, scratch)?)?;
     }
     Ok(items)
 }
 
 /// The item that a frame shows, by what its header says. The header's texts are taken out of it.
-fn read_item(
+fn read_item<R: Rng>(
     alloc: Global,
     frame: &ItemFrame<'_>,
     header: &mut ItemHeader,
     now: Moment,
+    ids: &mut R,
+    scratch: &mut Scratch,
 ) -> Result<EnvelopeItem, EnvelopeError>
     requires { read_header item_words (frame_of frame.now).header ≡ Some (header_view header.old) }
     ensures ok { IfOk result (λ item. ItemShows profile (moment_cell now) (frame_of frame.now) (item_view item)) }
     ensures err { IfErr result (λ e. (e ≡ EnvelopeError.OutOfMemory)
         ⊎ ((e ≡ EnvelopeError.InvalidItemPayload) × FrameIsRefused profile (frame_of frame.now))) }
 {
+    let payload = frame.payload;
     match header.kind {
+        ItemKind::Event => event(alloc, read_value_at(alloc, payload, now, ids, scratch)?),
+        ItemKind::SessionUpdate => Ok(EnvelopeItem::SessionUpdate(read_value_at(
+            alloc, payload, now, ids, scratch,
+        )?)),
+        ItemKind::SessionAggregates => Ok(EnvelopeItem::SessionAggregates(read_value(
+            alloc, payload, scratch,
+        )?)),
+        ItemKind::Transaction => {
+            transaction(alloc, read_value_at(alloc, payload, now, ids, scratch)?)
+        }
         ItemKind::Attachment => Ok(EnvelopeItem::Attachment(attachment(
-            alloc,
-            frame.payload,
-            header,
+            alloc, payload, header,
+        )?)),
+        ItemKind::MonitorCheckIn => Ok(EnvelopeItem::MonitorCheckIn(read_value(
+            alloc, payload, scratch,
+        )?)),
+        ItemKind::UserReport => Ok(EnvelopeItem::UserReport(read_value(
+            alloc, payload, scratch,
         )?)),
         ItemKind::ReplayRecording => Ok(EnvelopeItem::ReplayRecording(replay_recording(
-            alloc,
-            frame.payload,
+            alloc, payload,
         )?)),
+    }
+}
+
+/// The value that a payload of JSON shows.
+fn read_value<T: FromTree>(
+    alloc: Global,
+    payload: &[u8],
+    scratch: &mut Scratch,
+) -> Result<T, EnvelopeError>
+    ensures ok { IfOk result (λ value. TextShown T.kind payload.now (T.cell_of value)) }
+    ensures err { IfErr result (λ e. (e ≡ EnvelopeError.OutOfMemory)
+        ⊎ ((e ≡ EnvelopeError.InvalidItemPayload) × TextRefused T.kind payload.now)) }
+{
+    match read_line_with(alloc, payload, scratch) {
+        Ok(value) => Ok(value),
+        Err(TreeError::Misfit) => Err(EnvelopeError::InvalidItemPayload),
+        Err(TreeError::Memory) => Err(EnvelopeError::OutOfMemory),
+    }
+}
+
+/// The value that a payload of JSON shows at the moment `now`. Absent ids are drawn from `ids`.
+fn read_value_at<T: FromTreeAt, R: Rng>(
+    alloc: Global,
+    payload: &[u8],
+    now: Moment,
+    ids: &mut R,
+    scratch: &mut Scratch,
+) -> Result<T, EnvelopeError>
+    ensures ok { IfOk result (λ value. TextShownAt (moment_cell now) T.kind payload.now (T.cell_of value)) }
+    ensures err { IfErr result (λ e. (e ≡ EnvelopeError.OutOfMemory)
+        ⊎ ((e ≡ EnvelopeError.InvalidItemPayload) × TextRefusedAt (moment_cell now) T.kind payload.now)) }
+{
+    match read_line_at_with(alloc, payload, now, ids, scratch) {
+        Ok(value) => Ok(value),
+        Err(TreeError::Misfit) => Err(EnvelopeError::InvalidItemPayload),
+        Err(TreeError::Memory) => Err(EnvelopeError::OutOfMemory),
+    }
+}
+
+/// The event as an item.
+fn event(alloc: Global, event: Event<'static>) -> Result<EnvelopeItem, EnvelopeError>
+    ensures ok { IfOk result (λ item. item_held item ≡ value kinds.Event (event_cell event.entry)) }
+    ensures err { IfErr result (λ e. e ≡ EnvelopeError.OutOfMemory) }
+{
+    match EnvelopeItem::event(alloc, event) {
+        Ok(item) => Ok(item),
+        Err(_) => Err(EnvelopeError::OutOfMemory),
+    }
+}
+
+/// The transaction as an item.
+fn transaction(alloc: Global, transaction: Transaction<'static>) -> Result<EnvelopeItem, EnvelopeError>
+    ensures ok { IfOk result (λ item. item_held item ≡ value kinds.Transaction (transaction_cell transaction.entry)) }
+    ensures err { IfErr result (λ e. e ≡ EnvelopeError.OutOfMemory) }
+{
+    match EnvelopeItem::transaction(alloc, transaction) {
+        Ok(item) => Ok(item),
+        Err(_) => Err(EnvelopeError::OutOfMemory),
     }
 }
 

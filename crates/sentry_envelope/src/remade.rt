@@ -48,7 +48,7 @@ impl Envelope {
     ///
     /// Each field has its normal form, an absent id in the header becomes that of the first item that gives one, and
     /// items of raw bytes are left out.
-    #[tactic(auto, using(crate::proofs::EnvelopeMade::answers_normal, crate::proofs::EnvelopeMade::answers_raw, crate::proofs::EnvelopeMade::answers_own, crate::proofs::EnvelopeMade::answers_readable))]
+    #[tactic(auto, using(crate::proofs::EnvelopeMade::answers_raw))]
     pub fn normalized(&self) -> Result<Envelope, AllocError>
         ensures normal { IfOk result (λ n. IfSome (structured self.now) (λ m. structured n ≡ Some (envelope_norm profile m))) }
         ensures raw { IfOk result (λ n. IsSome (raw_bytes self.now) → IsSame n self.now) }
@@ -107,9 +107,6 @@ fn stands(item: &EnvelopeItem, way: Way) -> bool
 {
     match way {
         Way::Same => true,
-        Way::Normal(_) => match item {
-            EnvelopeItem::Attachment(_) | EnvelopeItem::ReplayRecording(_) => true,
-            EnvelopeItem::Raw => false,
-        },
+        Way::Normal(_) => !matches!(item, EnvelopeItem::Raw),
     }
 }

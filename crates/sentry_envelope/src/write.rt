@@ -1,18 +1,20 @@
 //! The text of a structured envelope.
 
-ghost use Rattle.std.specs.Prelude.{◌≡◌, ◌++◌, [], IfOk, OnOk, map};
-ghost use Rattle.serde_json.specs.Written.{compact_text};
+ghost use Rattle.std.specs.Prelude.{◌≡◌, ◌∷◌, ◌++◌, [], false, IfOk, OnOk, map};
+ghost use Rattle.serde_json.specs.Written.{compact_text, has_float};
 ghost use Rattle.sentry_tables.specs.Written.{tree};
 ghost use Rattle.sentry_framing.specs.Framing.{with_line};
+ghost use Rattle.sentry_items.specs.Attached.{short_header};
+ghost use Rattle.sentry_items.specs.HeaderTokens.{header_text};
 ghost use Rattle.sentry_envelope.specs.Envelope.{envelope_text, frame_text, frame_of_item};
-ghost use Rattle.sentry_envelope.specs.EnvelopeView.{item_view, IsReady};
+ghost use Rattle.sentry_envelope.specs.EnvelopeView.{item_view, AreReady, IsReady};
 ghost use Rattle.sentry_envelope.specs.HeaderFields.{header_kind, headers_cell};
 ghost use Rattle.sentry_envelope.specs.SentryProfile.{profile};
 
 use crate::headers::EnvelopeHeaders;
 use sentry_items::EnvelopeItem;
 use sentry_items::header::write_short_header;
-use sentry_members::write_text;
+use sentry_members::{Member, write_text};
 use std::alloc::{AllocError, Global};
 
 /// The header line, and then each item.
@@ -21,15 +23,16 @@ pub(crate) fn write_envelope(
     headers: &EnvelopeHeaders,
     items: &[EnvelopeItem],
 ) -> Result<Vec<u8>, AllocError>
-    ensures { IfOk result (λ text. IsReady header_kind (headers_cell headers.now)
+    ensures { IfOk result (λ text. IsReady header_kind (headers_cell headers.now) × AreReady (map item_view items.now)
         → text.items ≡ envelope_text profile (record { header = headers_cell headers.now; items = map item_view items.now })) }
 {
     let mut out = Vec::new(alloc);
     write_headers(headers, &mut out)?;
     out.push(b'\n')?;
     let mut line = Vec::new(alloc);
+    let mut payload = Vec::new(alloc);
     for item in items {
-        write_item(alloc, item, &mut line, &mut out)?;
+        write_item(alloc, item, &mut line, &mut payload, &mut out)?;
     }
     Ok(out)
 }
@@ -45,19 +48,39 @@ fn write_headers(headers: &EnvelopeHeaders, out: &mut Vec<u8>) -> Result<(), All
 /// Appends an item's header and payload, each ended by a line feed. A raw item isn't written.
 ///
 /// The header is built in `line`: a writer of JSON clears memory ahead of what it writes, and more of it after a long text.
+/// A payload of JSON is built in `payload`, since its length stands before it.
 fn write_item(
     alloc: Global,
     item: &EnvelopeItem,
     line: &mut Vec<u8>,
+    payload: &mut Vec<u8>,
     out: &mut Vec<u8>,
 ) -> Result<(), AllocError>
-    ensures { OnOk result (out.new.items ≡ out.old.items ++ frame_text (frame_of_item profile (item_view item.now)) []) }
+    ensures { OnOk result (AreReady (item_view item.now ∷ []) → out.new.items ≡ out.old.items ++ frame_text (frame_of_item profile (item_view item.now)) []) }
 {
     line.clear();
     match item {
+        EnvelopeItem::Event(event) => {
+            write_value(alloc, "event", event.as_ref(), line, payload, out)
+        }
+        EnvelopeItem::SessionUpdate(session) => {
+            write_value(alloc, "session", session, line, payload, out)
+        }
+        EnvelopeItem::SessionAggregates(groups) => {
+            write_value(alloc, "sessions", groups, line, payload, out)
+        }
+        EnvelopeItem::Transaction(transaction) => {
+            write_value(alloc, "transaction", transaction.as_ref(), line, payload, out)
+        }
         EnvelopeItem::Attachment(attachment) => {
             attachment.write_header(alloc, "attachment", line)?;
             write_frame(line, &attachment.buffer, out)
+        }
+        EnvelopeItem::MonitorCheckIn(check_in) => {
+            write_value(alloc, "check_in", check_in, line, payload, out)
+        }
+        EnvelopeItem::UserReport(report) => {
+            write_value(alloc, "user_report", report, line, payload, out)
         }
         EnvelopeItem::ReplayRecording(recording) => {
             write_short_header(alloc, "replay_recording", &recording.buffer, line)?;
@@ -65,6 +88,26 @@ fn write_item(
         }
         EnvelopeItem::Raw => Ok(()),
     }
+}
+
+/// Appends the header and payload of an item whose payload is JSON, each ended by a line feed. The line for the header is empty.
+fn write_value<T: Member>(
+    alloc: Global,
+    word: &str,
+    value: &T,
+    line: &mut Vec<u8>,
+    payload: &mut Vec<u8>,
+    out: &mut Vec<u8>,
+) -> Result<(), AllocError>
+    requires { line.old.items ≡ [] }
+    ensures { OnOk result (has_float (tree T.kind (T.cell_of value.now)) ≡ false
+        → out.new.items ≡ out.old.items ++ with_line (header_text (short_header word.now (compact_text (tree T.kind (T.cell_of value.now)))))
+          (with_line (compact_text (tree T.kind (T.cell_of value.now))) [])) }
+{
+    payload.clear();
+    write_text(value, payload)?;
+    write_short_header(alloc, word, payload, line)?;
+    write_frame(line, payload, out)
 }
 
 /// Appends a header and a payload, each ended by a line feed.

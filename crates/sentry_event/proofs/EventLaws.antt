@@ -74,11 +74,11 @@ span_table_lawful : IsLawful span_table_kind
 unfolding span_table_fields
 span_table_lawful = laws_by_rows (rows_of span_table_fields) refl (search (text_laws, truth_laws, any_laws, span_lawful, trace_lawful, span_drawn, trace_drawn, status_lawful, seconds_laws, seconds_at_once, ended_lawful, ended_stands, empty_map_stands))
 
-transaction_lawful : IsLawful transaction_kind
+pub transaction_lawful : IsLawful transaction_kind
 unfolding transaction_fields
 transaction_lawful = laws_by_rows (rows_of transaction_fields) refl (search (text_laws, any_laws, simple_laws, id_drawn, user_lawful, request_lawful, sdk_lawful, span_table_lawful, contexts_lawful, no_contexts_stand, other_stands, seconds_laws, seconds_at_once, ended_lawful, ended_stands, empty_map_stands))
 
-event_lawful : IsLawful event_kind
+pub event_lawful : IsLawful event_kind
 unfolding event_fields
 event_lawful = laws_by_rows (rows_of event_fields) refl (search (text_laws, any_laws, simple_laws, id_drawn, level_lawful, error_stands, fingerprint_lawful, fingerprint_default, entry_lawful, stacktrace_lawful, template_lawful, thread_lawful, exception_lawful, breadcrumb_lawful, user_lawful, request_lawful, meta_lawful, meta_stands, sdk_lawful, contexts_lawful, no_contexts_stand, other_stands, seconds_laws, seconds_at_once, empty_map_stands, empty_values_stand))
 

@@ -7,7 +7,7 @@ use Rattle.sentry_envelope.specs.SentryProfile.{profile}
 use Rattle.sentry_envelope.proofs.read.read_items.Given as goal
 
 abbrev pub invariant-loop-answer : goal.invariant-loop-answer
-invariant-loop-answer l = ItemsStand profile (moment_cell l.now) l.fn.frames.rest (map item_view l.items.items) l.frames.rest
+invariant-loop-answer g l = ItemsStand profile (moment_cell l.now) l.fn.frames.rest (map item_view l.items.items) l.frames.rest
 
 abbrev pub decreases-loop-answer : goal.decreases-loop-answer
-decreases-loop-answer l = length l.frames.rest
+decreases-loop-answer g l = length l.frames.rest

@@ -1,5 +1,32 @@
-use Rattle.sentry_envelope.proofs.Sent.{attachment_sent, recording_sent}
+use Rattle.std.proofs.Common.{ap}
+use Rattle.sentry_envelope.specs.EnvelopeView.{item_view}
+use Rattle.sentry_envelope.proofs.EnvelopeTypes.{first, later}
+use Rattle.sentry_envelope.proofs.Sent.{attachment_sent, recording_sent, value_sent}
 use Rattle.sentry_envelope.proofs.write.write_item.Goals as goal
+
+pub returns-in-Event : goal.returns-in-Event
+returns-in-Event c =
+    value_sent c.write_value.result 0 _ _ _ first c.args.item.now c.args.out.now.items c.write_value.new.out.items _ (ap item_view c.in-Event.is) (rw c.as_ref.ensures at c.write_value.ensures)
+
+pub returns-in-SessionUpdate : goal.returns-in-SessionUpdate
+returns-in-SessionUpdate c =
+    value_sent c.write_value-in-SessionUpdate.result 1 _ _ _ (later first) c.args.item.now c.args.out.now.items c.write_value-in-SessionUpdate.new.out.items _ (ap item_view c.in-SessionUpdate.is) c.write_value-in-SessionUpdate.ensures
+
+pub returns-in-SessionAggregates : goal.returns-in-SessionAggregates
+returns-in-SessionAggregates c =
+    value_sent c.write_value-in-SessionAggregates.result 2 _ _ _ (later (later first)) c.args.item.now c.args.out.now.items c.write_value-in-SessionAggregates.new.out.items _ (ap item_view c.in-SessionAggregates.is) c.write_value-in-SessionAggregates.ensures
+
+pub returns-in-Transaction : goal.returns-in-Transaction
+returns-in-Transaction c =
+    value_sent c.write_value-in-Transaction.result 3 _ _ _ (later (later (later first))) c.args.item.now c.args.out.now.items c.write_value-in-Transaction.new.out.items _ (ap item_view c.in-Transaction.is) (rw c.as_ref-in-Transaction.ensures at c.write_value-in-Transaction.ensures)
+
+pub returns-in-MonitorCheckIn : goal.returns-in-MonitorCheckIn
+returns-in-MonitorCheckIn c =
+    value_sent c.write_value-in-MonitorCheckIn.result 5 _ _ _ (later (later (later (later (later first))))) c.args.item.now c.args.out.now.items c.write_value-in-MonitorCheckIn.new.out.items _ (ap item_view c.in-MonitorCheckIn.is) c.write_value-in-MonitorCheckIn.ensures
+
+pub returns-in-UserReport : goal.returns-in-UserReport
+returns-in-UserReport c =
+    value_sent c.write_value-in-UserReport.result 6 _ _ _ (later (later (later (later (later (later first)))))) c.args.item.now c.args.out.now.items c.write_value-in-UserReport.new.out.items _ (ap item_view c.in-UserReport.is) c.write_value-in-UserReport.ensures
 
 pub returns-in_ok-write_header-in-Attachment : goal.returns-in_ok-write_header-in-Attachment
 returns-in_ok-write_header-in-Attachment c =

@@ -1,5 +1,14 @@
-use Rattle.sentry_envelope.proofs.EnvelopeMade.{answers_read_back}
+use Rattle.sentry_envelope.proofs.EnvelopeMade.{answers_normal, answers_own, answers_readable, answers_read_back}
 use Rattle.sentry_envelope.proofs.envelope.Envelope.normalized.Goals as goal
+
+pub returns-clause-normal : goal.returns-clause-normal
+returns-clause-normal c = answers_normal c.args.self.now c.remade.result c.remade.ensures
+
+pub returns-clause-own : goal.returns-clause-own
+returns-clause-own c = answers_own c.args.self.now c.remade.result c.remade.ensures
+
+pub returns-clause-readable : goal.returns-clause-readable
+returns-clause-readable c = answers_readable c.args.self.now c.remade.result c.remade.ensures
 
 pub returns-clause-read_back : goal.returns-clause-read_back
 returns-clause-read_back c = answers_read_back c.args.self.now c.remade.result c.remade.ensures
