@@ -6,7 +6,8 @@ use Rattle.sentry_tables.specs.Lawful.{IsMoment}
 use Rattle.sentry_tables.specs.Meets.{IsReadable}
 use Rattle.sentry_tables.proofs.Laws.{has_laws}
 use Rattle.sentry_framing.specs.ItemHeader.{Header}
-use Rattle.sentry_envelope.specs.Profile.{Form, attachment_form, opaque_form, json_form, container_form, container_kind, ItemType, Profile, FormIsLawful, TypesAreLawful, ProfileLaws}
+use Rattle.sentry_envelope.specs.Profile.{Form, attachment_form, opaque_form, json_form, container_form, ItemType, Profile, FormIsLawful, TypesAreLawful, ProfileLaws}
+use Rattle.sentry_items.specs.Containers.{container_kind}
 use Rattle.sentry_envelope.specs.Envelope.{Content, attached, opaque, value, Item, item, raw, ContentShows, ContentShowsAt, ItemsStand, readable_content, ContentMeets, ContentMeetsAt, ItemsMeet, IsEnvelopeReadable}
 use Rattle.sentry_envelope.specs.Accepted.{shallow_content, IsEnvelopeShallow, AcceptedIsReadable}
 use Rattle.sentry_envelope.proofs.EnvelopeForms.{items_rewritten}

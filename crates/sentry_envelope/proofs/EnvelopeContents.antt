@@ -12,7 +12,8 @@ use Rattle.sentry_tables.specs.Laws.{IsStableAt, TextShows}
 use Rattle.sentry_tables.proofs.Laws.{has_laws}
 use Rattle.sentry_framing.specs.Framing.{Frame, HasSize}
 use Rattle.sentry_framing.specs.ItemHeader.{place_of, Header, read_header}
-use Rattle.sentry_envelope.specs.Profile.{Form, attachment_form, opaque_form, json_form, container_form, container_kind, FormIsLawful}
+use Rattle.sentry_envelope.specs.Profile.{Form, attachment_form, opaque_form, json_form, container_form, FormIsLawful}
+use Rattle.sentry_items.specs.Containers.{container_kind}
 use Rattle.sentry_items.specs.Attached.{Attached, short_header, attached_norm, IsAttachedStored}
 use Rattle.sentry_envelope.specs.Envelope.{Content, attached, opaque, value, IsValue, attached_by, ContentShows, count, first_cell, item_count, payload_by, container_header, header_by, content_norm, stored_content, plain_content, readable_content, ContentMeets, stated_by}
 use Rattle.sentry_envelope.proofs.EnvelopeShown.{container_lawful}

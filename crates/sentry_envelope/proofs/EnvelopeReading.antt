@@ -5,7 +5,8 @@ use Rattle.sentry_tables.specs.Kind.{Kind}
 use Rattle.sentry_tables.specs.Laws.{TextShows}
 use Rattle.sentry_framing.specs.Framing.{Frame, IsLineAndBody, IsFirstFrame, IsFault}
 use Rattle.sentry_framing.specs.ItemHeader.{Header, read_header}
-use Rattle.sentry_envelope.specs.Profile.{Form, attachment_form, opaque_form, json_form, container_form, container_kind, ItemType, words, Profile, ProfileLaws}
+use Rattle.sentry_envelope.specs.Profile.{Form, attachment_form, opaque_form, json_form, container_form, ItemType, words, Profile, ProfileLaws}
+use Rattle.sentry_items.specs.Containers.{container_kind}
 use Rattle.sentry_envelope.specs.Envelope.{Content, attached, opaque, value, Item, item, Envelope, reads, attached_by, ContentShows, ContentShowsAt, ItemShows, ItemsStand, given_by, or_else, first_id, Spells}
 use Rattle.sentry_envelope.specs.EnvelopeFault.{FrameStands, FrameIsRefused, IsFirstFault, BodyIsAtFault, Fault}
 use Rattle.sentry_framing.specs.declared.error.EnvelopeError.{EnvelopeError}

@@ -8,7 +8,8 @@ use Rattle.sentry_tables.specs.Laws.{TextShows}
 use Rattle.sentry_tables.proofs.Laws.{has_laws}
 use Rattle.sentry_framing.specs.Framing.{Frame}
 use Rattle.sentry_framing.specs.ItemHeader.{Header, read_header}
-use Rattle.sentry_envelope.specs.Profile.{Form, attachment_form, opaque_form, json_form, container_form, container_kind, ItemType, words, Profile, FormIsLawful, TypesAreLawful, ProfileLaws}
+use Rattle.sentry_envelope.specs.Profile.{Form, attachment_form, opaque_form, json_form, container_form, ItemType, words, Profile, FormIsLawful, TypesAreLawful, ProfileLaws}
+use Rattle.sentry_items.specs.Containers.{container_kind}
 use Rattle.sentry_envelope.specs.Envelope.{Content, attached, opaque, value, Item, item, raw, IsValue, attached_by, ContentShows, ContentShowsAt, ItemShows}
 use Rattle.sentry_envelope.specs.EnvelopeFault.{LineStands, LineIsRefused, FrameStands, FrameIsRefused}
 

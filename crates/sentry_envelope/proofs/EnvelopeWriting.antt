@@ -11,7 +11,8 @@ use Rattle.sentry_tables.specs.Kind.{Kind}
 use Rattle.sentry_tables.specs.Written.{tree}
 use Rattle.sentry_items.specs.AttachmentWords.{attachment_type_text}
 use Rattle.sentry_framing.specs.Framing.{Frame, with_line}
-use Rattle.sentry_envelope.specs.Profile.{json_form, container_form, container_kind, ItemType, Profile}
+use Rattle.sentry_envelope.specs.Profile.{json_form, container_form, ItemType, Profile}
+use Rattle.sentry_items.specs.Containers.{container_kind}
 use Rattle.sentry_items.specs.Attached.{Attached, attached_type, attached_content_type, short_header, attachment_header}
 use Rattle.sentry_envelope.specs.Envelope.{Content, attached, opaque, value, Item, item, raw, Envelope, item_count, payload_by, container_header, header_by, frame_by, frame_of_item, frame_text, items_text, envelope_text}
 use Rattle.sentry_envelope.proofs.EnvelopeTypes.{IsAt, frame_is}

@@ -13,7 +13,7 @@ use Rattle.sentry_items.specs.declared.item.EnvelopeItem.{EnvelopeItem}
 use Rattle.sentry_items.specs.declared.item.EnvelopeItem.TheVariants as variants
 use Rattle.sentry_framing.specs.Framing.{Frame, IsFirstFrame, IsFault}
 use Rattle.sentry_envelope.specs.EnvelopeFault.{BodyIsAtFault, FrameIsRefused}
-use Rattle.sentry_envelope.specs.Envelope.{item, attached, opaque, reads, attached_by, ItemShows, ItemsStand}
+use Rattle.sentry_envelope.specs.Envelope.{item, attached, opaque, value, reads, attached_by, ItemShows, ItemsStand}
 use Rattle.sentry_envelope.specs.EnvelopeView.{item_view, placed}
 use Rattle.sentry_framing.specs.HeaderView.{header_view}
 use Rattle.sentry_framing.specs.ItemHeader.{read_header, stated_length}
@@ -24,9 +24,16 @@ use Rattle.sentry_framing.specs.declared.error.EnvelopeError.TheVariants.{Invali
 use Rattle.sentry_framing.specs.declared.header.ItemHeader.{ItemHeader}
 use Rattle.sentry_framing.specs.declared.kind.ItemKind.{ItemKind}
 use Rattle.sentry_framing.specs.declared.kind.ItemKind.TheVariants as kinds
-use Rattle.sentry_envelope.specs.Profile.{json_form}
-use Rattle.sentry_envelope.proofs.EnvelopeReading.{form_at, the_form, attachment_shows, opaque_shows, json_shows, json_refused, items_snoc, body_fault, framing_is_first, payload_is_first}
+use Rattle.sentry_envelope.specs.Profile.{json_form, container_form}
+use Rattle.sentry_items.specs.Containers.{container_kind}
+use Rattle.sentry_tables.specs.Laws.{TextShows}
+use Rattle.sentry_envelope.proofs.EnvelopeReading.{form_at, the_form, attachment_shows, opaque_shows, json_shows, json_refused, container_shows, container_refused, items_snoc, body_fault, framing_is_first, payload_is_first}
 use Rattle.sentry_envelope.proofs.SentryProfile.{profile_lawful}
+
+-- the payload of a type is JSON of this kind: a value's, or that of a container of values
+pub data IsJson (k : ItemKind) : Kind → Type 1 where
+  alone : {K : Kind} → form_at item_types (kind_place k) ≡ the_form (json_form K) → IsJson k K
+  listed : {content_type : List ℕ} {K : Kind} → form_at item_types (kind_place k) ≡ the_form (container_form content_type K) → IsJson k (container_kind K)
 
 module _ (frame : Frame) (h : ItemHeader) (read : read_header item_words frame.header ≡ Some (header_view h)) (now : Cell) where
   pub attachment_read : h.kind ≡ kinds.Attachment → (a : Attachment) → attachment_view a ≡ attached_by (header_view h) frame.payload → ItemShows profile now frame (item_view (variants.Attachment a))
@@ -39,12 +46,22 @@ module _ (frame : Frame) (h : ItemHeader) (read : read_header item_words frame.h
   recording_read is x same =
       subst (λ (b : List ℕ). ItemShows profile now frame (item 7 (opaque b))) (sym same) (opaque_shows profile frame (header_view h) 7 read (ap kind_place is) refl now)
 
+  shows_by : (k : ItemKind) (K : Kind) → h.kind ≡ k → IsJson k K → (c : Cell) → TextShows K now frame.payload c → ItemShows profile now frame (item (kind_place k) (value c))
+  unfolding profile
+  shows_by k K is (alone form) c shows = json_shows profile frame (header_view h) (kind_place k) read (ap kind_place is) K form now c shows
+  shows_by k _ is (listed {content_type} {K} form) c shows = container_shows profile frame (header_view h) (kind_place k) read (ap kind_place is) content_type K form now c shows
+
+  refused_by : (k : ItemKind) (K : Kind) → h.kind ≡ k → IsJson k K → ((c : Cell) → TextShows K now frame.payload c → ⊥) → FrameIsRefused profile frame
+  unfolding profile
+  refused_by k K is (alone form) none = json_refused profile frame (header_view h) (kind_place k) read (ap kind_place is) profile_lawful now K form none
+  refused_by k _ is (listed {content_type} {K} form) none = container_refused profile frame (header_view h) (kind_place k) read (ap kind_place is) profile_lawful now content_type K form none
+
   -- a payload of JSON that shows a value of the type shows the item, and one that shows none is refused
-  module _ (k : ItemKind) (K : Kind) (is : h.kind ≡ k) (form : form_at item_types (kind_place k) ≡ the_form (json_form K)) where
+  module _ (k : ItemKind) (K : Kind) (is : h.kind ≡ k) (json : IsJson k K) where
     pub value_read_at : (c : Cell) (i : EnvelopeItem) → TextShownAt now K frame.payload c → item_held i ≡ value_view k c → ItemShows profile now frame (item_view i)
     unfolding profile TextShownAt
     value_read_at c i shown same =
-        subst (λ v. ItemShows profile now frame (placed v)) (sym same) (json_shows profile frame (header_view h) (kind_place k) read (ap kind_place is) K form now c shown)
+        subst (λ v. ItemShows profile now frame (placed v)) (sym same) (shows_by k K is json c shown)
 
     pub value_read : (c : Cell) (i : EnvelopeItem) → TextShown K frame.payload c → item_held i ≡ value_view k c → ItemShows profile now frame (item_view i)
     unfolding TextShown TextShownAt
@@ -61,7 +78,7 @@ module _ (frame : Frame) (h : ItemHeader) (read : read_header item_words frame.h
     pub value_refused_at : (e : EnvelopeError) → IsRefusal e (TextRefusedAt now K frame.payload) → IsRefusal e (FrameIsRefused profile frame)
     unfolding profile TextRefusedAt
     value_refused_at e (inl memory) = inl memory
-    value_refused_at e (inr (misfit, none)) = inr (misfit, json_refused profile frame (header_view h) (kind_place k) read (ap kind_place is) profile_lawful now K form none)
+    value_refused_at e (inr (misfit, none)) = inr (misfit, refused_by k K is json none)
 
     pub value_refused : (e : EnvelopeError) → IsRefusal e (TextRefused K frame.payload) → IsRefusal e (FrameIsRefused profile frame)
     unfolding TextRefused TextRefusedAt

@@ -11,7 +11,8 @@ use Rattle.sentry_tables.proofs.Laws.{text_shows_one}
 use Rattle.sentry_framing.specs.Framing.{Frame, AreFrames, IsFramed}
 use Rattle.sentry_framing.specs.ItemHeader.{Header, read_header}
 use Rattle.sentry_framing.proofs.Verdicts.{same_first}
-use Rattle.sentry_envelope.specs.Profile.{Form, attachment_form, opaque_form, json_form, container_form, container_kind, ItemType, words, Profile, FormIsLawful, TypesAreLawful, ProfileLaws}
+use Rattle.sentry_envelope.specs.Profile.{Form, attachment_form, opaque_form, json_form, container_form, ItemType, words, Profile, FormIsLawful, TypesAreLawful, ProfileLaws}
+use Rattle.sentry_items.specs.Containers.{container_kind}
 use Rattle.sentry_envelope.specs.Envelope.{Content, value, Item, item, raw, IsValue, reads, ContentShows, ContentShowsAt, ItemShows, ItemsStand, first_id}
 use Rattle.sentry_envelope.specs.OneEnvelope.{PayloadDrawsNothing, PayloadDrawsNothingAt, FrameDrawsNothing, NothingDrawnIn, HasOneEnvelope}
 use Rattle.sentry_envelope.proofs.EnvelopeAnswers.{some_remain}

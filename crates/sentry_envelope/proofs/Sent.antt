@@ -19,9 +19,19 @@ use Rattle.sentry_items.specs.declared.attachment.Attachment.{Attachment}
 use Rattle.sentry_items.specs.declared.replay_recording.ReplayRecording.{ReplayRecording}
 use Rattle.sentry_items.specs.declared.item.EnvelopeItem.{EnvelopeItem}
 use Rattle.sentry_items.specs.declared.item.EnvelopeItem.TheVariants as variants
-use Rattle.sentry_envelope.specs.Profile.{json_form, ItemType, Profile, TypesAreLawful}
-use Rattle.sentry_envelope.specs.Envelope.{Item, item, raw, value, frame_text, frame_of_item, items_text, envelope_text, stored_content, plain_content, ContentDemand, ContentMeetsAt, ItemsMeet}
-use Rattle.sentry_envelope.proofs.EnvelopeTypes.{IsAt, meets_at, frame_is, lawful_at}
+use Rattle.serde_json.specs.Data.{number, unsigned, string, Members, no_members, member}
+use Rattle.sentry_members.specs.Cells.{cells}
+use Rattle.sentry_framing.specs.ItemWords.{kind_word}
+use Rattle.sentry_records.specs.Logs.{log_cell}
+use Rattle.sentry_records.specs.Metrics.{metric_cell}
+use Rattle.sentry_items.specs.Containers.{container_kind, container_type, content_type}
+use Rattle.sentry_items.specs.declared.container.ItemContainer.{ItemContainer}
+use Rattle.sentry_items.specs.declared.container.ItemContainer.TheVariants as containers
+use Rattle.sentry_envelope.specs.ContainerText.{container_tree, container_text}
+use Rattle.sentry_envelope.proofs.EnvelopeShown.{container_lawful}
+use Rattle.sentry_envelope.specs.Profile.{json_form, container_form, ItemType, Profile, TypesAreLawful}
+use Rattle.sentry_envelope.specs.Envelope.{Item, item, raw, value, count, container_header, frame_text, frame_of_item, items_text, envelope_text, stored_content, plain_content, ContentDemand, ContentMeetsAt, ItemsMeet}
+use Rattle.sentry_envelope.proofs.EnvelopeTypes.{IsAt, first, later, meets_at, frame_is, lawful_at}
 use Rattle.sentry_envelope.proofs.SentryProfile.{profile_lawful}
 
 -- a frame, and then what follows it
@@ -69,6 +79,22 @@ value_whole word K gives at H fill laws c stored plain =
     let own = (lawful_at at H fill laws).form in
     sound_without_float (tree K c) ((has_laws K own).written c (subst (λ X. X) (meets_at at stored_content (value c)) stored) (subst (λ X. X) (meets_at at plain_content (value c)) plain))
 
+-- the same of a container
+listed_whole : {ts : List ItemType} {n : ℕ} (word content_type : List ℕ) (K : Kind) (gives : Cell → Cell) → IsAt ts n (record { word = word; form = container_form content_type K; gives = gives }) → (H : Kind) (fill : Cell → Cell → Cell)
+    → TypesAreLawful H fill ts → (c : Cell) → ContentMeetsAt stored_content ts n (value c) → ContentMeetsAt plain_content ts n (value c) → has_float (tree (container_kind K) c) ≡ false
+listed_whole word content_type K gives at H fill laws c stored plain =
+    let own = (lawful_at at H fill laws).form in
+    sound_without_float (tree (container_kind K) c) ((has_laws (container_kind K) (container_lawful K own.0)).written c (subst (λ X. X) (meets_at at stored_content (value c)) stored) (subst (λ X. X) (meets_at at plain_content (value c)) plain))
+
+-- a container has as many items as values
+count_listed : {A : Type 0} (f : A → Cell) (xs : List A) → count (cells f xs) ≡ length xs
+count_listed f [] = refl
+count_listed f (x ∷ xs) = ap suc (count_listed f xs)
+
+-- the header of a container that counts so many
+abbrev counted_by : ℕ → ItemContainer → Members
+counted_by n container = member (codes "content_type") (string (content_type container)) (member (codes "item_count") (number (unsigned n)) (member (codes "type") (string (kind_word (container_type container))) no_members))
+
 -- a header that states a payload's length, and the payload
 abbrev pub value_text : List ℕ → List ℕ → List ℕ
 value_text word text = with_line (header_text (short_header word text)) (with_line text [])
@@ -106,6 +132,24 @@ module _ {E : Type 0} (r : Result (Unit {0}) E) where
     value_sent i old new c is sent =
         subst (λ v. OnOk r (AreReady (v ∷ []) → new ≡ old ++ frame_text (frame_of_item profile v) [])) (sym is)
         (then_ok r _ _ (λ e ready. e (value_whole word K gives at header_kind fill_id profile_lawful.types c ready.0.0 ready.1.0) ∙ ap (λ f. old ++ frame_text f []) (sym (frame_is at (value c)))) sent)
+
+  -- of a container
+  module _ (n : ℕ) (word content_type : List ℕ) (K : Kind) (gives : Cell → Cell) (at : IsAt item_types n (record { word = word; form = container_form content_type K; gives = gives })) where
+    pub listed_sent : (i : EnvelopeItem) (old new : List ℕ) (c : Cell) → item_view i ≡ item n (value c)
+        → OnOk r (has_float (tree (container_kind K) c) ≡ false → new ≡ old ++ with_line (header_text (container_header word content_type c)) (with_line (compact_text (tree (container_kind K) c)) [])) → Sends old new i
+    unfolding profile header_text
+    listed_sent i old new c is sent =
+        subst (λ v. OnOk r (AreReady (v ∷ []) → new ≡ old ++ frame_text (frame_of_item profile v) [])) (sym is)
+        (then_ok r _ _ (λ e ready. e (listed_whole word content_type K gives at header_kind fill_id profile_lawful.types c ready.0.0 ready.1.0) ∙ ap (λ f. old ++ frame_text f []) (sym (frame_is at (value c)))) sent)
+
+  pub container_sent : (k : ItemContainer) (i : EnvelopeItem) (old new : List ℕ) → i ≡ variants.ItemContainer k
+      → OnOk r (has_float (container_tree k) ≡ false → new ≡ old ++ container_text k (compact_text (container_tree k))) → Sends old new i
+  container_sent (containers.Logs logs) i old new is sent =
+      listed_sent 8 _ _ _ _ (later (later (later (later (later (later (later (later first)))))))) i old new _ (ap item_view is)
+      (subst (λ n. OnOk r (has_float (container_tree (containers.Logs logs)) ≡ false → new ≡ old ++ with_line (header_text (counted_by n (containers.Logs logs))) (with_line (compact_text (container_tree (containers.Logs logs))) []))) (sym (count_listed log_cell logs.items)) sent)
+  container_sent (containers.Metrics metrics) i old new is sent =
+      listed_sent 9 _ _ _ _ (later (later (later (later (later (later (later (later (later first))))))))) i old new _ (ap item_view is)
+      (subst (λ n. OnOk r (has_float (container_tree (containers.Metrics metrics)) ≡ false → new ≡ old ++ with_line (header_text (counted_by n (containers.Metrics metrics))) (with_line (compact_text (container_tree (containers.Metrics metrics))) []))) (sym (count_listed metric_cell metrics.items)) sent)
 
 -- ---- an envelope
 

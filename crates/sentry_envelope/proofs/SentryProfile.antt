@@ -18,10 +18,15 @@ use Rattle.sentry_identifiers.proofs.UuidLaws.{hyphenated_laws}
 use Rattle.sentry_event.specs.Events.{event_fields, event_kind}
 use Rattle.sentry_event.specs.Transactions.{transaction_fields, transaction_kind}
 use Rattle.sentry_event.proofs.EventLaws.{event_lawful, transaction_lawful}
+use Rattle.sentry_items.specs.Containers.{container_kind}
+use Rattle.sentry_records.specs.Logs.{log_kind}
+use Rattle.sentry_records.specs.Metrics.{metric_kind}
 use Rattle.sentry_records.specs.Monitors.{check_in_kind}
 use Rattle.sentry_records.specs.Sessions.{session_kind, groups_kind}
 use Rattle.sentry_records.specs.UserReports.{user_report_kind}
-use Rattle.sentry_records.proofs.TableLaws.{sampling_lawful, session_lawful, groups_lawful, check_in_lawful, user_report_lawful}
+use Rattle.sentry_records.proofs.TableLaws.{sampling_lawful, session_lawful, groups_lawful, check_in_lawful, user_report_lawful, log_lawful, metric_lawful}
+use Rattle.sentry_reports.proofs.TableLaws.{report_lawful}
+use Rattle.sentry_reports.specs.Reports.{report_kind}
 use Rattle.sentry_envelope.proofs.EnvelopeIds.{none_given}
 use Rattle.sentry_envelope.proofs.ItemIds.{table_gives}
 
@@ -63,5 +68,8 @@ profile_lawful = record {
       (ascii_text (codes "attachment") refl, refl, tt, tt,
       (ascii_text (codes "check_in") refl, refl, check_in_lawful, gives_nothing check_in_kind,
       (ascii_text (codes "user_report") refl, refl, user_report_lawful, gives_nothing user_report_kind,
-      (ascii_text (codes "replay_recording") refl, refl, tt, tt, tt))))))));
+      (ascii_text (codes "replay_recording") refl, refl, tt, tt,
+      (ascii_text (codes "log") refl, refl, (log_lawful, ascii_text (codes "application/vnd.sentry.items.log+json") refl), gives_nothing (container_kind log_kind),
+      (ascii_text (codes "trace_metric") refl, refl, (metric_lawful, ascii_text (codes "application/vnd.sentry.items.trace-metric+json") refl), gives_nothing (container_kind metric_kind),
+      (ascii_text (codes "client_report") refl, refl, report_lawful, gives_nothing report_kind, tt)))))))))));
 }

@@ -12,7 +12,8 @@ use Rattle.sentry_framing.specs.Framing.{Frame, IsFirstFrame, AreFrames}
 use Rattle.sentry_framing.specs.ItemHeader.{Header}
 use Rattle.sentry_framing.proofs.Verdicts.{same_first}
 use Rattle.sentry_framing.proofs.Written.{line_read}
-use Rattle.sentry_envelope.specs.Profile.{Form, attachment_form, opaque_form, json_form, container_form, container_kind, FormIsLawful, ItemType, Profile, ProfileLaws}
+use Rattle.sentry_envelope.specs.Profile.{Form, attachment_form, opaque_form, json_form, container_form, FormIsLawful, ItemType, Profile, ProfileLaws}
+use Rattle.sentry_items.specs.Containers.{container_kind}
 use Rattle.sentry_envelope.specs.Envelope.{Content, value, Item, item, raw, reads, payload_by, frame_by, frame_at, frame_text, items_text, envelope_text, stored_content, plain_content, readable_content, ContentMeets, ContentMeetsAt, ItemsMeet, ItemsAreSized, IsEnvelopeStored, IsEnvelopePlain, IsEnvelopeReadable, IsEnvelopeSized}
 use Rattle.sentry_envelope.specs.OneEnvelope.{PayloadDrawsNothing, PayloadDrawsNothingAt, FrameDrawsNothing, TextsDrawNothing}
 use Rattle.sentry_envelope.proofs.EnvelopeItems.{IsItemBack, item_back, none_of_nothing}

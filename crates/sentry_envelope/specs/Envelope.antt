@@ -12,7 +12,8 @@ use Rattle.sentry_items.specs.AttachmentWords.{attachment_type_of}
 use Rattle.sentry_items.specs.Attached.{Attached, short_header, attachment_header, attached_norm, IsAttachedStored}
 use Rattle.sentry_framing.specs.Framing.{Frame, Reading, IsLineAndBody, IsFirstFrame, with_line}
 use Rattle.sentry_framing.specs.ItemHeader.{Header, read_header, stated_length}
-use Rattle.sentry_envelope.specs.Profile.{Form, attachment_form, opaque_form, json_form, container_form, container_kind, ItemType, words, Profile}
+use Rattle.sentry_envelope.specs.Profile.{Form, attachment_form, opaque_form, json_form, container_form, ItemType, words, Profile}
+use Rattle.sentry_items.specs.Containers.{container_kind}
 
 -- ---- values
 

@@ -1,4 +1,5 @@
 pub mod Callbacks
+pub mod ContainerText
 pub mod Envelope
 pub mod EnvelopeAlike
 pub mod EnvelopeFault

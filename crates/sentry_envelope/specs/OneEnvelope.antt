@@ -5,7 +5,8 @@ use Rattle.sentry_tables.specs.Cell.{Cell}
 use Rattle.sentry_tables.specs.Drawn.{NothingDrawnInText}
 use Rattle.sentry_framing.specs.Framing.{Frame, IsLineAndBody, IsFramed}
 use Rattle.sentry_framing.specs.ItemHeader.{Header, read_header}
-use Rattle.sentry_envelope.specs.Profile.{Form, attachment_form, opaque_form, json_form, container_form, container_kind, ItemType, words, Profile}
+use Rattle.sentry_envelope.specs.Profile.{Form, attachment_form, opaque_form, json_form, container_form, ItemType, words, Profile}
+use Rattle.sentry_items.specs.Containers.{container_kind}
 use Rattle.sentry_envelope.specs.Envelope.{Envelope, Spells, reads, envelope_text, IsEnvelopeStored, IsEnvelopePlain, IsEnvelopeReadable, IsEnvelopeSized}
 
 -- ---- what is drawn

@@ -1,12 +1,13 @@
 -- What envelopes may hold: the kind of their header, and item types, each a word with the form of its payload.
-use Rattle.std.specs.Prelude.{◌≡◌, ◌≤◌, ℕ, List, [], ◌∷◌, false, IsUtf8, codes, ⊤}
+use Rattle.std.specs.Prelude.{◌≡◌, ◌≤◌, ℕ, List, [], ◌∷◌, false, IsUtf8, ⊤}
 use Rattle.serde_json.specs.Data.{depth}
 use Rattle.sentry_tables.specs.Cell.{Cell, absent}
-use Rattle.sentry_tables.specs.Kind.{Kind, list, must, ignored, table, no_rows, row, has_key}
+use Rattle.sentry_tables.specs.Kind.{Kind, has_key}
 use Rattle.sentry_tables.specs.Norm.{norm}
 use Rattle.sentry_tables.specs.Written.{tree}
 use Rattle.sentry_tables.specs.Meets.{IsPlain, IsReadable, IsStored}
 use Rattle.sentry_tables.specs.Lawful.{IsLawful}
+use Rattle.sentry_items.specs.Containers.{container_kind}
 
 pub data Form : Type 1 where
   -- the payload is an attachment's bytes; its name and types stand in the item's header
@@ -17,10 +18,6 @@ pub data Form : Type 1 where
   json_form : Kind → Form
   -- the payload is a JSON object with an array `items` of this kind; this content type stands in the item's header
   container_form : List ℕ → Kind → Form
-
--- the kind of a container's payload: an object with a required array `items`; other keys are ignored
-abbrev pub container_kind : Kind → Kind
-container_kind K = table (row (codes "items") must (list K) no_rows) ignored
 
 pub record ItemType : Type 1 where
   -- the word at `type` in the item's header

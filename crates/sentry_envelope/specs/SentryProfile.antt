@@ -4,10 +4,13 @@ use Rattle.sentry_tables.specs.Cell.{Cell, absent, fields, Cells, no_cells, cell
 use Rattle.sentry_tables.specs.Kind.{Kind, table, Rows, no_rows, row}
 use Rattle.sentry_event.specs.Events.{event_kind}
 use Rattle.sentry_event.specs.Transactions.{transaction_kind}
+use Rattle.sentry_records.specs.Logs.{log_kind}
+use Rattle.sentry_records.specs.Metrics.{metric_kind}
 use Rattle.sentry_records.specs.Monitors.{check_in_kind}
 use Rattle.sentry_records.specs.Sessions.{session_kind, groups_kind}
 use Rattle.sentry_records.specs.UserReports.{user_report_kind}
-use Rattle.sentry_envelope.specs.Profile.{Form, attachment_form, opaque_form, json_form, ItemType, Profile}
+use Rattle.sentry_reports.specs.Reports.{report_kind}
+use Rattle.sentry_envelope.specs.Profile.{Form, attachment_form, opaque_form, json_form, container_form, ItemType, Profile}
 use Rattle.sentry_envelope.specs.HeaderFields.{header_kind, fill_id}
 
 -- ---- ids
@@ -43,6 +46,9 @@ item_types =
     ∷ without_id (codes "check_in") (json_form check_in_kind)
     ∷ without_id (codes "user_report") (json_form user_report_kind)
     ∷ without_id (codes "replay_recording") opaque_form
+    ∷ without_id (codes "log") (container_form (codes "application/vnd.sentry.items.log+json") log_kind)
+    ∷ without_id (codes "trace_metric") (container_form (codes "application/vnd.sentry.items.trace-metric+json") metric_kind)
+    ∷ without_id (codes "client_report") (json_form report_kind)
     ∷ []
 
 unfoldable pub profile : Profile

@@ -20,8 +20,11 @@ use json::Scratch;
 use rand_core::Rng;
 use sentry_event::{Event, Transaction};
 use sentry_framing::{EnvelopeError, Frames, ItemFrame, ItemHeader, ItemKind};
-use sentry_items::{Attachment, AttachmentType, EnvelopeItem, ReplayRecording};
+use sentry_items::{
+    Attachment, AttachmentType, EnvelopeItem, ItemContainer, Listed, ReplayRecording,
+};
 use sentry_members::{FromTree, TreeError, read_line_with};
+use sentry_records::{Log, Metric};
 use sentry_rows::FromTreeAt;
 use sentry_text::Moment;
 use sentry_text::timed::read_line_at_with;
@@ -84,6 +87,19 @@ fn read_item<R: Rng>(
         )?)),
         ItemKind::ReplayRecording => Ok(EnvelopeItem::ReplayRecording(replay_recording(
             alloc, payload,
+        )?)),
+        ItemKind::Logs => {
+            let logs: Listed<Log> = read_value(alloc, payload, scratch)?;
+            Ok(EnvelopeItem::ItemContainer(ItemContainer::Logs(logs.items)))
+        }
+        ItemKind::Metrics => {
+            let metrics: Listed<Metric> = read_value(alloc, payload, scratch)?;
+            Ok(EnvelopeItem::ItemContainer(ItemContainer::Metrics(
+                metrics.items,
+            )))
+        }
+        ItemKind::ClientReport => Ok(EnvelopeItem::ClientReport(read_value_at(
+            alloc, payload, now, ids, scratch,
         )?)),
     }
 }

@@ -5,17 +5,21 @@ ghost use Rattle.serde_json.specs.Written.{compact_text, has_float};
 ghost use Rattle.sentry_tables.specs.Written.{tree};
 ghost use Rattle.sentry_framing.specs.Framing.{with_line};
 ghost use Rattle.sentry_items.specs.Attached.{short_header};
-ghost use Rattle.sentry_items.specs.HeaderTokens.{header_text};
+ghost use Rattle.json.specs.Token.{begin_object};
+ghost use Rattle.sentry_items.specs.HeaderTokens.{header_text, member_tokens};
+ghost use Rattle.sentry_envelope.specs.ContainerText.{container_tree, counted_header, container_text};
 ghost use Rattle.sentry_envelope.specs.Envelope.{envelope_text, frame_text, frame_of_item};
 ghost use Rattle.sentry_envelope.specs.EnvelopeView.{item_view, AreReady, IsReady};
 ghost use Rattle.sentry_envelope.specs.HeaderFields.{header_kind, headers_cell};
 ghost use Rattle.sentry_envelope.specs.SentryProfile.{profile};
 
 use crate::headers::EnvelopeHeaders;
-use sentry_items::EnvelopeItem;
+use json::Writer;
+use sentry_items::{EnvelopeItem, ItemContainer};
 use sentry_items::header::write_short_header;
 use sentry_members::{Member, write_text};
 use std::alloc::{AllocError, Global};
+use std::mem;
 
 /// The header line, and then each item.
 pub(crate) fn write_envelope(
@@ -86,8 +90,77 @@ fn write_item(
             write_short_header(alloc, "replay_recording", &recording.buffer, line)?;
             write_frame(line, &recording.buffer, out)
         }
+        EnvelopeItem::ItemContainer(container) => {
+            write_container(alloc, container, line, payload, out)
+        }
+        EnvelopeItem::ClientReport(report) => {
+            write_value(alloc, "client_report", report, line, payload, out)
+        }
         EnvelopeItem::Raw => Ok(()),
     }
+}
+
+/// Appends the header and payload of a container, each ended by a line feed. The line for the header is empty.
+fn write_container(
+    alloc: Global,
+    container: &ItemContainer,
+    line: &mut Vec<u8>,
+    payload: &mut Vec<u8>,
+    out: &mut Vec<u8>,
+) -> Result<(), AllocError>
+    requires { line.old.items ≡ [] }
+    ensures { OnOk result (has_float (container_tree container.now) ≡ false
+        → out.new.items ≡ out.old.items ++ container_text container.now (compact_text (container_tree container.now))) }
+{
+    payload.clear();
+    write_payload(container, payload)?;
+    write_container_header(alloc, container, line)?;
+    write_frame(line, payload, out)
+}
+
+/// Appends the text of a container's payload.
+fn write_payload(container: &ItemContainer, out: &mut Vec<u8>) -> Result<(), AllocError>
+    ensures { OnOk result (has_float (container_tree container.now) ≡ false
+        → out.new.items ≡ out.old.items ++ compact_text (container_tree container.now)) }
+{
+    let alloc = *out.allocator();
+    let mut writer = Writer::new(mem::replace(out, Vec::new(alloc)));
+    container.write(&mut writer)?;
+    *out = writer.into_inner();
+    Ok(())
+}
+
+/// Appends the header of a container: its media type, how many values it holds, and its type.
+fn write_container_header(
+    alloc: Global,
+    container: &ItemContainer,
+    out: &mut Vec<u8>,
+) -> Result<(), AllocError>
+    ensures { OnOk result (out.new.items ≡ out.old.items ++ header_text (counted_header container.now)) }
+{
+    let mut writer = Writer::new(mem::replace(out, Vec::new(alloc)));
+    let outcome = write_container_tokens(container, &mut writer);
+    *out = writer.into_inner();
+    outcome
+}
+
+/// Writes that header's text.
+#[tactic(auto, unfolding(sentry_items::specs::HeaderTokens::member_tokens))]
+fn write_container_tokens(
+    container: &ItemContainer,
+    writer: &mut Writer,
+) -> Result<(), AllocError>
+    ensures ok { OnOk result (writer.new.tokens ≡ writer.old.tokens ++ begin_object ∷ member_tokens (counted_header container.now)) }
+    ensures before { writer.new.before ≡ writer.old.before }
+{
+    writer.begin_object()?;
+    writer.key("content_type")?;
+    writer.string(container.content_type())?;
+    writer.key("item_count")?;
+    writer.u64(container.len() as u64)?;
+    writer.key("type")?;
+    writer.string(container.ty())?;
+    writer.end_object()
 }
 
 /// Appends the header and payload of an item whose payload is JSON, each ended by a line feed. The line for the header is empty.

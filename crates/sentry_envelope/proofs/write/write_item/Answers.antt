@@ -1,7 +1,7 @@
 use Rattle.std.proofs.Common.{ap}
 use Rattle.sentry_envelope.specs.EnvelopeView.{item_view}
 use Rattle.sentry_envelope.proofs.EnvelopeTypes.{first, later}
-use Rattle.sentry_envelope.proofs.Sent.{attachment_sent, recording_sent, value_sent}
+use Rattle.sentry_envelope.proofs.Sent.{attachment_sent, recording_sent, value_sent, container_sent}
 use Rattle.sentry_envelope.proofs.write.write_item.Goals as goal
 
 pub returns-in-Event : goal.returns-in-Event
@@ -38,3 +38,11 @@ returns-in_ok-write_short_header-in-ReplayRecording c =
     recording_sent c.write_frame-in-ReplayRecording.result c.args.item.now c.args.out.now.items c.write_frame-in-ReplayRecording.new.out.items c.write_short_header.new.out.items c.in-ReplayRecording.recording c.in-ReplayRecording.is
     (rw (c.clear.ensures.items, c.deref-in-ReplayRecording.ensures.value) at c.in_ok-write_short_header-in-ReplayRecording.ensures.ok)
     (rw (c.deref-in-ReplayRecording-2.ensures.value, c.deref-in-ReplayRecording-3.ensures.value) at c.write_frame-in-ReplayRecording.ensures)
+
+pub returns-in-ItemContainer : goal.returns-in-ItemContainer
+returns-in-ItemContainer c =
+    container_sent c.write_container.result c.in-ItemContainer.container c.args.item.now c.args.out.now.items c.write_container.new.out.items c.in-ItemContainer.is c.write_container.ensures
+
+pub returns-in-ClientReport : goal.returns-in-ClientReport
+returns-in-ClientReport c =
+    value_sent c.write_value-in-ClientReport.result 10 _ _ _ (later (later (later (later (later (later (later (later (later (later first)))))))))) c.args.item.now c.args.out.now.items c.write_value-in-ClientReport.new.out.items _ (ap item_view c.in-ClientReport.is) c.write_value-in-ClientReport.ensures
