@@ -53,11 +53,11 @@ attachments_decide a b =
 one_kind : (x y : ItemView) → x ≡ y → kind_held x ≡ kind_held y
 one_kind x y same = ap kind_held same
 
-abbrev cell_in : ItemView → Cell
+abbrev pub cell_in : ItemView → Cell
 cell_in (value k c) = c
 cell_in _ = absent
 
-abbrev attached_in : ItemView → Attached → Attached
+abbrev pub attached_in : ItemView → Attached → Attached
 attached_in (attachment a) b = a
 attached_in _ b = b
 

@@ -4,5 +4,6 @@ pub mod Cut
 pub mod Equal
 pub mod HeaderTokens
 pub mod Made
+pub mod SameLosses
 pub mod Sent
 pub mod UsualHeader
