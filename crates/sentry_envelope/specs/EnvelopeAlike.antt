@@ -27,7 +27,7 @@ HasStoredAddresses e = EachHasStoredAddress (items_in e.contents)
 -- as many items, alike one by one
 abbrev pub EachAlike : List EnvelopeItem → List EnvelopeItem → Type 0
 EachAlike [] [] = ⊤
-EachAlike (x ∷ xs) (y ∷ ys) = AreAlike (item_held x) (item_held y) × EachAlike xs ys
+EachAlike (x ∷ xs) (y ∷ ys) = AreAlike x y × EachAlike xs ys
 EachAlike _ _ = ⊥
 
 -- items that are alike, or the same bytes
