@@ -55,13 +55,47 @@ unfolding profile
 profile_lawful = record {
   header = header_lawful;
   unfilled = λ h. refl;
-  types =
-      (ascii_text (codes "event") refl, refl, event_lawful, event_gives,
-      (ascii_text (codes "session") refl, refl, session_lawful, gives_nothing session_kind,
-      (ascii_text (codes "sessions") refl, refl, groups_lawful, gives_nothing groups_kind,
-      (ascii_text (codes "transaction") refl, refl, transaction_lawful, transaction_gives,
-      (ascii_text (codes "attachment") refl, refl, tt, tt,
-      (ascii_text (codes "check_in") refl, refl, check_in_lawful, gives_nothing check_in_kind,
-      (ascii_text (codes "user_report") refl, refl, user_report_lawful, gives_nothing user_report_kind,
-      (ascii_text (codes "replay_recording") refl, refl, tt, tt, tt))))))));
+  types = (
+    ascii_text (codes "event") refl,
+    refl,
+    event_lawful,
+    event_gives,
+    (
+      ascii_text (codes "session") refl,
+      refl,
+      session_lawful,
+      gives_nothing session_kind,
+      (
+        ascii_text (codes "sessions") refl,
+        refl,
+        groups_lawful,
+        gives_nothing groups_kind,
+        (
+          ascii_text (codes "transaction") refl,
+          refl,
+          transaction_lawful,
+          transaction_gives,
+          (
+            ascii_text (codes "attachment") refl,
+            refl,
+            tt,
+            tt,
+            (
+              ascii_text (codes "check_in") refl,
+              refl,
+              check_in_lawful,
+              gives_nothing check_in_kind,
+              (
+                ascii_text (codes "user_report") refl,
+                refl,
+                user_report_lawful,
+                gives_nothing user_report_kind,
+                (ascii_text (codes "replay_recording") refl, refl, tt, tt, tt),
+              ),
+            ),
+          ),
+        ),
+      ),
+    ),
+  );
 }
