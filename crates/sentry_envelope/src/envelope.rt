@@ -192,7 +192,6 @@ impl Envelope {
     /// - `RawEnvelope`: the envelope is raw, and the item is not `Raw`. A raw envelope always takes a `Raw` item, which
     ///   adds nothing.
     /// - `Memory`: memory was refused.
-    #[tactic(auto, using(crate::proofs::ItemIds::given_of))]
     pub fn add_item(&mut self, item: EnvelopeItem) -> Result<(), AddRefused>
         ensures added { (old : Model) → structured self.old ≡ Some old → OnOk result (structured self.new ≡ Some (with_item old (item_view item))) }
         ensures raw_envelope { (result ≡ Err (AddRefused.RawEnvelope item)) ↔ (IsSome (raw_bytes self.old) × (item ≢ EnvelopeItem.Raw)) }

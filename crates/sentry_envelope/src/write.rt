@@ -74,7 +74,14 @@ fn write_item(
             write_value(alloc, "sessions", groups, line, payload, out)
         }
         EnvelopeItem::Transaction(transaction) => {
-            write_value(alloc, "transaction", transaction.as_ref(), line, payload, out)
+            write_value(
+                alloc,
+                "transaction",
+                transaction.as_ref(),
+                line,
+                payload,
+                out,
+            )
         }
         EnvelopeItem::Attachment(attachment) => {
             attachment.write_header(alloc, "attachment", line)?;
@@ -175,7 +182,7 @@ fn write_value<T: Member>(
     requires { line.old.items ≡ [] }
     ensures { OnOk result (has_float (tree T.kind (T.cell_of value.now)) ≡ false
         → out.new.items ≡ out.old.items ++ with_line (header_text (short_header word.now (compact_text (tree T.kind (T.cell_of value.now)))))
-          (with_line (compact_text (tree T.kind (T.cell_of value.now))) [])) }
+        (with_line (compact_text (tree T.kind (T.cell_of value.now))) [])) }
 {
     payload.clear();
     write_text(value, payload)?;
