@@ -12,6 +12,7 @@ use Rattle.sentry_identifiers.specs.Uuids.{IsUuid, hyphenated}
 use Rattle.sentry_identifiers.proofs.UuidLaws.{uuid_normal}
 use Rattle.sentry_event.specs.Events.{event_fields}
 use Rattle.sentry_event.specs.Transactions.{transaction_fields}
+use Rattle.sentry_items.specs.declared.container.ItemContainer.TheVariants as containers
 use Rattle.sentry_items.specs.declared.item.EnvelopeItem.{EnvelopeItem}
 use Rattle.sentry_items.specs.declared.item.EnvelopeItem.TheVariants as variants
 use Rattle.uuid.specs.declared.Uuid.{Uuid}
@@ -88,6 +89,8 @@ table_gives key rows other ids _ stored plain = absurd stored
 pub gives_id_or_none : (i : EnvelopeItem) → given_id (id_in (given_by item_types (item_view i))) ≡ given_by item_types (item_view i)
 unfolding event_fields transaction_fields
 gives_id_or_none (variants.Event e) = refl
+gives_id_or_none (variants.ItemContainer (containers.Logs logs)) = refl
+gives_id_or_none (variants.ItemContainer (containers.Metrics metrics)) = refl
 gives_id_or_none _ = refl
 
 pub given_of : (i : EnvelopeItem) (id : Option Uuid) → id ≡ id_of i → given_id id ≡ given_by item_types (item_view i)

@@ -152,7 +152,6 @@ fn write_container_header(
 }
 
 /// Writes that header's text.
-#[tactic(auto, unfolding(sentry_items::specs::HeaderTokens::member_tokens))]
 fn write_container_tokens(
     container: &ItemContainer,
     writer: &mut Writer,
@@ -161,6 +160,15 @@ fn write_container_tokens(
     ensures before { writer.new.before ≡ writer.old.before }
 {
     writer.begin_object()?;
+    write_counted_members(container, writer)
+}
+
+/// Writes the members of that header, and its closing brace.
+#[tactic(auto, unfolding(sentry_items::specs::HeaderTokens::member_tokens))]
+fn write_counted_members(container: &ItemContainer, writer: &mut Writer) -> Result<(), AllocError>
+    ensures ok { OnOk result (writer.new.tokens ≡ writer.old.tokens ++ member_tokens (counted_header container.now)) }
+    ensures before { writer.new.before ≡ writer.old.before }
+{
     writer.key("content_type")?;
     writer.string(container.content_type())?;
     writer.key("item_count")?;
