@@ -60,16 +60,65 @@ unfolding profile
 profile_lawful = record {
   header = header_lawful;
   unfilled = λ h. refl;
-  types =
-      (ascii_text (codes "event") refl, refl, event_lawful, event_gives,
-      (ascii_text (codes "session") refl, refl, session_lawful, gives_nothing session_kind,
-      (ascii_text (codes "sessions") refl, refl, groups_lawful, gives_nothing groups_kind,
-      (ascii_text (codes "transaction") refl, refl, transaction_lawful, transaction_gives,
-      (ascii_text (codes "attachment") refl, refl, tt, tt,
-      (ascii_text (codes "check_in") refl, refl, check_in_lawful, gives_nothing check_in_kind,
-      (ascii_text (codes "user_report") refl, refl, user_report_lawful, gives_nothing user_report_kind,
-      (ascii_text (codes "replay_recording") refl, refl, tt, tt,
-      (ascii_text (codes "log") refl, refl, (log_lawful, ascii_text (codes "application/vnd.sentry.items.log+json") refl), gives_nothing (container_kind log_kind),
-      (ascii_text (codes "trace_metric") refl, refl, (metric_lawful, ascii_text (codes "application/vnd.sentry.items.trace-metric+json") refl), gives_nothing (container_kind metric_kind),
-      (ascii_text (codes "client_report") refl, refl, report_lawful, gives_nothing report_kind, tt)))))))))));
+  types = (
+    ascii_text (codes "event") refl,
+    refl,
+    event_lawful,
+    event_gives,
+    (
+      ascii_text (codes "session") refl,
+      refl,
+      session_lawful,
+      gives_nothing session_kind,
+      (
+        ascii_text (codes "sessions") refl,
+        refl,
+        groups_lawful,
+        gives_nothing groups_kind,
+        (
+          ascii_text (codes "transaction") refl,
+          refl,
+          transaction_lawful,
+          transaction_gives,
+          (
+            ascii_text (codes "attachment") refl,
+            refl,
+            tt,
+            tt,
+            (
+              ascii_text (codes "check_in") refl,
+              refl,
+              check_in_lawful,
+              gives_nothing check_in_kind,
+              (
+                ascii_text (codes "user_report") refl,
+                refl,
+                user_report_lawful,
+                gives_nothing user_report_kind,
+                (
+                  ascii_text (codes "replay_recording") refl,
+                  refl,
+                  tt,
+                  tt,
+                  (
+                    ascii_text (codes "log") refl,
+                    refl,
+                    (log_lawful, ascii_text (codes "application/vnd.sentry.items.log+json") refl),
+                    gives_nothing (container_kind log_kind),
+                    (
+                      ascii_text (codes "trace_metric") refl,
+                      refl,
+                      (metric_lawful, ascii_text (codes "application/vnd.sentry.items.trace-metric+json") refl),
+                      gives_nothing (container_kind metric_kind),
+                      (ascii_text (codes "client_report") refl, refl, report_lawful, gives_nothing report_kind, tt),
+                    ),
+                  ),
+                ),
+              ),
+            ),
+          ),
+        ),
+      ),
+    ),
+  );
 }

@@ -90,9 +90,7 @@ fn read_item<R: Rng>(
         }
         ItemKind::Metrics => {
             let metrics: Listed<Metric> = read_value(alloc, payload, scratch)?;
-            Ok(EnvelopeItem::ItemContainer(ItemContainer::Metrics(
-                metrics.items,
-            )))
+            Ok(EnvelopeItem::ItemContainer(ItemContainer::Metrics(metrics.items)))
         }
         ItemKind::ClientReport => Ok(EnvelopeItem::ClientReport(read_value_at(
             alloc, payload, now, ids, scratch,

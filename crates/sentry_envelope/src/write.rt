@@ -15,8 +15,8 @@ ghost use Rattle.sentry_envelope.specs.SentryProfile.{profile};
 
 use crate::headers::EnvelopeHeaders;
 use json::Writer;
-use sentry_items::{EnvelopeItem, ItemContainer};
 use sentry_items::header::write_short_header;
+use sentry_items::{EnvelopeItem, ItemContainer};
 use sentry_members::{Member, write_text};
 use std::alloc::{AllocError, Global};
 use std::mem;
@@ -152,10 +152,7 @@ fn write_container_header(
 }
 
 /// Writes that header's text.
-fn write_container_tokens(
-    container: &ItemContainer,
-    writer: &mut Writer,
-) -> Result<(), AllocError>
+fn write_container_tokens(container: &ItemContainer, writer: &mut Writer) -> Result<(), AllocError>
     ensures ok { OnOk result (writer.new.tokens ≡ writer.old.tokens ++ begin_object ∷ member_tokens (counted_header container.now)) }
     ensures before { writer.new.before ≡ writer.old.before }
 {

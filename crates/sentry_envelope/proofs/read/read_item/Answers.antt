@@ -82,7 +82,7 @@ returns-in_ok-replay_recording-in-ReplayRecording-clause-ok g c =
 pub returns-in_ok-logs-in-Logs-clause-ok : goal.returns-in_ok-logs-in-Logs-clause-ok
 returns-in_ok-logs-in-Logs-clause-ok g c =
     let read = c.in_ok-logs-in-Logs in
-    value_read (frame_of c.args.frame.now) c.args.header.now c.requires (moment_cell c.args.now) kinds.Logs (payload_kind kinds.Logs) c.in-Logs.is (listed refl) _ (variants.ItemContainer (containers.Logs read.field-0.items)) read.ensures.ok refl
+    value_read (frame_of c.args.frame.now) c.args.header.now c.requires (moment_cell c.args.now) kinds.Logs (payload_kind kinds.Logs) c.in-Logs.is (listed refl) _ (variants.ItemContainer (containers.Logs read.logs.items)) read.ensures.ok refl
 
 pub returns-in_err-logs-in-Logs-clause-err : goal.returns-in_err-logs-in-Logs-clause-err
 returns-in_err-logs-in-Logs-clause-err g c =
@@ -92,7 +92,7 @@ returns-in_err-logs-in-Logs-clause-err g c =
 pub returns-in_ok-metrics-in-Metrics-clause-ok : goal.returns-in_ok-metrics-in-Metrics-clause-ok
 returns-in_ok-metrics-in-Metrics-clause-ok g c =
     let read = c.in_ok-metrics-in-Metrics in
-    value_read (frame_of c.args.frame.now) c.args.header.now c.requires (moment_cell c.args.now) kinds.Metrics (payload_kind kinds.Metrics) c.in-Metrics.is (listed refl) _ (variants.ItemContainer (containers.Metrics read.field-0.items)) read.ensures.ok refl
+    value_read (frame_of c.args.frame.now) c.args.header.now c.requires (moment_cell c.args.now) kinds.Metrics (payload_kind kinds.Metrics) c.in-Metrics.is (listed refl) _ (variants.ItemContainer (containers.Metrics read.metrics.items)) read.ensures.ok refl
 
 pub returns-in_err-metrics-in-Metrics-clause-err : goal.returns-in_err-metrics-in-Metrics-clause-err
 returns-in_err-metrics-in-Metrics-clause-err g c =
