@@ -7,6 +7,7 @@ use Rattle.sentry_tables.specs.Cell.{Cell}
 use Rattle.sentry_tables.specs.Meets.{IsPlain, IsStored}
 use Rattle.sentry_items.specs.Meets.{IsItemPlain, IsItemStored}
 use Rattle.sentry_items.specs.View.{item_held}
+use Rattle.sentry_items.specs.declared.container.ItemContainer.TheVariants as containers
 use Rattle.sentry_items.specs.declared.item.EnvelopeItem.{EnvelopeItem}
 use Rattle.sentry_items.specs.declared.item.EnvelopeItem.TheVariants as item_variants
 use Rattle.sentry_envelope.specs.Envelope.{Envelope as Model, plain_content, stored_content, ItemsMeet, IsEnvelopePlain, IsEnvelopeSized, IsEnvelopeStored}
@@ -22,10 +23,14 @@ use Rattle.sentry_envelope.specs.declared.envelope.Envelope.{Envelope}
 
 pub item_plain : (i : EnvelopeItem) (r : Bool) → (IsTrue r ↔ IsItemPlain (item_held i)) → IsTrue r ↔ ItemsMeet plain_content item_types (item_view i ∷ [])
 item_plain item_variants.Raw r is = (λ t. tt, λ m. is.1 tt)
+item_plain (item_variants.ItemContainer (containers.Logs logs)) r is = (λ t. (is.0 t, tt), λ m. is.1 m.0)
+item_plain (item_variants.ItemContainer (containers.Metrics metrics)) r is = (λ t. (is.0 t, tt), λ m. is.1 m.0)
 item_plain _ r is = (λ t. (is.0 t, tt), λ m. is.1 m.0)
 
 pub item_stored : (i : EnvelopeItem) (r : Bool) → (IsTrue r → IsItemStored (item_held i)) → IsTrue r → ItemsMeet stored_content item_types (item_view i ∷ [])
 item_stored item_variants.Raw r is t = tt
+item_stored (item_variants.ItemContainer (containers.Logs logs)) r is t = (is t, tt)
+item_stored (item_variants.ItemContainer (containers.Metrics metrics)) r is t = (is t, tt)
 item_stored _ r is t = (is t, tt)
 
 -- ---- an envelope

@@ -11,6 +11,7 @@ use Rattle.sentry_members.specs.declared.way.Way.TheVariants.{Same, Normal}
 use Rattle.sentry_tables.specs.Cell.{Cell}
 use Rattle.sentry_items.specs.Made.{item_made}
 use Rattle.sentry_items.specs.View.{item_held}
+use Rattle.sentry_items.specs.declared.container.ItemContainer.TheVariants as containers
 use Rattle.sentry_items.specs.declared.item.EnvelopeItem.{EnvelopeItem}
 use Rattle.sentry_items.specs.declared.item.EnvelopeItem.TheVariants as item_variants
 use Rattle.uuid.specs.declared.Uuid.{Uuid}
@@ -34,6 +35,8 @@ item_then : (way : Way) (x : EnvelopeItem) (is : List Item) → stands way (item
 unfolding stands items_made item_made
 item_then Same x is there = refl
 item_then (Normal alloc) item_variants.Raw is there = absurd cc
+item_then (Normal alloc) (item_variants.ItemContainer (containers.Logs logs)) is there = refl
+item_then (Normal alloc) (item_variants.ItemContainer (containers.Metrics metrics)) is there = refl
 item_then (Normal alloc) _ is there = refl
 
 -- one that does not, and then the others

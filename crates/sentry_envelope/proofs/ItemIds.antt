@@ -1,5 +1,7 @@
 -- The id of an event or a transaction: its normal form holds the same, and it may fill a header.
-use Rattle.std.proofs.Common.{◌≡◌, ℕ, List, [], ◌∷◌, Bool, true, false, cond, bytes_eq, Option, map, if◌then◌else◌, refl, ap, ◌∙◌}
+use Rattle.std.proofs.Common.{◌≡◌, ℕ, List, [], ◌∷◌, Bool, true, false, cond, bytes_eq, Option, Some, Vec, Global, map, ◌++◌, if◌then◌else◌, refl, ap, ap₂, ◌∙◌, subst}
+use Rattle.std.proofs.lemmas.List.{map-append}
+use Rattle.std.proofs.lemmas.Option.{same_Some}
 use Rattle.std.specs.Prelude.{is_some}
 use Rattle.sentry_tables.specs.Cell.{Cell, absent, octets, fields, Cells, no_cells, cell}
 use Rattle.sentry_tables.specs.Kind.{Rule, draw, Other, Kind, table, Rows, no_rows, row}
@@ -10,11 +12,14 @@ use Rattle.sentry_identifiers.specs.Uuids.{IsUuid, hyphenated}
 use Rattle.sentry_identifiers.proofs.UuidLaws.{uuid_normal}
 use Rattle.sentry_event.specs.Events.{event_fields}
 use Rattle.sentry_event.specs.Transactions.{transaction_fields}
+use Rattle.sentry_items.specs.declared.container.ItemContainer.TheVariants as containers
 use Rattle.sentry_items.specs.declared.item.EnvelopeItem.{EnvelopeItem}
 use Rattle.sentry_items.specs.declared.item.EnvelopeItem.TheVariants as variants
 use Rattle.uuid.specs.declared.Uuid.{Uuid}
-use Rattle.sentry_envelope.specs.Envelope.{given_by, or_else, first_id}
-use Rattle.sentry_envelope.specs.EnvelopeView.{item_view}
+use Rattle.sentry_envelope.specs.Envelope.{Envelope as Model, given_by, or_else, first_id}
+use Rattle.sentry_envelope.specs.EnvelopeView.{items, item_view, header_of, held_in, structured, structured_by, with_item}
+use Rattle.sentry_envelope.specs.declared.envelope.Contents.TheVariants as contents
+use Rattle.sentry_envelope.specs.declared.envelope.Envelope.{Envelope}
 use Rattle.sentry_envelope.specs.Filter.{id_in, id_of, first_id_of}
 use Rattle.sentry_envelope.specs.HeaderFields.{header_fields, header_kind, header_in_order, fill_id, given_id}
 use Rattle.sentry_envelope.specs.Profile.{FillLaws, GivesAlike}
@@ -84,6 +89,8 @@ table_gives key rows other ids _ stored plain = absurd stored
 pub gives_id_or_none : (i : EnvelopeItem) → given_id (id_in (given_by item_types (item_view i))) ≡ given_by item_types (item_view i)
 unfolding event_fields transaction_fields
 gives_id_or_none (variants.Event e) = refl
+gives_id_or_none (variants.ItemContainer (containers.Logs logs)) = refl
+gives_id_or_none (variants.ItemContainer (containers.Metrics metrics)) = refl
 gives_id_or_none _ = refl
 
 pub given_of : (i : EnvelopeItem) (id : Option Uuid) → id ≡ id_of i → given_id id ≡ given_by item_types (item_view i)
@@ -100,3 +107,13 @@ pub first_given : (xs : List EnvelopeItem) → first_id item_types (map item_vie
 unfolding id_of
 first_given [] = refl
 first_given (x ∷ xs) = choose (given_by item_types (item_view x)) (first_id item_types (map item_view xs)) (first_id_of xs) (gives_id_or_none x) (first_given xs)
+
+-- ---- one item is added
+
+pub one_added : (e : Envelope) (held : Vec EnvelopeItem Global) (i : EnvelopeItem) (id : Option Uuid) (header : Cell) (all : List EnvelopeItem) (old : Model) → e.contents ≡ contents.Items held → id ≡ id_of i
+    → header ≡ fill_id (given_id id) (header_of e) → all ≡ held.items ++ i ∷ [] → structured e ≡ Some old → structured_by header (items (map item_view all)) ≡ Some (with_item old (item_view i))
+one_added e held i id header all old is gives filled pushed some =
+    let own = same_Some (record { header = header_of e; items = map item_view held.items }) old (subst (λ c. structured_by (header_of e) (held_in c) ≡ Some old) is some) in
+    let head = filled ∙ ap (λ g. fill_id g (header_of e)) (given_of i id gives) in
+    let body = ap (map item_view) pushed ∙ map-append item_view held.items (i ∷ []) in
+    ap₂ (λ h is. structured_by h (items is)) head body ∙ ap (λ m. Some (with_item m (item_view i))) own

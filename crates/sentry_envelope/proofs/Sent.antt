@@ -169,5 +169,5 @@ item_written items i x done new all within is sent (ready, so_far) =
     let now_ready : AreReady (item_view x ∷ map item_view others) = subst (λ xs. AreReady (map item_view xs)) first ready in (
       ready_rest (item_view x) (map item_view others) now_ready,
       ap (λ s. s ++ items_text profile (map item_view others)) (sent (ready_first (item_view x) (map item_view others) now_ready)) ∙ item_then profile done (item_view x) (map item_view others)
-      ∙ ap (λ xs. done ++ items_text profile (map item_view xs)) (sym first) ∙ so_far,
+          ∙ ap (λ xs. done ++ items_text profile (map item_view xs)) (sym first) ∙ so_far,
     )

@@ -7,13 +7,13 @@ use crate::items::{EnvelopeItemIter, IntoItems};
 use crate::plain::items_are_plain;
 use crate::read::read_items;
 use crate::write::write_envelope;
-use json::Scratch;
 use rand_core::Rng;
 use sentry_event::Event;
 use sentry_framing::{EnvelopeError, Frames};
 use sentry_items::EnvelopeItem;
 use sentry_items::counted::{CountedWriter, send, send_plain};
 use sentry_text::{Member, Moment};
+use sentry_trees::scratch;
 use std::alloc::{AllocError, AllocFailed, Global};
 use std::io::Write;
 use std::rt::Files;
@@ -132,7 +132,7 @@ impl Envelope {
         ensures fault { IfErr result (λ x. x ≢ EnvelopeError.OutOfMemory → Fault profile bytes.now x) }
     {
         let mut frames = Frames::new(bytes);
-        let mut scratch = Scratch::new(alloc);
+        let mut scratch = scratch(alloc);
         let headers = read_header_line(alloc, frames.header_line(), &mut scratch)?;
         let items = read_items(alloc, &mut frames, now, ids, &mut scratch)?;
         Ok(Envelope {
@@ -192,7 +192,6 @@ impl Envelope {
     /// - `RawEnvelope`: the envelope is raw, and the item is not `Raw`. A raw envelope always takes a `Raw` item, which
     ///   adds nothing.
     /// - `Memory`: memory was refused.
-    #[tactic(auto, using(crate::proofs::ItemIds::given_of))]
     pub fn add_item(&mut self, item: EnvelopeItem) -> Result<(), AddRefused>
         ensures added { (old : Model) → structured self.old ≡ Some old → OnOk result (structured self.new ≡ Some (with_item old (item_view item))) }
         ensures raw_envelope { (result ≡ Err (AddRefused.RawEnvelope item)) ↔ (IsSome (raw_bytes self.old) × (item ≢ EnvelopeItem.Raw)) }

@@ -76,15 +76,11 @@ fn read_item<R: Rng>(
         ItemKind::Transaction => {
             transaction(alloc, read_value_at(alloc, payload, now, ids, scratch)?)
         }
-        ItemKind::Attachment => Ok(EnvelopeItem::Attachment(attachment(
-            alloc, payload, header,
-        )?)),
+        ItemKind::Attachment => Ok(EnvelopeItem::Attachment(attachment(alloc, payload, header)?)),
         ItemKind::MonitorCheckIn => Ok(EnvelopeItem::MonitorCheckIn(read_value(
             alloc, payload, scratch,
         )?)),
-        ItemKind::UserReport => Ok(EnvelopeItem::UserReport(read_value(
-            alloc, payload, scratch,
-        )?)),
+        ItemKind::UserReport => Ok(EnvelopeItem::UserReport(read_value(alloc, payload, scratch)?)),
         ItemKind::ReplayRecording => Ok(EnvelopeItem::ReplayRecording(replay_recording(
             alloc, payload,
         )?)),
@@ -152,7 +148,10 @@ fn event(alloc: Global, event: Event<'static>) -> Result<EnvelopeItem, EnvelopeE
 }
 
 /// The transaction as an item.
-fn transaction(alloc: Global, transaction: Transaction<'static>) -> Result<EnvelopeItem, EnvelopeError>
+fn transaction(
+    alloc: Global,
+    transaction: Transaction<'static>,
+) -> Result<EnvelopeItem, EnvelopeError>
     ensures ok { IfOk result (λ item. item_held item ≡ value kinds.Transaction (transaction_cell transaction.entry)) }
     ensures err { IfErr result (λ e. e ≡ EnvelopeError.OutOfMemory) }
 {

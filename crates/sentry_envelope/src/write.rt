@@ -74,7 +74,14 @@ fn write_item(
             write_value(alloc, "sessions", groups, line, payload, out)
         }
         EnvelopeItem::Transaction(transaction) => {
-            write_value(alloc, "transaction", transaction.as_ref(), line, payload, out)
+            write_value(
+                alloc,
+                "transaction",
+                transaction.as_ref(),
+                line,
+                payload,
+                out,
+            )
         }
         EnvelopeItem::Attachment(attachment) => {
             attachment.write_header(alloc, "attachment", line)?;
@@ -145,7 +152,6 @@ fn write_container_header(
 }
 
 /// Writes that header's text.
-#[tactic(auto, unfolding(sentry_items::specs::HeaderTokens::member_tokens))]
 fn write_container_tokens(
     container: &ItemContainer,
     writer: &mut Writer,
@@ -154,6 +160,15 @@ fn write_container_tokens(
     ensures before { writer.new.before ≡ writer.old.before }
 {
     writer.begin_object()?;
+    write_counted_members(container, writer)
+}
+
+/// Writes the members of that header, and its closing brace.
+#[tactic(auto, unfolding(sentry_items::specs::HeaderTokens::member_tokens))]
+fn write_counted_members(container: &ItemContainer, writer: &mut Writer) -> Result<(), AllocError>
+    ensures ok { OnOk result (writer.new.tokens ≡ writer.old.tokens ++ member_tokens (counted_header container.now)) }
+    ensures before { writer.new.before ≡ writer.old.before }
+{
     writer.key("content_type")?;
     writer.string(container.content_type())?;
     writer.key("item_count")?;
@@ -175,7 +190,7 @@ fn write_value<T: Member>(
     requires { line.old.items ≡ [] }
     ensures { OnOk result (has_float (tree T.kind (T.cell_of value.now)) ≡ false
         → out.new.items ≡ out.old.items ++ with_line (header_text (short_header word.now (compact_text (tree T.kind (T.cell_of value.now)))))
-          (with_line (compact_text (tree T.kind (T.cell_of value.now))) [])) }
+        (with_line (compact_text (tree T.kind (T.cell_of value.now))) [])) }
 {
     payload.clear();
     write_text(value, payload)?;

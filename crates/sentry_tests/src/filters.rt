@@ -23,7 +23,9 @@ impl Scribe<'_> {
         let name = match item {
             EnvelopeItem::Attachment(attachment) => attachment.filename.as_str(),
             EnvelopeItem::ReplayRecording(_) => "recording",
+            EnvelopeItem::Event(_) => "event",
             EnvelopeItem::Raw => "raw",
+            _ => "other",
         };
         for text in [call, " ", name, ", "] {
             let _ = self.calls.push_str(text);

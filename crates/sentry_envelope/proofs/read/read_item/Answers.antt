@@ -79,25 +79,25 @@ returns-in_ok-replay_recording-in-ReplayRecording-clause-ok g c =
     let read = c.in_ok-replay_recording-in-ReplayRecording in
     recording_read (frame_of c.args.frame.now) c.args.header.now c.requires (moment_cell c.args.now) c.in-ReplayRecording.is read.field-0 read.ensures
 
-pub returns-in_ok-read_value-in-Logs-clause-ok : goal.returns-in_ok-read_value-in-Logs-clause-ok
-returns-in_ok-read_value-in-Logs-clause-ok g c =
-    let read = c.in_ok-read_value-in-Logs in
+pub returns-in_ok-logs-in-Logs-clause-ok : goal.returns-in_ok-logs-in-Logs-clause-ok
+returns-in_ok-logs-in-Logs-clause-ok g c =
+    let read = c.in_ok-logs-in-Logs in
     value_read (frame_of c.args.frame.now) c.args.header.now c.requires (moment_cell c.args.now) kinds.Logs (payload_kind kinds.Logs) c.in-Logs.is (listed refl) _ (variants.ItemContainer (containers.Logs read.field-0.items)) read.ensures.ok refl
 
-pub returns-in_err-read_value-in-Logs-clause-err : goal.returns-in_err-read_value-in-Logs-clause-err
-returns-in_err-read_value-in-Logs-clause-err g c =
-    let p = err_from_is_err_and c.from_residual-in_err-read_value-in-Logs.result c.from_residual-in_err-read_value-in-Logs.ensures.1 in
-    rw (p.1, p.2) (value_refused (frame_of c.args.frame.now) c.args.header.now c.requires (moment_cell c.args.now) kinds.Logs (payload_kind kinds.Logs) c.in-Logs.is (listed refl) _ c.in_err-read_value-in-Logs.ensures.err)
+pub returns-in_err-logs-in-Logs-clause-err : goal.returns-in_err-logs-in-Logs-clause-err
+returns-in_err-logs-in-Logs-clause-err g c =
+    let p = err_from_is_err_and c.from_residual-in_err-logs-in-Logs.result c.from_residual-in_err-logs-in-Logs.ensures.1 in
+    rw (p.1, p.2) (value_refused (frame_of c.args.frame.now) c.args.header.now c.requires (moment_cell c.args.now) kinds.Logs (payload_kind kinds.Logs) c.in-Logs.is (listed refl) _ c.in_err-logs-in-Logs.ensures.err)
 
-pub returns-in_ok-read_value-in-Metrics-clause-ok : goal.returns-in_ok-read_value-in-Metrics-clause-ok
-returns-in_ok-read_value-in-Metrics-clause-ok g c =
-    let read = c.in_ok-read_value-in-Metrics in
+pub returns-in_ok-metrics-in-Metrics-clause-ok : goal.returns-in_ok-metrics-in-Metrics-clause-ok
+returns-in_ok-metrics-in-Metrics-clause-ok g c =
+    let read = c.in_ok-metrics-in-Metrics in
     value_read (frame_of c.args.frame.now) c.args.header.now c.requires (moment_cell c.args.now) kinds.Metrics (payload_kind kinds.Metrics) c.in-Metrics.is (listed refl) _ (variants.ItemContainer (containers.Metrics read.field-0.items)) read.ensures.ok refl
 
-pub returns-in_err-read_value-in-Metrics-clause-err : goal.returns-in_err-read_value-in-Metrics-clause-err
-returns-in_err-read_value-in-Metrics-clause-err g c =
-    let p = err_from_is_err_and c.from_residual-in_err-read_value-in-Metrics.result c.from_residual-in_err-read_value-in-Metrics.ensures.1 in
-    rw (p.1, p.2) (value_refused (frame_of c.args.frame.now) c.args.header.now c.requires (moment_cell c.args.now) kinds.Metrics (payload_kind kinds.Metrics) c.in-Metrics.is (listed refl) _ c.in_err-read_value-in-Metrics.ensures.err)
+pub returns-in_err-metrics-in-Metrics-clause-err : goal.returns-in_err-metrics-in-Metrics-clause-err
+returns-in_err-metrics-in-Metrics-clause-err g c =
+    let p = err_from_is_err_and c.from_residual-in_err-metrics-in-Metrics.result c.from_residual-in_err-metrics-in-Metrics.ensures.1 in
+    rw (p.1, p.2) (value_refused (frame_of c.args.frame.now) c.args.header.now c.requires (moment_cell c.args.now) kinds.Metrics (payload_kind kinds.Metrics) c.in-Metrics.is (listed refl) _ c.in_err-metrics-in-Metrics.ensures.err)
 
 pub returns-in_ok-read_value_at-in-ClientReport-clause-ok : goal.returns-in_ok-read_value_at-in-ClientReport-clause-ok
 returns-in_ok-read_value_at-in-ClientReport-clause-ok g c =

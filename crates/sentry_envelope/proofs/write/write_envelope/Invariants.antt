@@ -9,4 +9,4 @@ use Rattle.sentry_envelope.proofs.write.write_envelope.Given as goal
 abbrev pub invariant-loop-item : goal.invariant-loop-item
 invariant-loop-item l = IsReady header_kind (headers_cell l.headers) × AreReady (map item_view l.items)
     → AreReady (map item_view (drop l.item-index l.items))
-      × (l.out.items ++ items_text profile (map item_view (drop l.item-index l.items)) ≡ envelope_text profile (record { header = headers_cell l.headers; items = map item_view l.items }))
+    × (l.out.items ++ items_text profile (map item_view (drop l.item-index l.items)) ≡ envelope_text profile (record { header = headers_cell l.headers; items = map item_view l.items }))
