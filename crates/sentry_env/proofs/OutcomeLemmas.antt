@@ -1,68 +1,101 @@
 -- What is due of a run is settled by what the items show.
-use Rattle.std.proofs.Common.{◌≡◌, ◌↔◌, ℕ, Bool, true, false, not, List, [], ◌∷◌, ◌++◌, map, filter, if◌then◌else◌, length, Option, Some, None, is_some, refl, ap, sym, ◌∙◌}
+use Rattle.std.proofs.Common.{◌≡◌, ◌↔◌, ℕ, Bool, true, false, not, List, [], ◌∷◌, ◌++◌, map, filter, if◌then◌else◌, slice_get, Option, Some, is_some, option_map, refl, ap, sym, ◌∙◌}
+use Rattle.std.proofs.lemmas.Option.{same_Some}
 use Rattle.std.proofs.lemmas.List.{map-append}
 use Rattle.std.proofs.lemmas.List.Elements.{filter_map-append}
 use Rattle.std.specs.List.{filter_map, list_any}
 use Rattle.sentry_tables.specs.Cell.{Cell}
-use Rattle.sentry_items.specs.Losses.{losses_of_item, losses_of_items, loss}
-use Rattle.sentry_reports.specs.declared.category.Category.TheVariants as category
+use Rattle.sentry_framing.specs.ItemWords.{kind_place}
+use Rattle.sentry_framing.specs.declared.kind.ItemKind.{ItemKind}
+use Rattle.sentry_framing.specs.declared.kind.ItemKind.TheVariants as types
+use Rattle.sentry_items.specs.Losses.{losses_of_items}
+use Rattle.sentry_items.specs.View.{ItemView, attachment, replay_recording, value as value_view, raw as raw_view, item_held, kind_held}
+use Rattle.sentry_items.specs.declared.container.ItemContainer.TheVariants as container
 use Rattle.sentry_items.specs.declared.item.EnvelopeItem.{EnvelopeItem}
 use Rattle.sentry_items.specs.declared.item.EnvelopeItem.TheVariants as variants
-use Rattle.sentry_reports.specs.declared.item_loss.ItemLoss.{ItemLoss}
-use Rattle.sentry_envelope.specs.Envelope.{Envelope as Model, Item, item, raw, attached, given_by, envelope_text}
-use Rattle.sentry_envelope.specs.EnvelopeView.{item_view}
+use Rattle.sentry_items.proofs.SameLosses.{same_losses}
+use Rattle.sentry_envelope.specs.Envelope.{Envelope as Model, Item, item, raw, attached, opaque, value, given_by, envelope_text}
+use Rattle.sentry_envelope.specs.EnvelopeView.{item_view, placed}
 use Rattle.sentry_envelope.specs.Filter.{Hand, asks, chosen, first_id_of, handed, id_in, id_of, is_main, is_orphan, item_of_hand, kept, orphans}
 use Rattle.sentry_envelope.specs.HeaderFields.{put_id}
 use Rattle.sentry_envelope.specs.SentryProfile.{item_types, profile}
 use Rattle.sentry_envelope.proofs.ConservationLemmas.{handed_of_hands}
-use Rattle.sentry_envelope.proofs.OneEnvelope.{never_drawn_in, one_envelope, profile_never_draws}
+use Rattle.sentry_envelope.proofs.OneEnvelope.{one_envelope}
 use Rattle.sentry_envelope.proofs.SentryProfile.{profile_lawful}
 use Rattle.sentry_env.specs.Listed.{AnswersFor, IsOfKinds, kind_of_item}
-use Rattle.sentry_env.specs.Run.{DueIsAlwaysSettled, DueIsSettled, IsDue, IsOneDue, header_left, kept_text, model, outcome_of}
+use Rattle.sentry_env.specs.Run.{DueIsSettled, IsDue, IsOneDue, header_left, kept_text, model, outcome_of}
 use Rattle.sentry_env.specs.Table.{table_of}
 use Rattle.sentry_env.specs.declared.ending.Outcome.{Outcome}
 use Rattle.sentry_env.specs.declared.kind.Kind.{Kind}
 use Rattle.sentry_env.specs.declared.kind.Kind.TheVariants as kind
 
--- ---- what is known of an item by what it shows
+-- ---- items that show the same hold the same
 
-abbrev kind_in : Item → Option Kind
-kind_in (item n (attached a)) = Some kind.Attachment
-kind_in (item n c) = Some kind.ReplayRecording
-kind_in raw = None
+-- the types, in the order of their places
+abbrev type_at : ℕ → Option ItemKind
+type_at n = slice_get (
+    types.Event ∷ types.SessionUpdate ∷ types.SessionAggregates ∷ types.Transaction ∷ types.Attachment ∷ types.MonitorCheckIn ∷
+    types.UserReport ∷ types.ReplayRecording ∷ types.Logs ∷ types.Metrics ∷ types.ClientReport ∷ []) n
 
-kind_is : (i : EnvelopeItem) → kind_of_item i ≡ kind_in (item_view i)
-kind_is (variants.Attachment a) = refl
-kind_is (variants.ReplayRecording r) = refl
+type_in_place : (k : ItemKind) → type_at (kind_place k) ≡ Some k
+type_in_place types.Event = refl
+type_in_place _ = refl
+
+abbrev held_at : Item → Option ItemView
+held_at (item n (attached a)) = Some (attachment a)
+held_at (item n (opaque b)) = Some (replay_recording b)
+held_at (item n (value c)) = option_map (λ k. value_view k c) (type_at n)
+held_at raw = Some raw_view
+
+held_back : (v : ItemView) → held_at (placed v) ≡ Some v
+held_back (attachment a) = refl
+held_back (replay_recording b) = refl
+held_back (value_view k c) = ap (option_map (λ t. value_view t c)) (type_in_place k)
+held_back raw_view = refl
+
+same_held : (i j : EnvelopeItem) → item_view i ≡ item_view j → item_held i ≡ item_held j
+same_held i j same = same_Some (item_held i) (item_held j) (sym (held_back (item_held i)) ∙ (ap held_at same ∙ held_back (item_held j)))
+
+-- two items that show the same agree in all that is settled by what they hold
+agree : {A : Type 0} (f : EnvelopeItem → A) (g : ItemView → A) → ((i : EnvelopeItem) → f i ≡ g (item_held i)) → (i j : EnvelopeItem) → item_view i ≡ item_view j → f i ≡ f j
+agree f g is i j same = is i ∙ ap g (same_held i j same) ∙ sym (is j)
+
+-- ---- what is settled by what an item holds
+
+abbrev kind_of_type : ItemKind → Kind
+kind_of_type types.Event = kind.Event
+kind_of_type types.SessionUpdate = kind.Session
+kind_of_type types.SessionAggregates = kind.Sessions
+kind_of_type types.Transaction = kind.Transaction
+kind_of_type types.Attachment = kind.Attachment
+kind_of_type types.MonitorCheckIn = kind.CheckIn
+kind_of_type types.UserReport = kind.UserReport
+kind_of_type types.ReplayRecording = kind.ReplayRecording
+kind_of_type types.Logs = kind.Log
+kind_of_type types.Metrics = kind.TraceMetric
+kind_of_type types.ClientReport = kind.ClientReport
+
+abbrev kind_in : ItemView → Option Kind
+kind_in v = option_map kind_of_type (kind_held v)
+
+kind_is : (i : EnvelopeItem) → kind_of_item i ≡ kind_in (item_held i)
+kind_is (variants.ItemContainer (container.Logs logs)) = refl
+kind_is (variants.ItemContainer (container.Metrics metrics)) = refl
 kind_is variants.Raw = refl
+kind_is _ = refl
 
-abbrev losses_in : Item → List ItemLoss
-losses_in (item n (attached a)) = loss category.Attachment (length a.buffer) ∷ []
-losses_in (item n c) = loss category.Replay 1 ∷ []
-losses_in raw = []
-
-losses_are : (i : EnvelopeItem) → losses_of_item i ≡ losses_in (item_view i)
-losses_are (variants.Attachment a) = refl
-losses_are (variants.ReplayRecording r) = refl
-losses_are variants.Raw = refl
-
-abbrev orphan_in : Item → Bool
-orphan_in (item n (attached a)) = true
+abbrev orphan_in : ItemView → Bool
+orphan_in (attachment a) = true
 orphan_in _ = false
 
-orphan_is : (i : EnvelopeItem) → is_orphan i ≡ orphan_in (item_view i)
+orphan_is : (i : EnvelopeItem) → is_orphan i ≡ orphan_in (item_held i)
 unfolding is_orphan
 orphan_is (variants.Attachment a) = refl
-orphan_is (variants.ReplayRecording r) = refl
-orphan_is variants.Raw = refl
+orphan_is _ = refl
 
 same_id : (i j : EnvelopeItem) → item_view i ≡ item_view j → id_of i ≡ id_of j
 unfolding id_of
 same_id i j same = ap (λ (v : Item). id_in (given_by item_types v)) same
-
--- two items that show the same agree in all that is settled by what they show
-agree : {A : Type 0} (f : EnvelopeItem → A) (g : Item → A) → ((i : EnvelopeItem) → f i ≡ g (item_view i)) → (i j : EnvelopeItem) → item_view i ≡ item_view j → f i ≡ f j
-agree f g is i j same = is i ∙ ap g same ∙ sym (is j)
 
 same_main : (i j : EnvelopeItem) → item_view i ≡ item_view j → is_main i ≡ is_main j
 same_main i j same = ap is_some (same_id i j same)
@@ -104,7 +137,7 @@ losses_alike : (items others : List EnvelopeItem) → Alike items others → los
 losses_alike [] [] same = refl
 losses_alike [] (j ∷ others) same = cc
 losses_alike (i ∷ items) [] same = cc
-losses_alike (i ∷ items) (j ∷ others) same = rw (agree losses_of_item losses_in losses_are i j (cc), losses_alike items others (cc)) refl
+losses_alike (i ∷ items) (j ∷ others) same = rw (same_losses i j (same_held i j (cc)), losses_alike items others (cc)) refl
 
 chosen_alike : (items others : List EnvelopeItem) (answers : List Bool) → Alike items others → Alike (chosen items answers) (chosen others answers)
 chosen_alike [] [] answers same = refl
@@ -214,6 +247,3 @@ one_due kinds keep header header' items others same out out' table table' outcom
 pub due_is_settled : DueIsSettled
 due_is_settled bytes now kinds keep header header' items others drawn spelled spelled' =
     one_due kinds keep header header' items others (one_envelope profile profile_lawful bytes now (model header items) (model header' others) drawn spelled spelled')
-
-pub due_is_always_settled : DueIsAlwaysSettled
-due_is_always_settled bytes now kinds keep header header' items others = due_is_settled bytes now kinds keep header header' items others (never_drawn_in profile profile_never_draws bytes)

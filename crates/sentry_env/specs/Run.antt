@@ -141,12 +141,6 @@ DueIsSettled = (bytes : List ℕ) (now : Cell) (kinds : List Kind) (keep : Bool)
     → NothingDrawnIn profile bytes → Spells profile bytes now (model header items) → Spells profile bytes now (model header' items')
     → IsOneDue kinds keep header header' items items'
 
--- The same of any bytes.
-abbrev pub DueIsAlwaysSettled : Type 0
-DueIsAlwaysSettled = (bytes : List ℕ) (now : Cell) (kinds : List Kind) (keep : Bool) (header header' : Cell) (items items' : List EnvelopeItem)
-    → Spells profile bytes now (model header items) → Spells profile bytes now (model header' items')
-    → IsOneDue kinds keep header header' items items'
-
 -- ---- parts of a run
 
 -- the text of what is left of an envelope: nothing where nothing is

@@ -2,7 +2,7 @@ ghost use Rattle.std.specs.Prelude.{◌≡◌, Some};
 ghost use Rattle.sentry_env.specs.Kind.{kind_of_word};
 ghost use Rattle.sentry_env.specs.Listed.{kind_of_item};
 
-use sentry_types::protocol::v7::EnvelopeItem;
+use sentry_types::protocol::v7::{EnvelopeItem, ItemContainer};
 
 /// A type of envelope items, as a word of the command line names it.
 ///
@@ -68,7 +68,16 @@ impl Kind {
         ensures { result ≡ kind_of_item item.now }
     {
         match item {
+            EnvelopeItem::Event(_) => Some(Kind::Event),
+            EnvelopeItem::SessionUpdate(_) => Some(Kind::Session),
+            EnvelopeItem::SessionAggregates(_) => Some(Kind::Sessions),
+            EnvelopeItem::Transaction(_) => Some(Kind::Transaction),
             EnvelopeItem::Attachment(_) => Some(Kind::Attachment),
+            EnvelopeItem::MonitorCheckIn(_) => Some(Kind::CheckIn),
+            EnvelopeItem::ItemContainer(ItemContainer::Logs(_)) => Some(Kind::Log),
+            EnvelopeItem::ItemContainer(ItemContainer::Metrics(_)) => Some(Kind::TraceMetric),
+            EnvelopeItem::ClientReport(_) => Some(Kind::ClientReport),
+            EnvelopeItem::UserReport(_) => Some(Kind::UserReport),
             EnvelopeItem::ReplayRecording(_) => Some(Kind::ReplayRecording),
             EnvelopeItem::Raw => None,
         }

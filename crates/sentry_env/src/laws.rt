@@ -3,7 +3,7 @@ ghost use Rattle.std.specs.Prelude.{◌≡◌, ℕ, Bool, List, Option, IsTrue};
 ghost use Rattle.sentry_env.specs.declared.kind.Kind.{Kind};
 ghost use Rattle.sentry_env.specs.Kind.{words_stand_once};
 ghost use Rattle.sentry_env.specs.Args.{IsCall};
-ghost use Rattle.sentry_env.specs.Run.{DueIsSettled, DueIsAlwaysSettled};
+ghost use Rattle.sentry_env.specs.Run.{DueIsSettled};
 
 /// In the table of kinds no word stands twice.
 pub fn kind_words_stand_once()
@@ -19,9 +19,8 @@ pub fn calls_have_one_meaning()
 {}
 
 /// A run over bytes in which nothing is drawn has one outcome, and one text for each writer: they
-/// follow from the bytes, the moment, the kinds and whether the header stays. Nothing that is carried
-/// now draws an id: so a run over any bytes has.
+/// follow from the bytes, the moment, the kinds and whether the header stays.
+#[tactic(auto, using(crate::proofs::OutcomeLemmas::due_is_settled))]
 pub fn runs_have_one_outcome()
-    ensures undrawn { DueIsSettled }
-    ensures always { DueIsAlwaysSettled }
+    ensures { DueIsSettled }
 {}

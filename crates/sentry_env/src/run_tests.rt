@@ -24,6 +24,35 @@ const HEADED: &str =
 const HEADED_RECORDING: &str =
     "{\"dsn\":\"https://username:@domain/42\"}\n{\"length\":3,\"type\":\"replay_recording\"}\nabc\n";
 
+// An event, and an attachment.
+const ATTACHED: &str =
+    "{\"event_id\":\"22d00b3f-d1b1-4b5d-8d20-49d138cd8a9c\"}\n{\"length\":86,\"type\":\"event\"}\n{\"event_id\":\"22d00b3fd1b14b5d8d2049d138cd8a9c\",\"timestamp\":\"2020-07-20T14:51:14.296Z\"}\n{\"type\":\"attachment\",\"length\":12}\nHello World!";
+
+const EVENT: &str =
+    "{\"event_id\":\"22d00b3f-d1b1-4b5d-8d20-49d138cd8a9c\"}\n{\"length\":86,\"type\":\"event\"}\n{\"event_id\":\"22d00b3fd1b14b5d8d2049d138cd8a9c\",\"timestamp\":\"2020-07-20T14:51:14.296Z\"}\n";
+
+// A report of three errors that a callback dropped.
+const REPORT: &str =
+    "{}\n{\"type\":\"client_report\"}\n{\"discarded_events\":[{\"category\":\"error\",\"quantity\":3,\"reason\":\"before_send\"}],\"timestamp\":0}";
+
+// What a user says of an event.
+const SAID: &str =
+    "{}\n{\"type\":\"user_report\"}\n{\"name\":\"Jo\",\"event_id\":\"9ec79c33ec9942ab8353589fcb2e04dc\",\"comments\":\"It broke.\"}";
+
+// An event and a session, below a header of two fields.
+const WITH_SESSION: &str =
+    "{\"dsn\":\"https://username:@domain/42\",\"event_id\":\"22d00b3f-d1b1-4b5d-8d20-49d138cd8a9c\"}\n{\"length\":86,\"type\":\"event\"}\n{\"event_id\":\"22d00b3fd1b14b5d8d2049d138cd8a9c\",\"timestamp\":\"2020-07-20T14:51:14.296Z\"}\n{\"length\":218,\"type\":\"session\"}\n{\"attrs\":{\"environment\":\"production\",\"release\":\"foo-bar@1.2.3\"},\"did\":\"foo@bar.baz\",\"duration\":1,\"errors\":123,\"init\":true,\"sid\":\"22d00b3f-d1b1-4b5d-8d20-49d138cd8a9c\",\"started\":\"2020-07-20T14:51:14.296Z\",\"status\":\"ok\"}\n";
+
+const SESSION: &str =
+    "{}\n{\"length\":218,\"type\":\"session\"}\n{\"attrs\":{\"environment\":\"production\",\"release\":\"foo-bar@1.2.3\"},\"did\":\"foo@bar.baz\",\"duration\":1,\"errors\":123,\"init\":true,\"sid\":\"22d00b3f-d1b1-4b5d-8d20-49d138cd8a9c\",\"started\":\"2020-07-20T14:51:14.296Z\",\"status\":\"ok\"}\n";
+
+const HEADED_SESSION: &str =
+    "{\"dsn\":\"https://username:@domain/42\"}\n{\"length\":218,\"type\":\"session\"}\n{\"attrs\":{\"environment\":\"production\",\"release\":\"foo-bar@1.2.3\"},\"did\":\"foo@bar.baz\",\"duration\":1,\"errors\":123,\"init\":true,\"sid\":\"22d00b3f-d1b1-4b5d-8d20-49d138cd8a9c\",\"started\":\"2020-07-20T14:51:14.296Z\",\"status\":\"ok\"}\n";
+
+// An event, a transaction of two spans, a log of 9 bytes and a metric of 24.
+const FOUR: &str =
+    "{}\n{\"type\":\"event\"}\n{\"event_id\":\"22d00b3fd1b14b5d8d2049d138cd8a9c\",\"timestamp\":0}\n{\"type\":\"transaction\"}\n{\"event_id\":\"22d00b3fd1b14b5d8d2049d138cd8a9c\",\"spans\":[{\"span_id\":\"d42cee9fc3e74f5c\",\"start_timestamp\":0,\"trace_id\":\"335e53d614474acc9f89e632b776cc28\"},{\"span_id\":\"d42cee9fc3e74f5d\",\"start_timestamp\":0,\"trace_id\":\"335e53d614474acc9f89e632b776cc28\"}],\"start_timestamp\":0}\n{\"type\":\"log\"}\n{\"items\":[{\"body\":\"flattened\",\"level\":\"info\",\"timestamp\":0}]}\n{\"type\":\"trace_metric\"}\n{\"items\":[{\"name\":\"flattened.metric\",\"timestamp\":0,\"trace_id\":\"335e53d614474acc9f89e632b776cc28\",\"type\":\"counter\",\"value\":1}]}";
+
 // Takes some bytes, one at a time, and then fails: by an error, or by taking none.
 #[derive(Drop)]
 struct Full {
@@ -181,6 +210,62 @@ const ROWS: &[Row] = &[
         ending: (0, ""),
         out: RECORDING,
         table: "attachment none 2\n",
+    },
+    Row {
+        input: ATTACHED,
+        kinds: &[Kind::Event],
+        keep: false,
+        ending: (1, ""),
+        out: "",
+        table: "error none 1\nattachment none 12\n",
+    },
+    Row {
+        input: ATTACHED,
+        kinds: &[Kind::Attachment],
+        keep: false,
+        ending: (0, ""),
+        out: EVENT,
+        table: "attachment none 12\n",
+    },
+    Row {
+        input: REPORT,
+        kinds: &[Kind::ClientReport],
+        keep: false,
+        ending: (1, ""),
+        out: "",
+        table: "error before_send 3\n",
+    },
+    Row {
+        input: FOUR,
+        kinds: &[Kind::Event, Kind::Transaction, Kind::Log, Kind::TraceMetric],
+        keep: false,
+        ending: (1, ""),
+        out: "",
+        table: "error none 1\ntransaction none 1\nspan none 3\nlog_item none 1\nlog_byte none 9\ntrace_metric none 1\ntrace_metric_byte none 24\n",
+    },
+    Row {
+        input: SAID,
+        kinds: &[Kind::UserReport],
+        keep: false,
+        ending: (1, ""),
+        out: "",
+        table: "feedback none 1\n",
+    },
+    Row {
+        input: WITH_SESSION,
+        kinds: &[Kind::Event],
+        keep: true,
+        ending: (0, ""),
+        out: HEADED_SESSION,
+        table: "error none 1\n",
+    },
+    Row {
+        input: WITH_SESSION,
+        kinds: &[Kind::Event],
+        keep: false,
+        ending: (0, ""),
+        out: SESSION,
+        table: "error none 1\n",
     },
     Row {
         input: "{}\n{\"type\":\"attachment\",\"length\":4}\nabc",
