@@ -31,7 +31,7 @@ impl Envelope {
     /// a no `EnvelopeItem::Raw` is handed over.
     ///
     /// The filter is dropped afterwards. [`Envelope::filter_by`] borrows it, so that its last state
-    /// is known. A caller whose closure borrows takes the answer by `ok()`, which lets the closure go.
+    /// is known, and serves closures that borrow, too.
     ///
     /// # Errors
     ///
