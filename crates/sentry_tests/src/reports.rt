@@ -22,14 +22,14 @@ fn report(alloc: Global, moment: Option<Moment>, items: &[Item]) -> Result<Repor
 
 // Whether the sum of errors for the program's own filter is this, and those of the 107 other pairs are 0.
 fn has_sum(report: &Report, sum: u64) -> bool {
-    let mut pairs = 0;
+    let mut pairs: u64 = 0;
     for category in Category::VARIANTS {
         for reason in Reason::VARIANTS {
             let here = *category == Category::Error && *reason == Reason::BeforeSend;
             if report.sum(*category, *reason) != if here { sum } else { 0 } {
                 return false;
             }
-            pairs += 1;
+            pairs = pairs.saturating_add(1);
         }
     }
     pairs == 108
