@@ -20,7 +20,6 @@ pub fn calls_have_one_meaning()
 
 /// A run over bytes in which nothing is drawn has one outcome, and one text for each writer: they
 /// follow from the bytes, the moment, the kinds and whether the header stays.
-#[tactic(auto, using(crate::proofs::OutcomeLemmas::due_is_settled))]
 pub fn runs_have_one_outcome()
     ensures { DueIsSettled }
 {}
