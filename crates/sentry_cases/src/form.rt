@@ -1,12 +1,12 @@
 //! Values that lines of JSON show, and what is written of them.
 
 use crate::said::{list, refused, text};
-use json::{Scratch, Writer};
+use json::Writer;
 use rand_pcg::Pcg32;
 use sentry_members::{Codec, FromTree, Own, ReadCodec, TreeError, Way, read_tree};
 use sentry_text::timed::ReadCodecAt;
 use sentry_text::{FromTreeAt, Moment};
-use sentry_trees::{Line, LineError};
+use sentry_trees::{Line, LineError, scratch};
 use serde_json::Value;
 use std::alloc::{AllocError, Global};
 
@@ -58,7 +58,7 @@ fn agreed(alloc: Global, by_tree: Value, by_tape: Value) -> Result<Value, AllocE
 /// tape, and both have to give the same answer.
 pub fn form<F: ReadCodec<T>, T: Drop>(alloc: Global, line: &[u8]) -> Result<Value, AllocError> {
     let told = answered::<F, T>(alloc, &by_tree::<F, T>(alloc, line))?;
-    let mut scratch = Scratch::new(alloc);
+    let mut scratch = scratch(alloc);
     let by_tape = match Line::parse(line, &mut scratch, Vec::new(alloc)) {
         Ok(read) => F::from_node(alloc, &read.root()),
         Err(LineError::Misfit) => Err(TreeError::Misfit),
@@ -92,7 +92,7 @@ pub fn form_at<F: ReadCodecAt<T>, T: Drop>(
         return text(alloc, "no moment");
     };
     let told = answered::<F, T>(alloc, &by_tree_at::<F, T>(alloc, line, now))?;
-    let mut scratch = Scratch::new(alloc);
+    let mut scratch = scratch(alloc);
     let by_tape = match Line::parse(line, &mut scratch, Vec::new(alloc)) {
         Ok(read) => F::from_node(alloc, &read.root(), now, &mut Pcg32::new(42, 54)),
         Err(LineError::Misfit) => Err(TreeError::Misfit),
@@ -109,7 +109,7 @@ pub fn own_at<T: FromTreeAt>(alloc: Global, line: &[u8]) -> Result<Value, AllocE
 
 /// Whether a line has a tape, or why it has none.
 pub fn of_tape(alloc: Global, line: &[u8]) -> Result<Value, AllocError> {
-    let mut scratch = Scratch::new(alloc);
+    let mut scratch = scratch(alloc);
     match Line::parse(line, &mut scratch, Vec::new(alloc)) {
         Ok(_) => Ok(Value::from(true)),
         Err(error) => Ok(Value::from(format!(in alloc; "!{error:?}")?)),

@@ -11,6 +11,7 @@ use crate::header::{ItemHeader, read_item_header_into};
 use crate::lines::{end_line, skip_space, split_line};
 use crate::piece::piece_len;
 use json::Scratch;
+use sentry_trees::scratch;
 use std::alloc::Global;
 use std::marker::Model;
 
@@ -101,7 +102,7 @@ impl<'a> Frames<'a> {
     /// The first frame of what is left, with what its header says, or the first check of it that fails.
     ///
     /// It answers as [`Frames::next_frame`] does, and leaves the same. A reader of many items makes one `Scratch`
-    /// and calls [`Frames::next_item_with`].
+    /// and calls [`Frames::next_item_into`].
     #[inline(never)]
     pub fn next_item(
         &mut self,
@@ -120,31 +121,9 @@ impl<'a> Frames<'a> {
             → self.new.rest ≡ [])) }
         ensures memory { result ≡ Some (Err EnvelopeError.OutOfMemory) → self.new ≡ self.old }
     {
-        let mut scratch = Scratch::new(alloc);
-        self.next_item_with(alloc, &mut scratch)
-    }
-
-    /// The same, with the memory that reading a header needs handed in.
-    pub fn next_item_with(
-        &mut self,
-        alloc: Global,
-        scratch: &mut Scratch,
-    ) -> Option<Result<(ItemFrame<'a>, ItemHeader), EnvelopeError>>
-        ensures header_line { self.new.header_line ≡ self.old.header_line }
-        ensures none { IsNone result ↔ (self.old.rest ≡ []) }
-        ensures none_left { IsNone result → self.new.rest ≡ [] }
-        ensures frame { IfSome result (λ answer. IfOk answer (λ item.
-            IsFirstFrame (stated_length item_words) self.old.rest (frame_of item.0) self.new.rest)) }
-        ensures header { IfSome result (λ answer. IfOk answer (λ item.
-            read_header item_words item.0.header.now ≡ Some (header_view item.1))) }
-        ensures fault { IfSome result (λ answer. IfErr answer (λ e. e ≢ EnvelopeError.OutOfMemory
-            → IsFault (stated_length item_words) self.old.rest e)) }
-        ensures ended { IfSome result (λ answer. IfErr answer (λ e. e ≢ EnvelopeError.OutOfMemory
-            → self.new.rest ≡ [])) }
-        ensures memory { result ≡ Some (Err EnvelopeError.OutOfMemory) → self.new ≡ self.old }
-    {
+        let mut scratch = scratch(alloc);
         let mut header = ItemHeader::new();
-        match self.next_item_into(alloc, scratch, &mut header) {
+        match self.next_item_into(alloc, &mut scratch, &mut header) {
             None => None,
             Some(Ok(frame)) => Some(Ok((frame, header))),
             Some(Err(error)) => Some(Err(error)),
@@ -154,8 +133,8 @@ impl<'a> Frames<'a> {
     /// The first frame of what is left, with `header` set to what its header says, or the first check of it that
     /// fails.
     ///
-    /// It answers as [`Frames::next_frame`] does, and leaves the same. After an error some fields of `header` may be
-    /// set.
+    /// It answers as [`Frames::next_frame`] does, and leaves the same. The memory that reading a header needs is handed
+    /// in. After an error some fields of `header` may be set.
     pub fn next_item_into(
         &mut self,
         alloc: Global,

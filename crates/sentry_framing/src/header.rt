@@ -174,7 +174,7 @@ fn fill_from_tree(alloc: Global, line: &[u8], fields: &mut ItemHeader) -> Result
 
 /// The fields of the item header that stands in these bytes. Other keys are ignored.
 ///
-/// A reader of many headers makes one `Scratch` and calls [`read_item_header_with`].
+/// A reader of many headers makes one `Scratch` and calls [`read_item_header_into`].
 ///
 /// # Errors
 ///
@@ -188,29 +188,14 @@ pub fn read_item_header(alloc: Global, header: &[u8]) -> Result<ItemHeader, Enve
         ⊎ ((e ≡ EnvelopeError.InvalidItemHeader) × (read_header item_words header.now ≡ None))) }
 {
     let mut scratch = scratch(alloc);
-    read_item_header_with(alloc, header, &mut scratch)
-}
-
-/// The fields of the item header that stands in these bytes, with the memory that reading needs handed in.
-///
-/// It answers as [`read_item_header`] does.
-pub fn read_item_header_with(
-    alloc: Global,
-    header: &[u8],
-    scratch: &mut Scratch,
-) -> Result<ItemHeader, EnvelopeError>
-    ensures ok { IfOk result (λ fields. read_header item_words header.now ≡ Some (header_view fields)) }
-    ensures err { IfErr result (λ e. (e ≡ EnvelopeError.OutOfMemory)
-        ⊎ ((e ≡ EnvelopeError.InvalidItemHeader) × (read_header item_words header.now ≡ None))) }
-{
     let mut fields = ItemHeader::new();
-    match read_item_header_into(alloc, header, scratch, &mut fields) {
+    match read_item_header_into(alloc, header, &mut scratch, &mut fields) {
         Ok(()) => Ok(fields),
         Err(error) => Err(error),
     }
 }
 
-/// Sets `fields` to those of the item header that stands in these bytes.
+/// Sets `fields` to those of the item header that stands in these bytes, with the memory that reading needs handed in.
 ///
 /// It answers as [`read_item_header`] does. After an error some of the fields may be set.
 pub fn read_item_header_into(

@@ -11,8 +11,5 @@ mod piece;
 
 pub use error::EnvelopeError;
 pub use frames::{Frames, ItemFrame};
-pub use header::{ItemHeader, read_item_header, read_item_header_into, read_item_header_with};
+pub use header::{ItemHeader, read_item_header, read_item_header_into};
 pub use kind::ItemKind;
-
-#[cfg(test)]
-mod tests;

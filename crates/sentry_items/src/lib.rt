@@ -23,8 +23,3 @@ pub use listed::Listed;
 pub use loss::{ItemLossIter, LossSlice, LossSource};
 pub use replay_recording::ReplayRecording;
 pub use sentry_reports::{Category, Item, ItemLoss, Reason, Report};
-
-#[cfg(test)]
-mod loss_tests;
-#[cfg(test)]
-mod tests;

@@ -1,10 +1,18 @@
 // Ids that are drawn.
-use rand_core::{Rng, SeedableRng};
+ghost use Rattle.std.specs.Prelude.{◌+◌, ◌%◌, ◌^◌};
+ghost use Rattle.rand_core.specs.Steps.{stream_of, steps_u32};
+
+use rand_core::utils::NextWord;
+use rand_core::{Rng, SeedableRng, utils};
 use rand_pcg::Pcg32;
 use sentry_text::rows::object;
 use sentry_text::{
-    Hyphenated, Own, Simple, SpanId, TraceId, TreeError, or_drawn_as, random_uuid, read_tree,
+    Hyphenated, Moment, Own, Simple, SpanId, TraceId, TreeError, or_drawn_as, random_uuid,
+    read_tree,
 };
+use sentry_types::protocol::v7::{Context, Envelope};
+use std::alloc::Global;
+use std::marker::Model;
 use std::test::Fail;
 use uuid::Uuid;
 
@@ -30,6 +38,43 @@ impl Rng for Zeros {
     #[tactic(auto, unfolding(rand_core::specs::Stream::fill_bytes))]
     fn fill_bytes(&mut self, dst: &mut [u8]) {
         dst.fill(0);
+    }
+}
+
+/// A generator that counts.
+#[derive(Drop)]
+struct Counting(u32);
+
+impl Model for Counting {
+    ghost use Rattle.std.specs.Prelude.{ℕ};
+
+    ghost Value = { ℕ };
+
+    ghost view = { λ c. c.0 };
+}
+
+impl NextWord<u32> for Counting {
+    ghost step = { λ s. ((s + 1) % 2 ^ 32, (s + 1) % 2 ^ 32) };
+
+    fn next_word(&mut self) -> u32 {
+        self.0 = self.0.wrapping_add(1);
+        self.0
+    }
+}
+
+impl Rng for Counting {
+    ghost stream = { stream_of (steps_u32 (λ s. ((s + 1) % 2 ^ 32, (s + 1) % 2 ^ 32))) };
+
+    fn next_u32(&mut self) -> u32 {
+        self.next_word()
+    }
+
+    fn next_u64(&mut self) -> u64 {
+        utils::next_u64_via_u32(self)
+    }
+
+    fn fill_bytes(&mut self, dst: &mut [u8]) {
+        utils::fill_bytes_via_u32(self, dst)
     }
 }
 
@@ -82,5 +127,37 @@ fn uuids_are_of_version_4(rt: HostRuntime) -> Result<(), Fail> {
     let simple = or_drawn_as::<Simple, Uuid, Zeros, _>(alloc, &empty, "id", &mut Zeros)?;
     let hyphenated = or_drawn_as::<Hyphenated, Uuid, Zeros, _>(alloc, &empty, "id", &mut Zeros)?;
     assert!(rt; [random_uuid(&mut Zeros), simple, hyphenated] == [zeros, zeros, zeros]);
+    Ok(())
+}
+
+/// The id of an envelope of an event, and those of its trace.
+fn ids_of(envelope: &Envelope) -> Option<(Uuid, SpanId, TraceId)> {
+    let event = envelope.event()?;
+    match event.contexts.get("trace") {
+        Some(Context::Trace(trace)) if envelope.uuid().copied() == Some(event.event_id) => {
+            Some((event.event_id, trace.span_id, trace.trace_id))
+        }
+        _ => None,
+    }
+}
+
+fn read(alloc: Global, bytes: &[u8], ids: &mut Counting) -> Result<Envelope, Fail> {
+    let now = Moment::new(0, 0).ok_or("moment")?;
+    Ok(Envelope::from_slice(alloc, bytes, now, ids)?)
+}
+
+/// Two reads of bytes without ids draw each id anew; what is written has them, and reads back with them.
+#[test]
+fn two_reads_draw_different_ids(rt: HostRuntime) -> Result<(), Fail> {
+    let alloc = rt.alloc();
+    let bytes = b"{}\n{\"type\":\"event\"}\n{\"contexts\":{\"trace\":{}}}\n";
+    let mut ids = Counting(0);
+    let first = read(alloc, bytes, &mut ids)?;
+    let second = read(alloc, bytes, &mut ids)?;
+    let (one, other) = (ids_of(&first).ok_or("ids")?, ids_of(&second).ok_or("ids")?);
+    assert!(rt; one.0 != other.0 && one.1 != other.1 && one.2 != other.2);
+    let mut text = Vec::new(alloc);
+    first.to_writer(alloc, &mut text)?;
+    assert!(rt; ids_of(&read(alloc, &text, &mut ids)?) == Some(one));
     Ok(())
 }

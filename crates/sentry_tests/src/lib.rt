@@ -3,6 +3,12 @@
 #![tactic(auto)]
 
 #[cfg(test)]
+mod attachments;
+#[cfg(test)]
+mod attributes;
+#[cfg(test)]
+mod counted;
+#[cfg(test)]
 mod drawn;
 #[cfg(test)]
 mod envelopes;
@@ -11,7 +17,11 @@ mod errors;
 #[cfg(test)]
 mod filters;
 #[cfg(test)]
+mod frames;
+#[cfg(test)]
 mod indexed;
+#[cfg(test)]
+mod losses;
 #[cfg(test)]
 mod main_path;
 #[cfg(test)]
@@ -24,3 +34,5 @@ mod rows;
 mod urls;
 #[cfg(test)]
 mod values;
+#[cfg(test)]
+mod writers;

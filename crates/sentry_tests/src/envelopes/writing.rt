@@ -1,54 +1,9 @@
 // Writers that fail.
 use super::{HELLO, ID_LINE, read};
+use crate::writers::Full;
 use sentry_types::protocol::v7::{CountedWriter, Envelope, EnvelopeWriteError};
 use std::alloc::Global;
-use std::io;
-use std::io::{ErrorKind, Write};
 use std::test::Fail;
-
-/// Takes some bytes, one at a time, and then fails: by an error, or by taking none.
-#[derive(Drop)]
-struct Full {
-    room: usize,
-    by_error: bool,
-    taken: Vec<u8>,
-}
-
-impl Full {
-    fn new(alloc: Global, room: usize, by_error: bool) -> Full {
-        Full {
-            room,
-            by_error,
-            taken: Vec::new(alloc),
-        }
-    }
-
-    /// Whether it took the first bytes of a text, so many.
-    fn holds(&self, text: &[u8], length: usize) -> bool {
-        match text.split_at_checked(length) {
-            Some((front, _)) => self.taken.as_slice() == front,
-            None => false,
-        }
-    }
-}
-
-impl Write for Full {
-    fn write(&mut self, bytes: &[u8]) -> io::Result<usize> {
-        match bytes.first() {
-            Some(byte) if self.room > 0 => {
-                self.room -= 1;
-                self.taken.push(*byte)?;
-                Ok(1)
-            }
-            Some(_) if self.by_error => Err(io::Error::from(ErrorKind::Interrupted)),
-            _ => Ok(0),
-        }
-    }
-
-    fn flush(&mut self) -> io::Result<()> {
-        Ok(())
-    }
-}
 
 /// An envelope of the attachment of `helloworld`, and the text that is written for it.
 fn with_text(alloc: Global) -> Result<(Envelope, String), Fail> {
@@ -63,7 +18,7 @@ fn a_failed_write_ends_it(rt: HostRuntime) -> Result<(), Fail> {
     let (envelope, text) = with_text(alloc)?;
     for by_error in [false, true] {
         for room in 0..text.len() {
-            let mut out = Full::new(alloc, room, by_error);
+            let mut out = Full::new(alloc, room, 1, by_error);
             let failed = matches!(
                 envelope.to_writer(alloc, &mut out),
                 Err(EnvelopeWriteError::Io)
@@ -80,7 +35,7 @@ fn a_failed_write_is_counted(rt: HostRuntime) -> Result<(), Fail> {
     let (envelope, text) = with_text(alloc)?;
     for by_error in [false, true] {
         for room in 0..text.len() {
-            let mut out = CountedWriter::new(Full::new(alloc, room, by_error));
+            let mut out = CountedWriter::new(Full::new(alloc, room, 1, by_error));
             let answer = envelope.write_counted(alloc, &mut out);
             let failed = matches!(answer, Err(EnvelopeWriteError::Io)) && out.failures() == 1;
             assert!(rt; failed && out.into_inner().holds(text.as_bytes(), room));
@@ -91,7 +46,7 @@ fn a_failed_write_is_counted(rt: HostRuntime) -> Result<(), Fail> {
 
 /// Whether a writer with so much room gets the whole text, and counts no failure.
 fn is_taken(alloc: Global, envelope: &Envelope, text: &str, room: usize) -> bool {
-    let mut out = CountedWriter::new(Full::new(alloc, room, true));
+    let mut out = CountedWriter::new(Full::new(alloc, room, 1, true));
     envelope.write_counted(alloc, &mut out).is_ok()
         && out.failures() == 0
         && out.into_inner().holds(text.as_bytes(), text.len())
@@ -102,7 +57,7 @@ fn a_byte_at_a_time(rt: HostRuntime) -> Result<(), Fail> {
     let alloc = rt.alloc();
     let (envelope, text) = with_text(alloc)?;
     for room in [text.len(), usize::MAX] {
-        let mut out = Full::new(alloc, room, true);
+        let mut out = Full::new(alloc, room, 1, true);
         let whole = envelope.to_writer(alloc, &mut out).is_ok()
             && out.holds(text.as_bytes(), text.len());
         assert!(rt; whole && is_taken(alloc, &envelope, text.as_str(), room));

@@ -1,11 +1,12 @@
-use crate::{
-    Attachment, Category, EnvelopeItem, Item, ItemLoss, ItemLossIter, LossSlice, LossSource,
-    Reason, ReplayRecording, Report,
-};
+// What is lost with items, and with what they hold.
 use rand_core::SeedableRng;
 use rand_pcg::Pcg32;
 use sentry_event::{Event, Span, Transaction};
 use sentry_identifiers::TraceId;
+use sentry_items::{
+    Attachment, Category, EnvelopeItem, Item, ItemLoss, ItemLossIter, LossSlice, LossSource,
+    Reason, ReplayRecording, Report,
+};
 use sentry_members::{Member, TreeError, read_tree};
 use sentry_moments::Moment;
 use sentry_records::{

@@ -1,12 +1,10 @@
-use crate::attachment::{Attachment, AttachmentWriteError};
-use crate::attachment_type::AttachmentType;
-use crate::counted::{CountedReader, CountedWriter, send, send_both, send_plain};
-use crate::item::EnvelopeItem;
-use crate::replay_recording::ReplayRecording;
+// Attachments: their text, their types, and writers that fail.
+use crate::writers::Full;
 use sentry_members::{Member, Way};
+use sentry_types::protocol::v7::{
+    Attachment, AttachmentType, AttachmentWriteError, EnvelopeItem, ReplayRecording,
+};
 use std::alloc::{AllocError, Global};
-use std::io;
-use std::io::{ErrorKind, Read, Write};
 use std::test::Fail;
 
 const HELLO: &str = concat!(
@@ -87,42 +85,6 @@ fn items(rt: HostRuntime) -> Result<(), Fail> {
     Ok(())
 }
 
-/// Takes some bytes, a few at a time, and then fails.
-#[derive(Drop)]
-struct Full {
-    room: usize,
-    at_once: usize,
-    by_error: bool,
-    taken: Vec<u8>,
-}
-
-impl Full {
-    fn new(alloc: Global, room: usize, at_once: usize, by_error: bool) -> Full {
-        Full {
-            room,
-            at_once,
-            by_error,
-            taken: Vec::new(alloc),
-        }
-    }
-}
-
-impl Write for Full {
-    fn write(&mut self, bytes: &[u8]) -> io::Result<usize> {
-        let count = bytes.len().min(self.at_once).min(self.room);
-        if count == 0 && !bytes.is_empty() && self.by_error {
-            return Err(io::Error::from(ErrorKind::Interrupted));
-        }
-        self.room -= count;
-        self.taken.extend_from_slice(&bytes[..count])?;
-        Ok(count)
-    }
-
-    fn flush(&mut self) -> io::Result<()> {
-        Ok(())
-    }
-}
-
 #[test]
 fn a_failed_write_ends_an_attachment(rt: HostRuntime) -> Result<(), Fail> {
     let alloc = rt.alloc();
@@ -141,59 +103,5 @@ fn a_failed_write_ends_an_attachment(rt: HostRuntime) -> Result<(), Fail> {
             assert_eq!(rt; out.taken.as_slice(), text);
         }
     }
-    Ok(())
-}
-
-#[test]
-fn a_failed_write_is_counted(rt: HostRuntime) -> Result<(), Fail> {
-    let alloc = rt.alloc();
-    for by_error in [false, true] {
-        for room in 0..3 {
-            let mut out = CountedWriter::new(Full::new(alloc, room, 1, by_error));
-            let failed = send(b"abc", &mut out).is_err() && out.failures() == 1;
-            assert!(rt; failed && out.into_inner().taken.len() == room);
-        }
-    }
-    let mut out = CountedWriter::new(Full::new(alloc, 3, 1, true));
-    let sent = send(b"abc", &mut out).is_ok() && out.write(b"")? == 0;
-    assert!(rt; sent && out.failures() == 0);
-    assert!(rt; out.write(b"d").is_err() && out.failures() == 1);
-    let mut inner = out.into_inner();
-    let whole = inner.taken.as_slice() == b"abc".as_slice();
-    assert!(rt; whole && send_plain(b"d", &mut inner).is_err());
-    let mut plain = Vec::new(alloc);
-    let sent = send_plain(b"the ", &mut plain).is_ok()
-        && send_both(b"wh", b"ole", &mut plain).is_ok();
-    assert!(rt; sent && plain.as_slice() == b"the whole".as_slice());
-    Ok(())
-}
-
-/// Gives one byte, and then fails.
-#[derive(Drop)]
-struct Broken {
-    given: bool,
-}
-
-impl Read for Broken {
-    fn read(&mut self, buffer: &mut [u8]) -> io::Result<usize> {
-        match buffer.first_mut() {
-            Some(byte) if !self.given => {
-                self.given = true;
-                *byte = b'e';
-                Ok(1)
-            }
-            _ => Err(io::Error::from(ErrorKind::Interrupted)),
-        }
-    }
-}
-
-#[test]
-fn a_failed_read_is_counted(rt: HostRuntime) -> Result<(), Fail> {
-    let mut reader = CountedReader::new(Broken { given: false });
-    let mut buffer = [0; 2];
-    let given = reader.read(&mut buffer)? == 1 && buffer[0] == b'e';
-    assert!(rt; given && reader.failures() == 0);
-    let failed = reader.read(&mut buffer).is_err() && reader.failures() == 1;
-    assert!(rt; failed && reader.into_inner().given);
     Ok(())
 }
