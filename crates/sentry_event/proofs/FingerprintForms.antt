@@ -1,5 +1,5 @@
 -- What readers and writers of fingerprints answer.
-use Rattle.std.proofs.Common.{◌≡◌, ℕ, List, [], ◌∷◌, ◌++◌, codes, Bool, true, false, cond, refl, sym, ap, ◌∙◌, length, Global, Result, Ok, Err, true≢false}
+use Rattle.std.proofs.Common.{◌≡◌, ℕ, List, [], ◌∷◌, codes, Bool, true, false, cond, refl, sym, ap, ◌∙◌, length, Global, Result, Ok, Err, true≢false}
 use Rattle.std.specs.Prelude.{◌&&◌, ◌==◌, OnOk, IfOk}
 use Rattle.std.specs.declared.borrow.CowStr.{CowStr}
 use Rattle.json.specs.Token.{Token}
@@ -7,9 +7,8 @@ use Rattle.json.specs.Written.{Written, Writes}
 use Rattle.serde_json.specs.Data.{Data, string, array, item, no_items}
 use Rattle.serde_json.specs.View.{view, items_view}
 use Rattle.serde_json.specs.declared.value.Value.{Value}
-use Rattle.sentry_tables.specs.Cell.{Cell, sequence, Cells, no_cells, cell, same_cell}
+use Rattle.sentry_tables.specs.Cell.{Cell, sequence, Cells, same_cell}
 use Rattle.sentry_tables.specs.Norm.{norm}
-use Rattle.sentry_members.specs.Cells.{cells}
 use Rattle.sentry_members.specs.Made.{made}
 use Rattle.sentry_members.specs.Reading.{Reads, Shown, Refused}
 use Rattle.sentry_members.specs.Written.{written, WritesTree}

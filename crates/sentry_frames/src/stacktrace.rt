@@ -24,7 +24,7 @@ pub struct Stacktrace {
 }
 
 impl Stacktrace {
-    ghost use Rattle.std.specs.Prelude.{◌≡◌, IfOk, IfSome, None, List, [], ◌↔◌, reverse};
+    ghost use Rattle.std.specs.Prelude.{◌≡◌, IfOk, IfSome, None, [], ◌↔◌, reverse};
     ghost use Rattle.sentry_tables.specs.Defaults.{IsDefault};
     ghost use Rattle.sentry_frames.specs.Frames.{stacktrace_cell};
 

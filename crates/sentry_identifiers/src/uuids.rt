@@ -3,7 +3,6 @@
 ghost use Rattle.std.specs.Prelude.{◌≡◌, ℕ, List};
 ghost use Rattle.rand_core.specs.Stream.{fill_bytes};
 ghost use Rattle.uuid.specs.Parts.{v4_of_fill};
-ghost use Rattle.serde_json.specs.View.{view};
 ghost use Rattle.sentry_tables.specs.Cell.{Cell, octets};
 ghost use Rattle.sentry_identifiers.specs.Uuids.{uuid_kind, hyphenated_kind, simple_kind, IsRandomUuid};
 ghost use Rattle.sentry_members.specs.Reading.{Reads};

@@ -8,7 +8,7 @@ ghost use Rattle.sentry_tables.specs.Norm.{norm, is_null_of};
 ghost use Rattle.sentry_tables.specs.Meets.{IsPlain, IsStored, IsOptional};
 ghost use Rattle.sentry_members.specs.Cells.{option_cell};
 ghost use Rattle.sentry_members.specs.Made.{made, row_made};
-ghost use Rattle.sentry_tables.specs.Kind.{may, may_null, may_strict};
+ghost use Rattle.sentry_tables.specs.Kind.{may, may_strict};
 ghost use Rattle.sentry_members.specs.Written.{written, WritesTree};
 
 use crate::member::{Defaulted, Member};

@@ -20,7 +20,7 @@ pub struct Values<T: Drop> {
 }
 
 impl<T: Drop> Values<T> {
-    ghost use Rattle.std.specs.Prelude.{◌≡◌, ◌↔◌, ◌++◌, [], IfOk, IsTrue};
+    ghost use Rattle.std.specs.Prelude.{◌≡◌, ◌↔◌, [], IfOk, IsTrue};
     ghost use Rattle.std.specs.Borrow.{sem};
     ghost use Rattle.std.specs.Iterator.{Drains, ExtendsWithItems, IsFinite};
     ghost use Rattle.std.specs.Iterator.Runs.{EveryRun, ItemsMapTo};

@@ -1,7 +1,6 @@
 // An authentication as JSON. The moment that the client told never stands in it.
 
 ghost use Rattle.std.specs.Prelude.{◌≡◌, None, IfOk};
-ghost use Rattle.serde_json.specs.View.{view};
 ghost use Rattle.sentry_members.specs.Reading.{Reads};
 ghost use Rattle.sentry_keys.specs.AuthFields.{auth_table, rows_cell};
 
