@@ -1,6 +1,6 @@
 //! Version 7 of the Sentry protocol: envelopes and their items, and the small texts in them.
 
-// Envelopes: their header, items and filters.
+// Envelopes, what they hold, and their filters.
 pub use sentry_contexts::{
     AppContext, BrowserContext, Context, DeviceContext, GpuContext, OsContext, OtelContext,
     ResponseContext, RuntimeContext, TraceContext,
