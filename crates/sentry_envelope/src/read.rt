@@ -98,7 +98,9 @@ fn read_item<R: Rng>(
     }
 }
 
-/// The value that a payload of JSON shows.
+/// The value that a payload of JSON shows. A call of its own keeps what reading needs out of the caller, which clears its
+/// own memory for each item.
+#[inline(never)]
 fn read_value<T: FromTree>(
     alloc: Global,
     payload: &[u8],
@@ -116,6 +118,7 @@ fn read_value<T: FromTree>(
 }
 
 /// The value that a payload of JSON shows at the moment `now`. Absent ids are drawn from `ids`.
+#[inline(never)]
 fn read_value_at<T: FromTreeAt, R: Rng>(
     alloc: Global,
     payload: &[u8],
@@ -135,6 +138,7 @@ fn read_value_at<T: FromTreeAt, R: Rng>(
 }
 
 /// The event as an item.
+#[inline(never)]
 fn event(alloc: Global, event: Event<'static>) -> Result<EnvelopeItem, EnvelopeError>
     ensures ok { IfOk result (λ item. item_held item ≡ value kinds.Event (event_cell event.entry)) }
     ensures err { IfErr result (λ e. e ≡ EnvelopeError.OutOfMemory) }
@@ -146,6 +150,7 @@ fn event(alloc: Global, event: Event<'static>) -> Result<EnvelopeItem, EnvelopeE
 }
 
 /// The transaction as an item.
+#[inline(never)]
 fn transaction(
     alloc: Global,
     transaction: Transaction<'static>,
