@@ -3,7 +3,8 @@
 use crate::envelopes::{read, said_envelope, said_loss};
 use crate::said::{list, refused};
 use sentry_envelope::{Envelope, EnvelopeFilter};
-use sentry_items::{EnvelopeItem, LossSource};
+use sentry_items::EnvelopeItem;
+use sentry_losses::LossSource;
 use serde_json::Value;
 use std::alloc::{AllocError, Global};
 

@@ -6,9 +6,10 @@ use crate::form::{form, own};
 use crate::parts::of_part;
 use crate::records::of_record;
 use sentry_envelope::EnvelopeHeaders;
-use sentry_items::{AttachmentType, Category, Reason};
+use sentry_items::AttachmentType;
 use sentry_keys::{Auth, Dsn};
 use sentry_parts::{ClientSdkInfo, ClientSdkPackage};
+use sentry_reports::{Category, Reason};
 use sentry_sinks::Values;
 use sentry_sinks::values::AsValues;
 use sentry_text::{

@@ -1,7 +1,8 @@
 //! Words and units.
 
 use crate::said::{list, printed, refused, shown, text};
-use sentry_items::{AttachmentType, Category, Reason};
+use sentry_items::AttachmentType;
+use sentry_reports::{Category, Reason};
 use sentry_text::{
     Level, LogLevel, MetricType, MonitorCheckInStatus, MonitorIntervalUnit, Orientation,
     SessionStatus, SpanStatus, Unit,

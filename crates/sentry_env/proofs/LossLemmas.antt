@@ -4,7 +4,7 @@ use Rattle.std.specs.List.{filter_map}
 use Rattle.std.specs.Option.{IsSomeAnd}
 use Rattle.std.proofs.lemmas.List.Sums.{fold-append}
 use Rattle.sentry_tables.specs.Cell.{Cell}
-use Rattle.sentry_items.specs.Losses.{losses_of_item, losses_of_items}
+use Rattle.sentry_losses.specs.Losses.{losses_of_item, losses_of_items}
 use Rattle.sentry_items.specs.declared.item.EnvelopeItem.{EnvelopeItem}
 use Rattle.sentry_envelope.specs.Envelope.{Envelope as Model}
 use Rattle.sentry_envelope.specs.EnvelopeView.{items as held_items, held_in, item_view, header_of, structured, structured_by, text_by}

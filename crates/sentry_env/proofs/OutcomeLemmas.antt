@@ -8,12 +8,12 @@ use Rattle.sentry_tables.specs.Cell.{Cell}
 use Rattle.sentry_framing.specs.ItemWords.{kind_place}
 use Rattle.sentry_framing.specs.declared.kind.ItemKind.{ItemKind}
 use Rattle.sentry_framing.specs.declared.kind.ItemKind.TheVariants as types
-use Rattle.sentry_items.specs.Losses.{losses_of_items}
+use Rattle.sentry_losses.specs.Losses.{losses_of_items}
 use Rattle.sentry_items.specs.View.{ItemView, attachment, replay_recording, value as value_view, raw as raw_view, item_held, kind_held}
 use Rattle.sentry_items.specs.declared.container.ItemContainer.TheVariants as container
 use Rattle.sentry_items.specs.declared.item.EnvelopeItem.{EnvelopeItem}
 use Rattle.sentry_items.specs.declared.item.EnvelopeItem.TheVariants as variants
-use Rattle.sentry_items.proofs.SameLosses.{same_losses}
+use Rattle.sentry_losses.proofs.SameLosses.{same_losses}
 use Rattle.sentry_envelope.specs.Envelope.{Envelope as Model, Item, item, raw, attached, opaque, value, given_by, envelope_text}
 use Rattle.sentry_envelope.specs.EnvelopeView.{item_view, placed}
 use Rattle.sentry_envelope.specs.Filter.{Hand, asks, chosen, first_id_of, handed, id_in, id_of, is_main, is_orphan, item_of_hand, kept, orphans}

@@ -1,5 +1,5 @@
 ghost use Rattle.std.specs.Prelude.{◌≡◌, ◌++◌, ◌+◌, ◌*◌, ◌<◌, IfOk, OnOk, Some, fold, string_bytes};
-ghost use Rattle.sentry_items.specs.Losses.{losses_of_item};
+ghost use Rattle.sentry_losses.specs.Losses.{losses_of_item};
 ghost use Rattle.std.specs.List.{flat_map};
 ghost use Rattle.sentry_reports.specs.Sums.{place};
 ghost use Rattle.sentry_env.specs.Sums.{add_loss, no_sums, sum_at};

@@ -22,7 +22,7 @@ use Rattle.sentry_moments.proofs.MomentSpellings.{rfc3339_at_once, rfc3339_scala
 use Rattle.sentry_envelope.specs.HeaderFields.{header_kind, fill_id}
 use Rattle.sentry_envelope.specs.SentryProfile.{without_id}
 use Rattle.sentry_envelope.specs.OneEnvelope.{PayloadDrawsNothing, HasOneEnvelope}
-use Rattle.sentry_envelope.specs.Profile.{Form, attachment_form, opaque_form, json_form, container_form, ItemType, Profile, FillLaws, GivesAlike, ProfileLaws}
+use Rattle.sentry_envelope.specs.Profile.{Form, attachment_form, opaque_form, json_form, container_form, ItemType, Profile, GivesAlike, ProfileLaws}
 use Rattle.sentry_items.specs.Containers.{container_kind}
 use Rattle.sentry_envelope.specs.EnvelopeLaws.{EnvelopeLaws}
 use Rattle.sentry_envelope.proofs.EnvelopeIds.{none_given}

@@ -14,7 +14,7 @@ use Rattle.sentry_framing.proofs.Verdicts.{same_first}
 use Rattle.sentry_envelope.specs.Profile.{Form, attachment_form, opaque_form, json_form, container_form, ItemType, words, Profile, FormIsLawful, TypesAreLawful, ProfileLaws}
 use Rattle.sentry_items.specs.Containers.{container_kind}
 use Rattle.sentry_envelope.specs.Envelope.{Content, value, Item, item, raw, IsValue, reads, ContentShows, ContentShowsAt, ItemShows, ItemsStand, first_id}
-use Rattle.sentry_envelope.specs.OneEnvelope.{PayloadDrawsNothing, PayloadDrawsNothingAt, FrameDrawsNothing, NothingDrawnIn, HasOneEnvelope}
+use Rattle.sentry_envelope.specs.OneEnvelope.{PayloadDrawsNothing, PayloadDrawsNothingAt, FrameDrawsNothing, HasOneEnvelope}
 use Rattle.sentry_envelope.proofs.EnvelopeAnswers.{some_remain}
 use Rattle.sentry_envelope.proofs.EnvelopeBack.{envelopes_same}
 use Rattle.sentry_envelope.proofs.EnvelopeLine.{same_line}

@@ -114,10 +114,19 @@ module _ {E : Type 0} (r : Result (Unit {0}) E) where
   abbrev IsSent : List ℕ → List ℕ → List ℕ → List ℕ → Type 0
   IsSent old new header payload = OnOk r (new ≡ old ++ with_line header (with_line payload []))
 
-  pub attachment_sent : (i : EnvelopeItem) (old new header : List ℕ) (a : Attachment) → i ≡ variants.Attachment a → header ≡ header_text (attachment_header (codes "attachment") (attachment_view a))
-      → IsSent old new header a.buffer.items → Sends old new i
+  -- behind a header, its line was ended and a payload sent
+  abbrev IsEnded : List ℕ → List ℕ → List ℕ → Type 0
+  IsEnded before new payload = OnOk r (new ≡ before ++ with_line [] (with_line payload []))
+
+  ended : (old before new header payload : List ℕ) → before ≡ old ++ header → IsEnded before new payload → IsSent old new header payload
+  ended old before new header payload headed sent =
+      then_ok r _ _ (λ e. e ∙ ap (λ b. b ++ newline ∷ with_line payload []) headed ∙ append_assoc old header (newline ∷ with_line payload [])) sent
+
+  pub attachment_sent : (i : EnvelopeItem) (old before new : List ℕ) (a : Attachment) → i ≡ variants.Attachment a → before ≡ old ++ header_text (attachment_header (codes "attachment") (attachment_view a))
+      → IsEnded before new a.buffer.items → Sends old new i
   unfolding profile header_text
-  attachment_sent i old new header a is headed sent = subst (Sends old new) (sym is) (then_ok r _ _ (λ e ready. e) (subst (λ h. IsSent old new h a.buffer.items) headed sent))
+  attachment_sent i old before new a is headed sent =
+      subst (Sends old new) (sym is) (then_ok r _ _ (λ e ready. e) (ended old before new (header_text (attachment_header (codes "attachment") (attachment_view a))) a.buffer.items headed sent))
 
   pub recording_sent : (i : EnvelopeItem) (old new header : List ℕ) (x : ReplayRecording) → i ≡ variants.ReplayRecording x → header ≡ header_text (short_header (codes "replay_recording") x.buffer.items)
       → IsSent old new header x.buffer.items → Sends old new i

@@ -3,7 +3,7 @@ ghost use Rattle.std.specs.Prelude.{◌≡◌, Bool, List, Option, ◌++◌, len
 ghost use Rattle.std.specs.List.{flat_map};
 ghost use Rattle.std.specs.List.Sorted.{IsPermutation};
 ghost use Rattle.sentry_items.specs.declared.item.EnvelopeItem.{EnvelopeItem};
-ghost use Rattle.sentry_items.specs.Losses.{losses_of_items};
+ghost use Rattle.sentry_losses.specs.Losses.{losses_of_items};
 ghost use Rattle.sentry_tables.specs.Cell.{Cell};
 ghost use Rattle.sentry_envelope.specs.declared.envelope.Envelope.{Envelope};
 ghost use Rattle.sentry_envelope.specs.EnvelopeLosses.{losses_of_envelope, losses_of_left};

@@ -51,6 +51,7 @@ pub(crate) fn read_items<R: Rng>(
 }
 
 /// The item that a frame shows, by what its header says. The header's texts are taken out of it.
+#[inline(always)]
 fn read_item<R: Rng>(
     alloc: Global,
     frame: &ItemFrame<'_>,

@@ -84,8 +84,8 @@ fn write_item(
             )
         }
         EnvelopeItem::Attachment(attachment) => {
-            attachment.write_header(alloc, "attachment", line)?;
-            write_frame(line, &attachment.buffer, out)
+            attachment.write_header(alloc, "attachment", line, out)?;
+            end_frame(&attachment.buffer, out)
         }
         EnvelopeItem::MonitorCheckIn(check_in) => {
             write_value(alloc, "check_in", check_in, line, payload, out)
@@ -200,6 +200,13 @@ fn write_frame(header: &[u8], payload: &[u8], out: &mut Vec<u8>) -> Result<(), A
     ensures { OnOk result (out.new.items ≡ out.old.items ++ with_line header.now (with_line payload.now [])) }
 {
     out.extend_from_slice(header)?;
+    end_frame(payload, out)
+}
+
+/// Ends the line of a header, and appends a payload, ended by a line feed.
+fn end_frame(payload: &[u8], out: &mut Vec<u8>) -> Result<(), AllocError>
+    ensures { OnOk result (out.new.items ≡ out.old.items ++ with_line [] (with_line payload.now [])) }
+{
     out.push(b'\n')?;
     out.extend_from_slice(payload)?;
     out.push(b'\n')?;

@@ -1,9 +1,7 @@
 pub mod AttachmentTypes
 pub mod Containers
-pub mod Cut
 pub mod Equal
 pub mod HeaderTokens
 pub mod Made
-pub mod SameLosses
 pub mod Sent
 pub mod UsualHeader

@@ -4,9 +4,7 @@ pub mod AttachmentWords
 pub mod Containers
 pub mod Counted
 pub mod HeaderTokens
-pub mod Losses
 pub mod Made
 pub mod Meets
-pub mod Sizes
 pub mod UsualHeader
 pub mod View

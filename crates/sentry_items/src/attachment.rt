@@ -180,11 +180,13 @@ impl Attachment {
 
     /// Appends the header of the attachment's item, with this word as the item's type.
     ///
-    /// It fails where memory is refused, and may then have appended a part of the header.
+    /// A header that isn't the usual one is built in `line`, in place of what that holds: a writer of JSON clears memory
+    /// ahead of what it writes. It fails where memory is refused, and may then have appended a part of the header.
     pub fn write_header(
         &self,
         alloc: Global,
         word: &str,
+        line: &mut Vec<u8>,
         out: &mut Vec<u8>,
     ) -> Result<(), AllocError>
         ensures ok { OnOk result (out.new.items ≡ out.old.items ++ header_text (attachment_header word.now (attachment_view self.now))) }
@@ -193,7 +195,9 @@ impl Attachment {
         if self.is_usual() && word == "attachment" {
             write_usual_header(self.filename.as_str(), self.buffer.len(), out)
         } else {
-            self.write_any_header(alloc, word, out)
+            line.clear();
+            self.write_any_header(alloc, word, line)?;
+            out.extend_from_slice(line)
         }
     }
 
@@ -246,7 +250,8 @@ impl Attachment {
         ensures { IfOk result (λ line. line.items ++ self.now.buffer.items ≡ attachment_text (attachment_view self.now)) }
     {
         let mut line = Vec::with_capacity(alloc, USUAL_HEADER)?;
-        self.write_header(alloc, "attachment", &mut line)?;
+        let mut unusual = Vec::new(alloc);
+        self.write_header(alloc, "attachment", &mut unusual, &mut line)?;
         line.push(b'\n')?;
         Ok(line)
     }

@@ -3,7 +3,6 @@ ghost use Rattle.std.specs.Prelude.{◌≡◌, ◌↔◌, true, codes};
 ghost use Rattle.sentry_tables.specs.Laws.{HasLaws};
 ghost use Rattle.sentry_items.specs.Alike.{HasStoredAddress, HoldsNoTree, AreAlike};
 ghost use Rattle.sentry_items.specs.AttachmentWords.{attachment_type_kind, known};
-ghost use Rattle.sentry_items.specs.Losses.{losses_of_item};
 ghost use Rattle.sentry_items.specs.View.{attachment_type_cell, attachment_view, item_held};
 ghost use Rattle.sentry_items.specs.declared.attachment.Attachment.{Attachment as Attachments};
 ghost use Rattle.sentry_items.specs.declared.attachment_type.AttachmentType.{AttachmentType as Types};
@@ -37,10 +36,4 @@ pub fn equal_items()
     ensures recordings { (a b : Recordings) → ⟦<ReplayRecording as PartialEq>⟧.eq a b ≡ true ↔ (a.buffer.items ≡ b.buffer.items) }
     ensures items { (a b : Items) → HoldsNoTree (item_held a) → HoldsNoTree (item_held b) → HasStoredAddress a → HasStoredAddress b
         → ⟦<EnvelopeItem as PartialEq>⟧.eq a b ≡ true ↔ AreAlike a b }
-{}
-
-/// Items that hold the same lose the same.
-#[tactic(auto, using(crate::proofs::SameLosses::same_losses))]
-pub fn same_losses()
-    ensures { (a b : Items) → item_held a ≡ item_held b → losses_of_item a ≡ losses_of_item b }
 {}

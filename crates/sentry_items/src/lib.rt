@@ -1,4 +1,4 @@
-//! The items of envelopes, what is lost with them, and sending bytes.
+//! The items of envelopes, and sending bytes.
 #![tactic(auto)]
 
 pub mod attachment;
@@ -9,9 +9,7 @@ pub mod header;
 pub mod item;
 pub mod laws;
 pub mod listed;
-pub mod loss;
 pub mod replay_recording;
-mod sizes;
 mod usual;
 
 pub use attachment::{Attachment, AttachmentWriteError};
@@ -20,6 +18,4 @@ pub use container::ItemContainer;
 pub use counted::{CountedReader, CountedWriter};
 pub use item::EnvelopeItem;
 pub use listed::Listed;
-pub use loss::{ItemLossIter, LossSlice, LossSource};
 pub use replay_recording::ReplayRecording;
-pub use sentry_reports::{Category, Item, ItemLoss, Reason, Report};

@@ -3,15 +3,14 @@ use rand_core::SeedableRng;
 use rand_pcg::Pcg32;
 use sentry_event::{Event, Span, Transaction};
 use sentry_identifiers::TraceId;
-use sentry_items::{
-    Attachment, Category, EnvelopeItem, Item, ItemLoss, ItemLossIter, LossSlice, LossSource,
-    Reason, ReplayRecording, Report,
-};
+use sentry_items::{Attachment, EnvelopeItem, ReplayRecording};
+use sentry_losses::{ItemLossIter, LossSlice, LossSource};
 use sentry_members::{Member, TreeError, read_tree};
 use sentry_moments::Moment;
 use sentry_records::{
     Log, LogAttribute, Metric, SessionAggregateItem, SessionAggregates, SessionAttributes,
 };
+use sentry_reports::{Category, Item, ItemLoss, Reason, Report};
 use sentry_words::{LogLevel, MetricType};
 use serde_json::{Map, Value};
 use std::alloc::{AllocError, Global};

@@ -13,9 +13,9 @@ pub use sentry_envelope::{
 pub use sentry_event::{Event, Span, Transaction};
 pub use sentry_framing::{ItemHeader, ItemKind, read_item_header};
 pub use sentry_items::{
-    Attachment, AttachmentType, AttachmentWriteError, EnvelopeItem, ItemContainer, ItemLossIter,
-    LossSlice, LossSource, ReplayRecording,
+    Attachment, AttachmentType, AttachmentWriteError, EnvelopeItem, ItemContainer, ReplayRecording,
 };
+pub use sentry_losses::{ItemLossIter, LossSlice, LossSource};
 pub use sentry_parts::{
     AppleDebugImage, Breadcrumb, CError, ClientSdkInfo, ClientSdkPackage, DebugImage, DebugMeta,
     Exception, Frame, LogEntry, MachException, Mechanism, MechanismMeta, PosixSignal,
@@ -54,7 +54,7 @@ pub use self::value::Value;
 
 /// What is lost with items that are taken out.
 pub mod client_report {
-    pub use sentry_items::{ItemLossIter, LossSlice, LossSource};
+    pub use sentry_losses::{ItemLossIter, LossSlice, LossSource};
     pub use sentry_reports::{Category, Item, ItemLoss, Reason, Report};
 }
 

@@ -27,8 +27,8 @@ use Rattle.sentry_reports.specs.declared.reason.Reason.{Reason}
 use Rattle.sentry_reports.specs.declared.report.Report.{Report}
 use Rattle.sentry_reports.proofs.Words.{category_word_back, reason_word_back}
 use Rattle.sentry_items.specs.Containers.{items_cell}
-use Rattle.sentry_items.specs.Losses.{loss, losses_of_groups, losses_of_item, losses_of_logs, losses_of_metrics, losses_of_report, losses_of_transaction}
-use Rattle.sentry_items.specs.Sizes.{attribute_size, attributes_size, cut, log_size, metric_size, sessions_in}
+use Rattle.sentry_losses.specs.Losses.{loss, losses_of_groups, losses_of_item, losses_of_logs, losses_of_metrics, losses_of_report, losses_of_transaction}
+use Rattle.sentry_losses.specs.Sizes.{attribute_size, attributes_size, cut, log_size, metric_size, sessions_in}
 use Rattle.sentry_items.specs.View.{item_held, kind_held}
 use Rattle.sentry_items.specs.declared.container.ItemContainer.TheVariants as container
 use Rattle.sentry_items.specs.declared.item.EnvelopeItem.{EnvelopeItem}

@@ -1,6 +1,6 @@
 use Rattle.std.proofs.Common.{◌≡◌, length}
-use Rattle.sentry_items.specs.Losses.{losses_left}
-use Rattle.sentry_items.proofs.loss.ItemLossIterIterator.next.Given as goal
+use Rattle.sentry_losses.specs.Losses.{losses_left}
+use Rattle.sentry_losses.proofs.loss.ItemLossIterIterator.next.Given as goal
 
 -- what is skipped has no losses
 abbrev pub invariant-loop-loss : goal.invariant-loop-loss

@@ -2,7 +2,7 @@
 
 ghost use Rattle.std.specs.Prelude.{◌≡◌, ◌<◌, ◌^◌, sum_by};
 ghost use Rattle.serde_json.specs.View.{view, items_view, members_view};
-ghost use Rattle.sentry_items.specs.Sizes.{attributes_size, cut, data_size, items_size, log_size, members_size, metric_size, sessions_in};
+ghost use Rattle.sentry_losses.specs.Sizes.{attributes_size, cut, data_size, items_size, log_size, members_size, metric_size, sessions_in};
 
 use sentry_records::{Log, LogAttribute, Metric, SessionAggregateItem};
 use serde_json::{Map, Value};

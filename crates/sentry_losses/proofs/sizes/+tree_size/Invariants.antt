@@ -1,7 +1,7 @@
 use Rattle.std.proofs.Common.{◌≡◌, ◌≤◌, ◌+◌, ◌-◌, ◌^◌, drop}
 use Rattle.serde_json.specs.View.{items_view, members_view}
-use Rattle.sentry_items.specs.Sizes.{cut, items_size, members_size}
-use Rattle.sentry_items.proofs.sizes.+tree_size.Given as goal
+use Rattle.sentry_losses.specs.Sizes.{cut, items_size, members_size}
+use Rattle.sentry_losses.proofs.sizes.+tree_size.Given as goal
 
 -- the sum is within its bound, and with what is left, all is summed
 abbrev pub invariant-items_size-loop-item : goal.invariant-items_size-loop-item

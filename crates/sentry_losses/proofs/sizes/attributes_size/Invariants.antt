@@ -1,6 +1,6 @@
 use Rattle.std.proofs.Common.{◌≡◌, ◌≤◌, ◌+◌, ◌-◌, ◌^◌}
-use Rattle.sentry_items.specs.Sizes.{attributes_size, cut}
-use Rattle.sentry_items.proofs.sizes.attributes_size.Given as goal
+use Rattle.sentry_losses.specs.Sizes.{attributes_size, cut}
+use Rattle.sentry_losses.proofs.sizes.attributes_size.Given as goal
 
 -- the sum is within its bound, and with what is left, all is summed
 abbrev pub invariant-loop-key : goal.invariant-loop-key

@@ -1,6 +1,6 @@
 use Rattle.std.proofs.Common.{◌≡◌, take, sum_by}
-use Rattle.sentry_items.specs.Sizes.{cut}
-use Rattle.sentry_items.proofs.sizes.sum_of_sizes.Given as goal
+use Rattle.sentry_losses.specs.Sizes.{cut}
+use Rattle.sentry_losses.proofs.sizes.sum_of_sizes.Given as goal
 
 -- the sizes of the items that were seen
 abbrev pub invariant-loop-item : goal.invariant-loop-item

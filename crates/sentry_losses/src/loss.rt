@@ -1,14 +1,11 @@
 //! What is lost with items that aren't sent.
 
 ghost use Rattle.std.specs.Prelude.{◌≡◌};
-ghost use Rattle.sentry_items.specs.Losses.{loss as lost_without_reason};
+ghost use Rattle.sentry_losses.specs.Losses.{loss as lost_without_reason};
 
-use crate::attachment::Attachment;
-use crate::container::ItemContainer;
-use crate::item::EnvelopeItem;
-use crate::replay_recording::ReplayRecording;
 use crate::sizes::{Measured, sum_of_sizes};
 use sentry_event::{Event, Span, Transaction};
+use sentry_items::{Attachment, EnvelopeItem, ItemContainer, ReplayRecording};
 use sentry_records::{Log, Metric, MonitorCheckIn, SessionAggregates, SessionUpdate, UserReport};
 use sentry_reports::{Category, Item, ItemLoss, Report};
 
@@ -46,7 +43,7 @@ fn loss(category: Category, quantity: u64) -> ItemLoss
 impl<'a> SourceLosses<'a> {
     ghost use Rattle.std.specs.Prelude.{◌≡◌, ◌∷◌, []};
     ghost use Rattle.std.specs.Iterator.{YieldsFirst};
-    ghost use Rattle.sentry_items.specs.Losses.{loss, losses_of_container, losses_of_groups, losses_of_item, losses_of_logs, losses_of_metrics, losses_of_report, losses_of_transaction, source_left};
+    ghost use Rattle.sentry_losses.specs.Losses.{loss, losses_of_container, losses_of_groups, losses_of_item, losses_of_logs, losses_of_metrics, losses_of_report, losses_of_transaction, source_left};
 
     /// No losses.
     fn none() -> SourceLosses<'a>
@@ -177,7 +174,7 @@ impl<'a> SourceLosses<'a> {
 
 impl<'a> ItemLossIter<'a> {
     ghost use Rattle.std.specs.Prelude.{◌≡◌};
-    ghost use Rattle.sentry_items.specs.Losses.{losses_left, losses_of_items, source_left};
+    ghost use Rattle.sentry_losses.specs.Losses.{losses_left, losses_of_items, source_left};
 
     /// The losses of one source.
     fn of_source(source: SourceLosses<'a>) -> ItemLossIter<'a>
@@ -199,7 +196,7 @@ impl<'a> ItemLossIter<'a> {
 
 impl Iterator for ItemLossIter<'_> {
     ghost use Rattle.std.specs.Iterator.{YieldsFirst, item_count};
-    ghost use Rattle.sentry_items.specs.Losses.{losses_left};
+    ghost use Rattle.sentry_losses.specs.Losses.{losses_left};
 
     type Item = ItemLoss;
 
@@ -223,7 +220,7 @@ impl Iterator for ItemLossIter<'_> {
 pub trait LossSource {
     ghost use Rattle.std.specs.Prelude.{◌≡◌, List};
     ghost use Rattle.sentry_reports.specs.declared.item_loss.ItemLoss.{ItemLoss};
-    ghost use Rattle.sentry_items.specs.Losses.{losses_left};
+    ghost use Rattle.sentry_losses.specs.Losses.{losses_left};
 
     /// What is lost with the source, in order.
     ghost losses_of: { Self → List ItemLoss };
@@ -234,7 +231,7 @@ pub trait LossSource {
 }
 
 impl LossSource for Event<'_> {
-    ghost use Rattle.sentry_items.specs.Losses.{losses_of_event};
+    ghost use Rattle.sentry_losses.specs.Losses.{losses_of_event};
 
     ghost losses_of = { losses_of_event };
 
@@ -244,7 +241,7 @@ impl LossSource for Event<'_> {
 }
 
 impl LossSource for SessionUpdate<'_> {
-    ghost use Rattle.sentry_items.specs.Losses.{losses_of_session};
+    ghost use Rattle.sentry_losses.specs.Losses.{losses_of_session};
 
     ghost losses_of = { losses_of_session };
 
@@ -254,7 +251,7 @@ impl LossSource for SessionUpdate<'_> {
 }
 
 impl LossSource for SessionAggregates<'_> {
-    ghost use Rattle.sentry_items.specs.Losses.{losses_of_groups};
+    ghost use Rattle.sentry_losses.specs.Losses.{losses_of_groups};
 
     ghost losses_of = { losses_of_groups };
 
@@ -264,7 +261,7 @@ impl LossSource for SessionAggregates<'_> {
 }
 
 impl LossSource for Transaction<'_> {
-    ghost use Rattle.sentry_items.specs.Losses.{losses_of_transaction};
+    ghost use Rattle.sentry_losses.specs.Losses.{losses_of_transaction};
 
     ghost losses_of = { losses_of_transaction };
 
@@ -274,7 +271,7 @@ impl LossSource for Transaction<'_> {
 }
 
 impl LossSource for Span {
-    ghost use Rattle.sentry_items.specs.Losses.{losses_of_span};
+    ghost use Rattle.sentry_losses.specs.Losses.{losses_of_span};
 
     ghost losses_of = { losses_of_span };
 
@@ -284,7 +281,7 @@ impl LossSource for Span {
 }
 
 impl LossSource for Attachment {
-    ghost use Rattle.sentry_items.specs.Losses.{losses_of_attachment};
+    ghost use Rattle.sentry_losses.specs.Losses.{losses_of_attachment};
 
     ghost losses_of = { losses_of_attachment };
 
@@ -295,7 +292,7 @@ impl LossSource for Attachment {
 }
 
 impl LossSource for MonitorCheckIn {
-    ghost use Rattle.sentry_items.specs.Losses.{losses_of_check_in};
+    ghost use Rattle.sentry_losses.specs.Losses.{losses_of_check_in};
 
     ghost losses_of = { losses_of_check_in };
 
@@ -305,7 +302,7 @@ impl LossSource for MonitorCheckIn {
 }
 
 impl LossSource for UserReport {
-    ghost use Rattle.sentry_items.specs.Losses.{losses_of_user_report};
+    ghost use Rattle.sentry_losses.specs.Losses.{losses_of_user_report};
 
     ghost losses_of = { losses_of_user_report };
 
@@ -315,7 +312,7 @@ impl LossSource for UserReport {
 }
 
 impl LossSource for ReplayRecording {
-    ghost use Rattle.sentry_items.specs.Losses.{losses_of_recording};
+    ghost use Rattle.sentry_losses.specs.Losses.{losses_of_recording};
 
     ghost losses_of = { losses_of_recording };
 
@@ -325,7 +322,7 @@ impl LossSource for ReplayRecording {
 }
 
 impl LossSource for Log {
-    ghost use Rattle.sentry_items.specs.Losses.{losses_of_log};
+    ghost use Rattle.sentry_losses.specs.Losses.{losses_of_log};
 
     ghost losses_of = { losses_of_log };
 
@@ -340,7 +337,7 @@ impl LossSource for Log {
 }
 
 impl LossSource for Metric {
-    ghost use Rattle.sentry_items.specs.Losses.{losses_of_metric};
+    ghost use Rattle.sentry_losses.specs.Losses.{losses_of_metric};
 
     ghost losses_of = { losses_of_metric };
 
@@ -355,7 +352,7 @@ impl LossSource for Metric {
 }
 
 impl LossSource for ItemContainer {
-    ghost use Rattle.sentry_items.specs.Losses.{losses_of_container};
+    ghost use Rattle.sentry_losses.specs.Losses.{losses_of_container};
 
     ghost losses_of = { losses_of_container };
 
@@ -365,7 +362,7 @@ impl LossSource for ItemContainer {
 }
 
 impl LossSource for Report {
-    ghost use Rattle.sentry_items.specs.Losses.{losses_of_report};
+    ghost use Rattle.sentry_losses.specs.Losses.{losses_of_report};
 
     ghost losses_of = { losses_of_report };
 
@@ -375,7 +372,7 @@ impl LossSource for Report {
 }
 
 impl LossSource for EnvelopeItem {
-    ghost use Rattle.sentry_items.specs.Losses.{losses_of_item};
+    ghost use Rattle.sentry_losses.specs.Losses.{losses_of_item};
 
     ghost losses_of = { losses_of_item };
 

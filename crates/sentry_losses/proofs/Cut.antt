@@ -1,7 +1,7 @@
 -- Sums that are cut once are those that are cut at each step.
 use Rattle.std.proofs.Common.{arith, ◌≡◌, ℕ, ◌+◌, ◌-◌, ◌^◌, ◌<◌, min, List, sum_by, take, length, get_or}
 use Rattle.std.proofs.lemmas.List.Sums.{sum_by_more}
-use Rattle.sentry_items.specs.Sizes.{cut}
+use Rattle.sentry_losses.specs.Sizes.{cut}
 
 -- one more term
 pub cut_add : (sum more : ℕ) → min (cut sum + cut more) (2 ^ 64 - 1) ≡ cut (sum + more)

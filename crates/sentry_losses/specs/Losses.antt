@@ -12,7 +12,7 @@ use Rattle.sentry_records.specs.declared.log.Log.{Log}
 use Rattle.sentry_records.specs.declared.metric.Metric.{Metric}
 use Rattle.sentry_reports.specs.Items.{losses_reported}
 use Rattle.sentry_reports.specs.declared.report.Report.{Report}
-use Rattle.sentry_items.specs.Sizes.{cut, log_size, metric_size, sessions_in}
+use Rattle.sentry_losses.specs.Sizes.{cut, log_size, metric_size, sessions_in}
 use Rattle.sentry_items.specs.declared.container.ItemContainer.{ItemContainer}
 use Rattle.sentry_items.specs.declared.container.ItemContainer.TheVariants as container
 use Rattle.sentry_reports.specs.declared.category.Category.{Category}
@@ -21,9 +21,9 @@ use Rattle.sentry_items.specs.declared.attachment.Attachment.{Attachment}
 use Rattle.sentry_items.specs.declared.item.EnvelopeItem.{EnvelopeItem}
 use Rattle.sentry_items.specs.declared.item.EnvelopeItem.TheVariants as item
 use Rattle.sentry_reports.specs.declared.item_loss.ItemLoss.{ItemLoss}
-use Rattle.sentry_items.specs.declared.loss.ItemLossIter.{ItemLossIter}
-use Rattle.sentry_items.specs.declared.loss.SourceLosses.{SourceLosses}
-use Rattle.sentry_items.specs.declared.loss.SourceLosses.TheVariants as source
+use Rattle.sentry_losses.specs.declared.loss.ItemLossIter.{ItemLossIter}
+use Rattle.sentry_losses.specs.declared.loss.SourceLosses.{SourceLosses}
+use Rattle.sentry_losses.specs.declared.loss.SourceLosses.TheVariants as source
 use Rattle.sentry_items.specs.declared.replay_recording.ReplayRecording.{ReplayRecording}
 
 -- so much of a category, without a reason
