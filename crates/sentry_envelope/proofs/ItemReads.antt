@@ -1,6 +1,6 @@
 -- What frames show, and what a reader of them has so far.
 use Rattle.std.proofs.Common.{◌≡◌, ◌≢◌, ℕ, List, [], ◌∷◌, ◌++◌, inl, inr, refl, sym, ap, subst}
-use Rattle.std.specs.Prelude.{◌⊎◌, map, Some, Result, Ok, Err, IfOk}
+use Rattle.std.specs.Prelude.{◌⊎◌, ⊤, map, Some, Result, Ok, Err, IfOk, OnOk}
 use Rattle.std.proofs.lemmas.List.{map-append}
 use Rattle.sentry_tables.specs.Cell.{Cell}
 use Rattle.sentry_tables.specs.Kind.{Kind}
@@ -15,6 +15,7 @@ use Rattle.sentry_framing.specs.Framing.{Frame, IsFirstFrame, IsFault}
 use Rattle.sentry_envelope.specs.EnvelopeFault.{BodyIsAtFault, FrameIsRefused}
 use Rattle.sentry_envelope.specs.Envelope.{item, attached, opaque, value, reads, attached_by, ItemShows, ItemsStand}
 use Rattle.sentry_envelope.specs.EnvelopeView.{item_view, placed}
+use Rattle.sentry_envelope.specs.ItemAdded.{IsAdded}
 use Rattle.sentry_framing.specs.HeaderView.{header_view}
 use Rattle.sentry_framing.specs.ItemHeader.{read_header, stated_length}
 use Rattle.sentry_framing.specs.ItemWords.{item_words, kind_place}
@@ -29,6 +30,11 @@ use Rattle.sentry_items.specs.Containers.{container_kind}
 use Rattle.sentry_tables.specs.Laws.{TextShows}
 use Rattle.sentry_envelope.proofs.EnvelopeReading.{form_at, the_form, attachment_shows, opaque_shows, json_shows, json_refused, container_shows, container_refused, items_snoc, body_fault, framing_is_first, payload_is_first}
 use Rattle.sentry_envelope.proofs.SentryProfile.{profile_lawful}
+
+-- an item that the frame shows comes behind the others
+pub item_added : (now : Cell) (frame : Frame) (old new : List EnvelopeItem) (i : EnvelopeItem) → new ≡ old ++ i ∷ [] → ItemShows profile now frame (item_view i) → IsAdded now frame old new
+unfolding IsAdded
+item_added now frame old new i more shows = (i, more, shows)
 
 -- the payload of a type is JSON of this kind: a value's, or that of a container of values
 pub data IsJson (k : ItemKind) : Kind → Type 1 where
@@ -45,6 +51,17 @@ module _ (frame : Frame) (h : ItemHeader) (read : read_header item_words frame.h
   unfolding profile
   recording_read is x same =
       subst (λ (b : List ℕ). ItemShows profile now frame (item 7 (opaque b))) (sym same) (opaque_shows profile frame (header_view h) 7 read (ap kind_place is) refl now)
+
+  -- so where it comes behind the others, one that the frame shows does
+  pub attachment_added : h.kind ≡ kinds.Attachment → (old new : List EnvelopeItem) (r : Result ⊤ EnvelopeError)
+      → OnOk r ((a : Attachment) × (attachment_view a ≡ attached_by (header_view h) frame.payload) × (new ≡ old ++ variants.Attachment a ∷ [])) → OnOk r (IsAdded now frame old new)
+  attachment_added is old new (Ok x) (a, same, more) = item_added now frame old new (variants.Attachment a) more (attachment_read is a same)
+  attachment_added is old new (Err e) none = tt
+
+  pub recording_added : h.kind ≡ kinds.ReplayRecording → (old new : List EnvelopeItem) (r : Result ⊤ EnvelopeError)
+      → OnOk r ((x : ReplayRecording) × (x.buffer.items ≡ frame.payload) × (new ≡ old ++ variants.ReplayRecording x ∷ [])) → OnOk r (IsAdded now frame old new)
+  recording_added is old new (Ok x) (recording, same, more) = item_added now frame old new (variants.ReplayRecording recording) more (recording_read is recording same)
+  recording_added is old new (Err e) none = tt
 
   shows_by : (k : ItemKind) (K : Kind) → h.kind ≡ k → IsJson k K → (c : Cell) → TextShows K now frame.payload c → ItemShows profile now frame (item (kind_place k) (value c))
   unfolding profile
@@ -102,8 +119,7 @@ module _ (now : Cell) (body : List ℕ) (items : List EnvelopeItem) (rest : List
   payload_at_fault frame next remains first refused =
       body_fault profile profile_lawful now body (map item_view items) rest InvalidItemPayload stand remains (payload_is_first profile rest frame next first refused)
 
-  pub one_more : (frame : Frame) (next : List ℕ) (more : List EnvelopeItem) (i : EnvelopeItem) → IsFirstFrame (stated_length item_words) rest frame next → ItemShows profile now frame (item_view i) → more ≡ items ++ i ∷ []
-      → ItemsStand profile now body (map item_view more) next
-  unfolding profile
-  one_more frame next more i first shows is =
+  pub one_more : (frame : Frame) (next : List ℕ) (more : List EnvelopeItem) → IsFirstFrame (stated_length item_words) rest frame next → IsAdded now frame items more → ItemsStand profile now body (map item_view more) next
+  unfolding profile IsAdded
+  one_more frame next more first (i, is, shows) =
       rw (is, map-append item_view items (i ∷ [])) (items_snoc profile now (map item_view items) body rest next frame (item_view i) stand first shows)

@@ -9,6 +9,7 @@ pub mod EnvelopeMade
 pub mod EnvelopeView
 pub mod Filter
 pub mod HeaderFields
+pub mod ItemAdded
 pub mod ItemsLeft
 pub mod OneEnvelope
 pub mod Profile

@@ -1,6 +1,6 @@
 //! The items of an envelope, read.
 
-ghost use Rattle.std.specs.Prelude.{◌≡◌, ◌≢◌, ◌⊎◌, IfOk, IfErr, [], Some, map};
+ghost use Rattle.std.specs.Prelude.{◌≡◌, ◌≢◌, ◌⊎◌, ◌∷◌, ◌++◌, IfOk, IfErr, OnOk, [], Some, map};
 ghost use Rattle.sentry_event.specs.Events.{event_cell};
 ghost use Rattle.sentry_event.specs.Transactions.{transaction_cell};
 ghost use Rattle.sentry_items.specs.View.{attachment_view, item_held, value};
@@ -8,6 +8,7 @@ ghost use Rattle.sentry_members.specs.Reading.{TextShown, TextRefused, TextShown
 ghost use Rattle.sentry_envelope.specs.Envelope.{attached_by, ItemShows, ItemsStand};
 ghost use Rattle.sentry_envelope.specs.EnvelopeFault.{BodyIsAtFault, FrameIsRefused};
 ghost use Rattle.sentry_envelope.specs.EnvelopeView.{item_view};
+ghost use Rattle.sentry_envelope.specs.ItemAdded.{IsAdded};
 ghost use Rattle.sentry_framing.specs.HeaderView.{header_view};
 ghost use Rattle.sentry_framing.specs.ItemHeader.{read_header};
 ghost use Rattle.sentry_framing.specs.ItemWords.{item_words};
@@ -45,22 +46,104 @@ pub(crate) fn read_items<R: Rng>(
     let mut header = ItemHeader::new();
     while let Some(answer) = frames.next_item_into(alloc, scratch, &mut header) {
         let frame = answer?;
-        items.push(read_item(alloc, &frame, &mut header, now, ids, scratch)?)?;
+        add_item(alloc, &frame, &mut header, now, ids, scratch, &mut items)?;
     }
     Ok(items)
 }
 
-/// The item that a frame shows, by what its header says. The header's texts are taken out of it.
-#[inline(always)]
-fn read_item<R: Rng>(
+/// Adds the item that a frame shows, by what its header says. The header's texts are taken out of it.
+///
+/// An item is large, and each place where one may stand is cleared when a call is entered that has it: so each form of
+/// payload is read by a call of its own, and a small one isn't charged for the places of the others.
+fn add_item<R: Rng>(
     alloc: Global,
     frame: &ItemFrame<'_>,
     header: &mut ItemHeader,
     now: Moment,
     ids: &mut R,
     scratch: &mut Scratch,
-) -> Result<EnvelopeItem, EnvelopeError>
+    items: &mut Vec<EnvelopeItem>,
+) -> Result<(), EnvelopeError>
     requires { read_header item_words (frame_of frame.now).header ≡ Some (header_view header.old) }
+    ensures ok { OnOk result (IsAdded (moment_cell now) (frame_of frame.now) items.old.items items.new.items) }
+    ensures err { IfErr result (λ e. (e ≡ EnvelopeError.OutOfMemory)
+        ⊎ ((e ≡ EnvelopeError.InvalidItemPayload) × FrameIsRefused profile (frame_of frame.now))) }
+{
+    match header.kind {
+        ItemKind::Attachment => add_attachment(alloc, frame.payload, header, items),
+        ItemKind::ReplayRecording => add_recording(alloc, frame.payload, items),
+        _ => add_json_item(alloc, frame, header, now, ids, scratch, items),
+    }
+}
+
+/// Adds the attachment of these bytes, with the name and types that its item's header gives, which are taken out of it.
+#[inline(never)]
+fn add_attachment(
+    alloc: Global,
+    payload: &[u8],
+    header: &mut ItemHeader,
+    items: &mut Vec<EnvelopeItem>,
+) -> Result<(), EnvelopeError>
+    ensures ok { OnOk result ((a : Attachment) × (attachment_view a ≡ attached_by (header_view header.old) payload.now)
+        × (items.new.items ≡ items.old.items ++ EnvelopeItem.Attachment a ∷ [])) }
+    ensures err { IfErr result (λ e. e ≡ EnvelopeError.OutOfMemory) }
+{
+    let attachment = attachment(alloc, payload, header)?;
+    items.push(EnvelopeItem::Attachment(attachment))?;
+    Ok(())
+}
+
+/// Adds the recording of these bytes.
+#[inline(never)]
+fn add_recording(
+    alloc: Global,
+    payload: &[u8],
+    items: &mut Vec<EnvelopeItem>,
+) -> Result<(), EnvelopeError>
+    ensures ok { OnOk result ((x : ReplayRecording) × (x.buffer.items ≡ payload.now)
+        × (items.new.items ≡ items.old.items ++ EnvelopeItem.ReplayRecording x ∷ [])) }
+    ensures err { IfErr result (λ e. e ≡ EnvelopeError.OutOfMemory) }
+{
+    let recording = replay_recording(alloc, payload)?;
+    items.push(EnvelopeItem::ReplayRecording(recording))?;
+    Ok(())
+}
+
+/// Adds the item that a frame shows whose payload is JSON, by what its header says.
+#[inline(never)]
+fn add_json_item<R: Rng>(
+    alloc: Global,
+    frame: &ItemFrame<'_>,
+    header: &ItemHeader,
+    now: Moment,
+    ids: &mut R,
+    scratch: &mut Scratch,
+    items: &mut Vec<EnvelopeItem>,
+) -> Result<(), EnvelopeError>
+    requires read { read_header item_words (frame_of frame.now).header ≡ Some (header_view header.now) }
+    requires no_attachment { header.now.kind ≢ kinds.Attachment }
+    requires no_recording { header.now.kind ≢ kinds.ReplayRecording }
+    ensures ok { OnOk result (IsAdded (moment_cell now) (frame_of frame.now) items.old.items items.new.items) }
+    ensures err { IfErr result (λ e. (e ≡ EnvelopeError.OutOfMemory)
+        ⊎ ((e ≡ EnvelopeError.InvalidItemPayload) × FrameIsRefused profile (frame_of frame.now))) }
+{
+    let item = read_json_item(alloc, frame, header, now, ids, scratch)?;
+    items.push(item)?;
+    Ok(())
+}
+
+/// The item that a frame shows whose payload is JSON, by what its header says.
+fn read_json_item<R: Rng>(
+    alloc: Global,
+    frame: &ItemFrame<'_>,
+    header: &ItemHeader,
+    now: Moment,
+    ids: &mut R,
+    scratch: &mut Scratch,
+) -> Result<EnvelopeItem, EnvelopeError>
+    requires read { read_header item_words (frame_of frame.now).header ≡ Some (header_view header.now) }
+    requires no_attachment { header.now.kind ≢ kinds.Attachment }
+    requires no_recording { header.now.kind ≢ kinds.ReplayRecording }
     ensures ok { IfOk result (λ item. ItemShows profile (moment_cell now) (frame_of frame.now) (item_view item)) }
     ensures err { IfErr result (λ e. (e ≡ EnvelopeError.OutOfMemory)
         ⊎ ((e ≡ EnvelopeError.InvalidItemPayload) × FrameIsRefused profile (frame_of frame.now))) }
@@ -77,14 +160,10 @@ fn read_item<R: Rng>(
         ItemKind::Transaction => {
             transaction(alloc, read_value_at(alloc, payload, now, ids, scratch)?)
         }
-        ItemKind::Attachment => Ok(EnvelopeItem::Attachment(attachment(alloc, payload, header)?)),
         ItemKind::MonitorCheckIn => Ok(EnvelopeItem::MonitorCheckIn(read_value(
             alloc, payload, scratch,
         )?)),
         ItemKind::UserReport => Ok(EnvelopeItem::UserReport(read_value(alloc, payload, scratch)?)),
-        ItemKind::ReplayRecording => Ok(EnvelopeItem::ReplayRecording(replay_recording(
-            alloc, payload,
-        )?)),
         ItemKind::Logs => {
             let logs: Listed<Log> = read_value(alloc, payload, scratch)?;
             Ok(EnvelopeItem::ItemContainer(ItemContainer::Logs(logs.items)))
@@ -96,11 +175,11 @@ fn read_item<R: Rng>(
         ItemKind::ClientReport => Ok(EnvelopeItem::ClientReport(read_value_at(
             alloc, payload, now, ids, scratch,
         )?)),
+        ItemKind::Attachment | ItemKind::ReplayRecording => unreachable!(),
     }
 }
 
-/// The value that a payload of JSON shows. A call of its own keeps what reading needs out of the caller, which clears its
-/// own memory for each item.
+/// The value that a payload of JSON shows. A call of its own keeps what reading needs out of the caller.
 #[inline(never)]
 fn read_value<T: FromTree>(
     alloc: Global,

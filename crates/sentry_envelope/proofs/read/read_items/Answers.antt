@@ -14,12 +14,12 @@ returns-in_err-frame-clause-err g c =
     let fault = rw c.in_err-frame.was at c.in-Some.ensures.fault in
     rw (p.1, p.2) (λ ne. framing_at_fault (moment_cell c.args.now) c.args.frames.now.rest c.loop-answer.items.items c.loop-answer.frames.rest c.loop-answer.invariant _ remains (fault ne))
 
-pub returns-in_err-read_item-clause-err : goal.returns-in_err-read_item-clause-err
-returns-in_err-read_item-clause-err g c =
-    let p = err_from_is_err_and c.from_residual-in_err-read_item.result c.from_residual-in_err-read_item.ensures.1 in
+pub returns-in_err-add_item-clause-err : goal.returns-in_err-add_item-clause-err
+returns-in_err-add_item-clause-err g c =
+    let p = err_from_is_err_and c.from_residual-in_err-add_item.result c.from_residual-in_err-add_item.ensures.1 in
     let remains : c.loop-answer.frames.rest ≢ [] = λ e. true≢false (c.in-Some.ensures.none.1 e) in
     let first = rw c.in_ok-frame.was at c.in-Some.ensures.frame in
-    rw (p.1, p.2) (λ ne. elim c.in_err-read_item.ensures.err [
+    rw (p.1, p.2) (λ ne. elim c.in_err-add_item.ensures.err [
       | inl is ↦ absurd (ne is)
       | inr refused ↦ subst (BodyIsAtFault profile c.args.frames.now.rest) (sym refused.0)
           (payload_at_fault (moment_cell c.args.now) c.args.frames.now.rest c.loop-answer.items.items c.loop-answer.frames.rest c.loop-answer.invariant (frame_of c.in_ok-frame.frame) c.next_item_into.new.self.rest remains first refused.1)
@@ -29,4 +29,4 @@ pub loop-answer-preserved : goal.loop-answer-preserved
 loop-answer-preserved g c =
     let first = rw c.in_ok-frame.was at c.in-Some.ensures.frame in
     one_more (moment_cell c.args.now) c.args.frames.now.rest c.loop-answer.items.items c.loop-answer.frames.rest c.loop-answer.invariant (frame_of c.in_ok-frame.frame) c.next_item_into.new.self.rest
-    c.push.new.self.items c.in_ok-read_item.field-0 first c.in_ok-read_item.ensures.ok c.in_ok-push.ensures.items
+    c.add_item.new.items.items first c.in_ok-add_item.ensures.ok
