@@ -146,16 +146,23 @@ fn read(alloc: Global, bytes: &[u8], ids: &mut Counting) -> Result<Envelope, Fai
     Ok(Envelope::from_slice(alloc, bytes, now, ids)?)
 }
 
-/// Two reads of bytes without ids draw each id anew; what is written has them, and reads back with them.
+/// The next ids of a generator, drawn in the order of the keys: those of `contexts` come before `event_id`.
+fn next_ids(ids: &mut Counting) -> (Uuid, SpanId, TraceId) {
+    let (span, trace) = (SpanId::random(ids), TraceId::random(ids));
+    (random_uuid(ids), span, trace)
+}
+
+/// Two reads of bytes without ids draw each id anew, and no other; what is written has them, and reads back with them.
 #[test]
 fn two_reads_draw_different_ids(rt: HostRuntime) -> Result<(), Fail> {
     let alloc = rt.alloc();
     let bytes = b"{}\n{\"type\":\"event\"}\n{\"contexts\":{\"trace\":{}}}\n";
-    let mut ids = Counting(0);
+    let (mut ids, mut alike) = (Counting(0), Counting(0));
     let first = read(alloc, bytes, &mut ids)?;
     let second = read(alloc, bytes, &mut ids)?;
     let (one, other) = (ids_of(&first).ok_or("ids")?, ids_of(&second).ok_or("ids")?);
     assert!(rt; one.0 != other.0 && one.1 != other.1 && one.2 != other.2);
+    assert!(rt; [one, other] == [next_ids(&mut alike), next_ids(&mut alike)]);
     let mut text = Vec::new(alloc);
     first.to_writer(alloc, &mut text)?;
     assert!(rt; ids_of(&read(alloc, &text, &mut ids)?) == Some(one));
