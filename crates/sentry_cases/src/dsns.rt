@@ -2,7 +2,7 @@
 
 use crate::said::{list, maybe, refused, shown, text};
 use sentry_keys::{ApiUrlError, Dsn};
-use sentry_text::Moment;
+use sentry_moments::Moment;
 use serde_json::Value;
 use std::alloc::{AllocError, Global};
 use url::Url;

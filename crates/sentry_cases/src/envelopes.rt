@@ -5,8 +5,8 @@ use crate::said::{list, maybe, refused, text};
 use rand_pcg::Pcg32;
 use sentry_envelope::{CountedWriter, Envelope, EnvelopeError, Frames, ItemFrame};
 use sentry_losses::LossSource;
+use sentry_moments::Moment;
 use sentry_reports::ItemLoss;
-use sentry_text::Moment;
 use serde_json::Value;
 use std::alloc::{AllocError, Global};
 

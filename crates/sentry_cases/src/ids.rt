@@ -1,7 +1,8 @@
 //! Ids.
 
 use crate::said::{list, refused, shown, text};
-use sentry_text::{CodeId, DebugId, OrganizationId, ProjectId, SpanId, TraceId};
+use sentry_identifiers::{CodeId, DebugId, SpanId, TraceId};
+use sentry_numbers::{OrganizationId, ProjectId};
 use serde_json::Value;
 use std::alloc::{AllocError, Global};
 

@@ -1,7 +1,7 @@
 //! Moments and sampling values.
 
 use crate::said::{list, none, refused, shown};
-use sentry_text::{Moment, SampleRand, SampleRate};
+use sentry_moments::{Moment, SampleRand, SampleRate};
 use serde_json::Value;
 use std::alloc::{AllocError, Global};
 

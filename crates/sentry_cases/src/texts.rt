@@ -4,7 +4,8 @@ use crate::ids::of_id;
 use crate::moments::of_moment_text;
 use crate::said::{list, printed, refused, shown};
 use crate::words::of_word;
-use sentry_text::{Addr, CrontabParseError, IpAddress, RegVal, validate};
+use sentry_addresses::{Addr, IpAddress, RegVal};
+use sentry_crontab::{CrontabParseError, validate};
 use serde_json::Value;
 use std::alloc::{AllocError, Global};
 

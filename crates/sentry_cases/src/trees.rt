@@ -5,20 +5,23 @@ use crate::events::of_event;
 use crate::form::{form, own};
 use crate::parts::of_part;
 use crate::records::of_record;
+use sentry_addresses::{Addr, IpAddress, IpText, RegVal};
 use sentry_envelope::EnvelopeHeaders;
+use sentry_identifiers::{CodeId, DebugId, Hyphenated, Simple, SpanId, TraceId};
 use sentry_items::AttachmentType;
 use sentry_keys::{Auth, Dsn};
+use sentry_moments::{Moment, Rfc3339, SampleRand, SampleRate, Seconds};
+use sentry_numbers::{LogSeverityNumber, OrganizationId, OrganizationText, ProjectId};
 use sentry_parts::{ClientSdkInfo, ClientSdkPackage};
 use sentry_reports::{Category, Reason};
 use sentry_sinks::Values;
 use sentry_sinks::values::AsValues;
-use sentry_text::{
-    Addr, CodeId, DebugId, Hyphenated, IpAddress, IpText, Level, LogLevel, LogSeverityNumber,
-    MetricType, Moment, MonitorCheckInStatus, MonitorIntervalUnit, OrganizationId,
-    OrganizationText, Orientation, ProjectId, RegVal, Rfc3339, SampleRand, SampleRate, Sampled,
-    Seconds, SessionStatus, Simple, SpanId, SpanStatus, TraceId, Unit,
-};
+use sentry_units::Unit;
 use sentry_urls::UrlText;
+use sentry_words::{
+    Level, LogLevel, MetricType, MonitorCheckInStatus, MonitorIntervalUnit, Orientation, Sampled,
+    SessionStatus, SpanStatus,
+};
 use serde_json::{Map, Value};
 use std::alloc::{AllocError, Global};
 use std::borrow::CowStr;

@@ -3,9 +3,10 @@
 use crate::said::{list, printed, refused, shown, text};
 use sentry_items::AttachmentType;
 use sentry_reports::{Category, Reason};
-use sentry_text::{
+use sentry_units::Unit;
+use sentry_words::{
     Level, LogLevel, MetricType, MonitorCheckInStatus, MonitorIntervalUnit, Orientation,
-    SessionStatus, SpanStatus, Unit,
+    SessionStatus, SpanStatus,
 };
 use serde_json::Value;
 use std::alloc::{AllocError, Global};
@@ -85,7 +86,7 @@ pub fn of_word(alloc: Global, name: &str, given: &str) -> Result<Option<Value>, 
 
 /// The word of a place in a list of variants.
 pub fn of_place(alloc: Global, name: &str, place: usize) -> Result<Option<Value>, AllocError> {
-    use sentry_text::IndexedEnum;
+    use sentry_words::IndexedEnum;
     let found = match name {
         "Category::VARIANTS" => Category::VARIANTS
             .get(place)

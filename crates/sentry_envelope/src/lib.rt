@@ -1,4 +1,4 @@
-//! Envelopes: their header, reading, writing and filtering.
+//! Envelopes: their header, reading, writing and filtering; and lines that are read at a moment.
 #![tactic(auto)]
 
 pub mod called;
@@ -15,6 +15,7 @@ mod losses;
 mod plain;
 mod read;
 mod remade;
+pub mod timed;
 mod write;
 
 pub use envelope::{AddRefused, Envelope};
@@ -24,4 +25,4 @@ pub use headers::EnvelopeHeaders;
 pub use items::{EnvelopeItemIter, IntoItems};
 pub use sentry_framing::{EnvelopeError, Frames, ItemFrame};
 pub use sentry_items::counted::{CountedReader, CountedWriter};
-pub use sentry_text::Moment;
+pub use sentry_moments::Moment;

@@ -17,6 +17,7 @@ ghost use Rattle.sentry_moments.specs.Moments.{moment_cell};
 ghost use Rattle.sentry_envelope.specs.SentryProfile.{profile};
 ghost use Rattle.sentry_framing.specs.View.{frame_of};
 
+use crate::timed::read_line_at_with;
 use json::Scratch;
 use rand_core::Rng;
 use sentry_event::{Event, Transaction};
@@ -25,10 +26,9 @@ use sentry_items::{
     Attachment, AttachmentType, EnvelopeItem, ItemContainer, Listed, ReplayRecording,
 };
 use sentry_members::{FromTree, TreeError, read_line_with};
+use sentry_moments::Moment;
 use sentry_records::{Log, Metric};
 use sentry_rows::FromTreeAt;
-use sentry_text::Moment;
-use sentry_text::timed::read_line_at_with;
 use std::alloc::{AllocError, Global};
 
 /// The items of the body that is left, or the first check of it that fails.

@@ -1,9 +1,6 @@
 // Attributes that no line of text gives: their trees nest too deep.
-use sentry_members::text_of;
-use sentry_records::{Log, LogAttribute};
-use sentry_text::{Member, Moment, read_line};
-use sentry_types::protocol::v7::{LogLevel, Value};
-use serde_json::Map;
+use sentry_members::{read_line, text_of};
+use sentry_types::protocol::v7::{Log, LogAttribute, LogLevel, Map, Member, Moment, Value};
 use std::alloc::{AllocError, Global};
 use std::test::Fail;
 

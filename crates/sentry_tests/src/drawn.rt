@@ -5,16 +5,16 @@ ghost use Rattle.rand_core.specs.Steps.{stream_of, steps_u32};
 use rand_core::utils::NextWord;
 use rand_core::{Rng, SeedableRng, utils};
 use rand_pcg::Pcg32;
-use sentry_text::rows::object;
-use sentry_text::{
-    Hyphenated, Moment, Own, Simple, SpanId, TraceId, TreeError, or_drawn_as, random_uuid,
-    read_tree,
+use sentry_members::read_tree;
+use sentry_rows::draw::or_drawn_as;
+use sentry_rows::rows::object;
+use sentry_types::protocol::v7::{
+    Context, Envelope, Hyphenated, Moment, Own, Simple, SpanId, TraceId, TreeError,
 };
-use sentry_types::protocol::v7::{Context, Envelope};
+use sentry_types::{Uuid, random_uuid};
 use std::alloc::Global;
 use std::marker::Model;
 use std::test::Fail;
-use uuid::Uuid;
 
 /// A generator of zeros.
 #[derive(Drop)]

@@ -1,7 +1,7 @@
 // Errors that no line of text brings about, as they are printed.
-use sentry_items::AttachmentWriteError;
-use sentry_text::TreeError;
-use sentry_types::protocol::v7::{EnvelopeError, EnvelopeWriteError};
+use sentry_types::protocol::v7::{
+    AttachmentWriteError, EnvelopeError, EnvelopeWriteError, TreeError,
+};
 use sentry_types::{ApiUrlError, ParseAuthError, ParseDsnError};
 use std::alloc::{AllocError, Global};
 use std::fmt::Display;

@@ -1,5 +1,5 @@
 // Frames are asked for again after a refusal of memory.
-use sentry_framing::{EnvelopeError, Frames};
+use sentry_types::protocol::v7::{EnvelopeError, Frames};
 use std::test::Fail;
 
 #[test]

@@ -1,14 +1,15 @@
 // Parts of messages: which are the same where they hold trees, which are empty, and what stands for what is absent.
 use rand_core::SeedableRng;
 use rand_pcg::Pcg32;
+use sentry_envelope::timed::read_line_at;
 use sentry_members::member::Defaulted;
-use sentry_members::text_of;
-use sentry_parts::{Breadcrumb, DebugImage, DebugMeta, ProguardDebugImage, Request, User};
-use sentry_text::timed::read_line_at;
-use sentry_text::{Level, Member, Moment, read_line};
-use serde_json::Value;
+use sentry_members::{read_line, text_of};
+use sentry_types::Uuid;
+use sentry_types::protocol::v7::{
+    Breadcrumb, DebugImage, DebugMeta, Level, Member, Moment, ProguardDebugImage, Request, User,
+    Value,
+};
 use std::test::Fail;
-use uuid::Uuid;
 
 #[test]
 fn users(rt: HostRuntime) -> Result<(), Fail> {

@@ -1,7 +1,7 @@
 // Reports: what their items sum to, and which reports are equal.
-use sentry_reports::{Category, Item, ItemLoss, Reason, Report};
-use sentry_text::Moment;
 use sentry_types::IndexedEnum;
+use sentry_types::protocol::v7::Moment;
+use sentry_types::protocol::v7::client_report::{Category, Item, ItemLoss, Reason, Report};
 use std::alloc::Global;
 use std::test::Fail;
 

@@ -1,7 +1,6 @@
 // Tables whose other members have keys of rows, which no line of text brings about.
 use sentry_members::text_of;
-use sentry_text::Member;
-use sentry_types::protocol::v7::{OsContext, User, Value};
+use sentry_types::protocol::v7::{Member, OsContext, User, Value};
 use std::alloc::{AllocError, Global};
 use std::test::Fail;
 

@@ -1,7 +1,6 @@
 // URLs that setters alone can make: they are written as a text that the parser reads as another URL.
-use sentry_text::{Codec, ReadCodec, TreeError};
+use sentry_types::protocol::v7::{Codec, ReadCodec, TreeError, Value};
 use sentry_urls::UrlText;
-use serde_json::Value;
 use std::alloc::Global;
 use std::net::{IpAddr, Ipv4Addr};
 use std::test::Fail;

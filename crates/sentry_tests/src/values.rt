@@ -1,12 +1,11 @@
 // What is the same, what comes first, and what is usual.
 use sentry_members::member::Usual;
-use sentry_members::{Way, text_of};
-use sentry_parts::ClientSdkPackage;
-use sentry_text::{
-    Addr, IpAddress, Level, Member, Moment, ProjectId, RegVal, SampleRand, SessionStatus, Unit,
-    read_line,
+use sentry_members::{Way, read_line, text_of};
+use sentry_types::protocol::v7::{
+    Addr, ClientSdkPackage, IpAddress, Level, Member, Moment, RegVal, SampleRand, SessionStatus,
+    Unit,
 };
-use sentry_types::{Dsn, Scheme};
+use sentry_types::{Dsn, ProjectId, Scheme};
 use std::borrow::CowStr;
 use std::net::{IpAddr, Ipv4Addr};
 use std::test::Fail;

@@ -10,9 +10,8 @@
 
 pub mod protocol;
 
+pub use sentry_identifiers::{CodeId, DebugId, FromHexError, ParseDebugIdError, random_uuid};
 pub use sentry_keys::{ApiUrlError, Auth, Dsn, ParseAuthError, ParseDsnError, Scheme};
-pub use sentry_text::{
-    CodeId, DebugId, FromHexError, IndexedEnum, ParseDebugIdError, ParseNumberError,
-    ParseProjectIdError, ParseWordError, ProjectId, random_uuid,
-};
+pub use sentry_numbers::{ParseNumberError, ParseProjectIdError, ProjectId};
+pub use sentry_words::{IndexedEnum, ParseWordError};
 pub use uuid::Uuid;

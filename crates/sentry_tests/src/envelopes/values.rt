@@ -1,6 +1,5 @@
 // Envelopes that are put together.
 use super::{HELLO, ID_LINE, hello, is_written, recording};
-use sentry_types::protocol::v7::client_report::{ItemLoss, LossSource};
 use sentry_types::protocol::v7::{
     AddRefused, Attachment, AttachmentType, ClientSdkInfo, Envelope, EnvelopeHeaders, EnvelopeItem,
     Moment,
@@ -153,23 +152,5 @@ fn raw_envelopes_take_no_items(rt: HostRuntime) -> Result<(), Fail> {
     let mut envelope = Envelope::from_bytes_raw(b"oh stahp!\0\x01\x02".to_vec(rt.alloc())?)?;
     assert!(rt; envelope.add_item(EnvelopeItem::Raw).is_ok());
     assert!(rt; is_refused(rt.alloc(), &mut envelope)? && envelope.into_items().count() == 0);
-    Ok(())
-}
-
-fn is_loss(loss: Option<ItemLoss>, word: &str, quantity: u64) -> bool {
-    match loss {
-        Some(loss) => {
-            loss.category.as_str() == word && loss.quantity == quantity && loss.reason.is_none()
-        }
-        None => false,
-    }
-}
-
-#[test]
-fn losses(rt: HostRuntime) -> Result<(), Fail> {
-    let envelope = three_items(rt.alloc(), Uuid::nil())?;
-    let mut losses = envelope.losses();
-    let both = is_loss(losses.next(), "attachment", 10) && is_loss(losses.next(), "replay", 1);
-    assert!(rt; both && losses.next().is_none());
     Ok(())
 }

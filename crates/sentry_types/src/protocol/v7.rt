@@ -5,6 +5,7 @@ pub use sentry_contexts::{
     AppContext, BrowserContext, Context, DeviceContext, GpuContext, OsContext, OtelContext,
     ResponseContext, RuntimeContext, TraceContext,
 };
+pub use sentry_envelope::timed::read_line_at;
 pub use sentry_envelope::{
     AddRefused, CountedReader, CountedWriter, Envelope, EnvelopeError, EnvelopeFilter,
     EnvelopeFilterCallbacks, EnvelopeHeaders, EnvelopeItemIter, EnvelopeWriteError, Frames,
@@ -31,22 +32,30 @@ pub use sentry_reports::{Category, Item, ItemLoss, Reason, Report, Report as Cli
 pub use sentry_rows::Values;
 
 // Small texts.
-pub use sentry_text::{
-    Addr, CrontabParseError, Decimal, DecimalError, FromHexError, InvalidSampleRandError,
-    IpAddress, Level, LogLevel, LogSeverityNumber, MetricType, Moment, MonitorCheckInStatus,
-    MonitorIntervalUnit, OrganizationId, Orientation, ParseIpError, ParseLevelError,
-    ParseNumberError, ParseSessionStatusError, ParseStatusError, ParseWordError, RegVal,
-    SampleRand, SampleRate, SessionStatus, SeverityOutOfRange, SpanId, SpanStatus, TraceId, Unit,
-    validate,
+pub use sentry_addresses::{Addr, IpAddress, ParseIpError, RegVal};
+pub use sentry_crontab::{CrontabParseError, validate};
+pub use sentry_identifiers::{FromHexError, SpanId, TraceId};
+pub use sentry_moments::{
+    Decimal, DecimalError, InvalidSampleRandError, Moment, SampleRand, SampleRate,
+};
+pub use sentry_numbers::{LogSeverityNumber, OrganizationId, ParseNumberError, SeverityOutOfRange};
+pub use sentry_units::Unit;
+pub use sentry_words::{
+    Level, LogLevel, MetricType, MonitorCheckInStatus, MonitorIntervalUnit, Orientation,
+    ParseLevelError, ParseSessionStatusError, ParseStatusError, ParseWordError, SessionStatus,
+    SpanStatus,
 };
 pub use url::Url;
 pub use uuid::Uuid;
 
 // Types as trees of JSON: the traits of their calls, and the forms of those that have several.
-pub use sentry_text::{
-    Codec, Drawn, FromTree, FromTreeAt, Hyphenated, IpText, Member, OrganizationText, Own,
-    ReadCodec, Rfc3339, Sampled, Seconds, Simple, TreeError, whole,
-};
+pub use sentry_addresses::IpText;
+pub use sentry_identifiers::{Hyphenated, Simple};
+pub use sentry_members::{Codec, FromTree, Member, Own, ReadCodec, TreeError, read_line, whole};
+pub use sentry_moments::{Rfc3339, Seconds};
+pub use sentry_numbers::OrganizationText;
+pub use sentry_rows::{Drawn, FromTreeAt};
+pub use sentry_words::Sampled;
 
 // Trees of JSON, and maps.
 pub use self::map::Map;
@@ -70,5 +79,5 @@ pub mod map {
 
 /// Ids of debug files and of code.
 pub mod debugid {
-    pub use sentry_text::{CodeId, DebugId, ParseDebugIdError};
+    pub use sentry_identifiers::{CodeId, DebugId, ParseDebugIdError};
 }

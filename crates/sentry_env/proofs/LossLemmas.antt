@@ -1,0 +1,95 @@
+-- What is left of an envelope, and what is lost, where a filter refuses kinds and sums losses.
+use Rattle.std.proofs.Common.{◌≡◌, ℕ, Bool, true, false, List, [], ◌∷◌, ◌++◌, length, map, fold, ◌==◌, Option, Some, None, refl, ap, sym, ◌∙◌}
+use Rattle.std.specs.List.{filter_map}
+use Rattle.std.specs.Option.{IsSomeAnd}
+use Rattle.std.proofs.lemmas.List.Sums.{fold-append}
+use Rattle.sentry_tables.specs.Cell.{Cell}
+use Rattle.sentry_losses.specs.Losses.{losses_of_item, losses_of_items}
+use Rattle.sentry_items.specs.declared.item.EnvelopeItem.{EnvelopeItem}
+use Rattle.sentry_envelope.specs.Envelope.{Envelope as Model}
+use Rattle.sentry_envelope.specs.EnvelopeView.{items as held_items, held_in, item_view, header_of, structured, structured_by, text_by}
+use Rattle.sentry_envelope.specs.Filter.{Call, Ask, Hand, Run, asks, calls, chosen, orphans, handed, item_of_hand, asked_in, structured_in, FiltersEnvelope, LeavesOf}
+use Rattle.sentry_envelope.specs.declared.envelope.Contents.{Contents}
+use Rattle.sentry_envelope.specs.declared.envelope.Contents.TheVariants.{Items, Raw}
+use Rattle.sentry_envelope.specs.declared.envelope.Envelope.{Envelope}
+use Rattle.sentry_envelope.proofs.FilterLemmas.{Run-follows}
+use Rattle.sentry_env.specs.Listed.{AnswersFor}
+use Rattle.sentry_env.specs.Losing.{AnswersByKind, AddsLosses}
+use Rattle.sentry_env.specs.Run.{IsDue, header_left, kept_text, left_text, left_outcome, model, outcome_of}
+use Rattle.sentry_env.specs.Sums.{add_loss, no_sums, sum_at}
+use Rattle.sentry_env.specs.Table.{table_by, table_of}
+use Rattle.sentry_env.specs.declared.kind.Kind.{Kind}
+use Rattle.sentry_env.specs.declared.loss_filter.LossFilter.{LossFilter}
+use Rattle.sentry_env.specs.declared.losses.LossSums.{LossSums}
+use Rattle.sentry_env.proofs.SumLemmas.{table_is}
+
+-- each answer is what the kinds say
+answers_by_kind : (kinds : List Kind) (items : List EnvelopeItem) (answers : List Bool) (rest : List Call) (first last : LossFilter) → length answers ≡ length items → first.kinds.now ≡ kinds
+    → Run AnswersByKind AddsLosses first (asks items answers ++ rest) last → AnswersFor kinds items answers
+answers_by_kind kinds [] [] rest first last same is run = tt
+answers_by_kind kinds [] (b ∷ answers) rest first last same is run = cc
+answers_by_kind kinds (item ∷ items) [] rest first last same is run = cc
+answers_by_kind kinds (item ∷ items) (true ∷ answers) rest first last same is run =
+    (rw is at run.1.1, answers_by_kind kinds items answers rest run.0 last (cc) (rw run.1.0 is) run.2)
+answers_by_kind kinds (item ∷ items) (false ∷ answers) rest first last same is run =
+    (rw is at run.1.1, answers_by_kind kinds items answers rest run.2.0 last (cc) (rw (run.2.1, run.1.0) is) run.2.2)
+
+-- the sums after a call
+abbrev summed : LossSums → Call → LossSums
+summed sums (Ask item answer) = sums
+summed sums (Hand item) = fold add_loss sums (losses_of_item item)
+
+summed_all : (calls : List Call) (sums : LossSums) → fold summed sums calls ≡ fold add_loss sums (losses_of_items (filter_map item_of_hand calls))
+summed_all [] sums = refl
+summed_all (Ask item answer ∷ calls) sums = summed_all calls sums
+summed_all (Hand item ∷ calls) sums = summed_all calls (fold add_loss sums (losses_of_item item)) ∙ sym (fold-append add_loss sums (losses_of_item item) (losses_of_items (filter_map item_of_hand calls)))
+
+-- the table after a run of the filter is that of what was handed over
+table_of_run : (items : List EnvelopeItem) (answers : List Bool) (first last : LossFilter) → first.sums.row ≡ no_sums → Run AnswersByKind AddsLosses first (calls items answers) last
+    → table_by (sum_at last.sums) ≡ table_of (losses_of_items (handed items answers))
+table_of_run items answers first last none run =
+    let sums = Run-follows AnswersByKind AddsLosses (λ f. f.sums) summed (λ f item answer next asked. ap (λ (s : LossFilter). s.sums) asked.0) (λ f item next given. ap (λ (s : LossFilter). s.sums) given) first (calls items answers) last run in
+    table_is (losses_of_items (handed items answers)) first.sums last.sums none (sums ∙ summed_all (calls items answers) first.sums)
+
+-- ---- what is left
+
+held_structured : (contents : Contents) (items : List EnvelopeItem) → structured_in contents ≡ Some items → held_in contents ≡ held_items (map item_view items)
+held_structured (Items all) items is = let same : all.items ≡ items = cc in ap (λ (is : List EnvelopeItem). held_items (map item_view is)) same
+held_structured (Raw bytes) items is = cc
+
+asked_structured : (contents : Contents) (items : List EnvelopeItem) → structured_in contents ≡ Some items → asked_in contents ≡ items
+asked_structured (Items all) items is = cc
+asked_structured (Raw bytes) items is = cc
+
+left_is : (contents : Contents) (items : List EnvelopeItem) (header : Cell) (envelope : Envelope) (kept_items : List EnvelopeItem) (left : Option Envelope) → structured_in contents ≡ Some items
+    → LeavesOf contents header envelope kept_items left → (left_text left ≡ kept_text header kept_items) × (left_outcome left ≡ outcome_of kept_items)
+left_is contents items header envelope [] left is leaves = rw leaves (refl, refl)
+left_is (Items all) items header envelope (item ∷ rest) None is leaves = absurd leaves
+left_is (Items all) items header envelope (item ∷ rest) (Some left) is leaves =
+    (ap (text_by (header_of left)) (held_structured left.contents (item ∷ rest) leaves.items_are) ∙ ap (λ (h : Cell). text_by h (held_items (map item_view (item ∷ rest)))) leaves.header_is, refl)
+left_is (Raw bytes) items header envelope (item ∷ rest) left is leaves = cc
+
+pub rest_is_due : (kinds : List Kind) (keep : Bool) (envelope : Envelope) (items : List EnvelopeItem) (first last : LossFilter) (left : Option Envelope) (table : List ℕ) → (length kinds == 0) ≡ false
+    → structured_in envelope.contents ≡ Some items → first.kinds.now ≡ kinds → first.sums.row ≡ no_sums → FiltersEnvelope (header_left keep (header_of envelope)) AnswersByKind AddsLosses envelope first last left
+    → table ≡ table_by (sum_at last.sums) → IsDue kinds keep (header_of envelope) items (left_text left) table (left_outcome left)
+rest_is_due [] keep envelope items first last left table some has is none filtered shown = absurd (let e : true ≡ false = some in cc)
+rest_is_due (kind ∷ kinds) keep envelope items first last left table some has is none filtered shown =
+    let filters = rw (asked_structured envelope.contents items has) at filtered.filters in
+    let leaves = left_is envelope.contents items (header_left keep (header_of envelope)) envelope filtered.left left has filtered.leaves in
+    record {
+      answers = filters.answers;
+      by_kind = answers_by_kind (kind ∷ kinds) items filters.answers (map Hand (orphans (chosen items filters.answers))) first last filters.complete is filters.run;
+      out_is = leaves.0 ∙ ap (kept_text (header_left keep (header_of envelope))) filters.left_is;
+      table_is = shown ∙ table_of_run items filters.answers first last none filters.run;
+      outcome_is = leaves.1 ∙ ap outcome_of filters.left_is;
+    }
+
+-- ---- what was read
+
+-- an envelope that bytes spell has items
+pub has_items : (P : Model → Type 0) (envelope : Envelope) → IsSomeAnd (structured envelope) P → (items : List EnvelopeItem) × (structured_in envelope.contents ≡ Some items) × P (model (header_of envelope) items)
+has_items P envelope some = go envelope.contents some
+  where
+    go : (contents : Contents) → IsSomeAnd (structured_by (header_of envelope) (held_in contents)) P → (items : List EnvelopeItem) × (structured_in contents ≡ Some items) × P (model (header_of envelope) items)
+    go (Items all) holds = (all.items, refl, holds)
+    go (Raw bytes) holds = absurd holds

@@ -1,0 +1,249 @@
+-- What is due of a run is settled by what the items show.
+use Rattle.std.proofs.Common.{◌≡◌, ◌↔◌, ℕ, Bool, true, false, not, List, [], ◌∷◌, ◌++◌, map, filter, if◌then◌else◌, slice_get, Option, Some, is_some, option_map, refl, ap, sym, ◌∙◌}
+use Rattle.std.proofs.lemmas.Option.{same_Some}
+use Rattle.std.proofs.lemmas.List.{map-append}
+use Rattle.std.proofs.lemmas.List.Elements.{filter_map-append}
+use Rattle.std.specs.List.{filter_map, list_any}
+use Rattle.sentry_tables.specs.Cell.{Cell}
+use Rattle.sentry_framing.specs.ItemWords.{kind_place}
+use Rattle.sentry_framing.specs.declared.kind.ItemKind.{ItemKind}
+use Rattle.sentry_framing.specs.declared.kind.ItemKind.TheVariants as types
+use Rattle.sentry_losses.specs.Losses.{losses_of_items}
+use Rattle.sentry_items.specs.View.{ItemView, attachment, replay_recording, value as value_view, raw as raw_view, item_held, kind_held}
+use Rattle.sentry_items.specs.declared.container.ItemContainer.TheVariants as container
+use Rattle.sentry_items.specs.declared.item.EnvelopeItem.{EnvelopeItem}
+use Rattle.sentry_items.specs.declared.item.EnvelopeItem.TheVariants as variants
+use Rattle.sentry_losses.proofs.SameLosses.{same_losses}
+use Rattle.sentry_envelope.specs.Envelope.{Envelope as Model, Item, item, raw, attached, opaque, value, given_by, envelope_text}
+use Rattle.sentry_envelope.specs.EnvelopeView.{item_view, placed}
+use Rattle.sentry_envelope.specs.Filter.{Hand, asks, chosen, first_id_of, handed, id_in, id_of, is_main, is_orphan, item_of_hand, kept, orphans}
+use Rattle.sentry_envelope.specs.HeaderFields.{put_id}
+use Rattle.sentry_envelope.specs.SentryProfile.{item_types, profile}
+use Rattle.sentry_envelope.proofs.ConservationLemmas.{handed_of_hands}
+use Rattle.sentry_envelope.proofs.OneEnvelope.{one_envelope}
+use Rattle.sentry_envelope.proofs.SentryProfile.{profile_lawful}
+use Rattle.sentry_env.specs.Listed.{AnswersFor, IsOfKinds, kind_of_item}
+use Rattle.sentry_env.specs.Run.{DueIsSettled, IsDue, IsOneDue, header_left, kept_text, model, outcome_of}
+use Rattle.sentry_env.specs.Table.{table_of}
+use Rattle.sentry_env.specs.declared.ending.Outcome.{Outcome}
+use Rattle.sentry_env.specs.declared.kind.Kind.{Kind}
+use Rattle.sentry_env.specs.declared.kind.Kind.TheVariants as kind
+
+-- ---- items that show the same hold the same
+
+-- the types, in the order of their places
+abbrev type_at : ℕ → Option ItemKind
+type_at n = slice_get (
+    types.Event ∷ types.SessionUpdate ∷ types.SessionAggregates ∷ types.Transaction ∷ types.Attachment ∷ types.MonitorCheckIn ∷
+    types.UserReport ∷ types.ReplayRecording ∷ types.Logs ∷ types.Metrics ∷ types.ClientReport ∷ []) n
+
+type_in_place : (k : ItemKind) → type_at (kind_place k) ≡ Some k
+type_in_place types.Event = refl
+type_in_place _ = refl
+
+abbrev held_at : Item → Option ItemView
+held_at (item n (attached a)) = Some (attachment a)
+held_at (item n (opaque b)) = Some (replay_recording b)
+held_at (item n (value c)) = option_map (λ k. value_view k c) (type_at n)
+held_at raw = Some raw_view
+
+held_back : (v : ItemView) → held_at (placed v) ≡ Some v
+held_back (attachment a) = refl
+held_back (replay_recording b) = refl
+held_back (value_view k c) = ap (option_map (λ t. value_view t c)) (type_in_place k)
+held_back raw_view = refl
+
+same_held : (i j : EnvelopeItem) → item_view i ≡ item_view j → item_held i ≡ item_held j
+same_held i j same = same_Some (item_held i) (item_held j) (sym (held_back (item_held i)) ∙ (ap held_at same ∙ held_back (item_held j)))
+
+-- two items that show the same agree in all that is settled by what they hold
+agree : {A : Type 0} (f : EnvelopeItem → A) (g : ItemView → A) → ((i : EnvelopeItem) → f i ≡ g (item_held i)) → (i j : EnvelopeItem) → item_view i ≡ item_view j → f i ≡ f j
+agree f g is i j same = is i ∙ ap g (same_held i j same) ∙ sym (is j)
+
+-- ---- what is settled by what an item holds
+
+abbrev kind_of_type : ItemKind → Kind
+kind_of_type types.Event = kind.Event
+kind_of_type types.SessionUpdate = kind.Session
+kind_of_type types.SessionAggregates = kind.Sessions
+kind_of_type types.Transaction = kind.Transaction
+kind_of_type types.Attachment = kind.Attachment
+kind_of_type types.MonitorCheckIn = kind.CheckIn
+kind_of_type types.UserReport = kind.UserReport
+kind_of_type types.ReplayRecording = kind.ReplayRecording
+kind_of_type types.Logs = kind.Log
+kind_of_type types.Metrics = kind.TraceMetric
+kind_of_type types.ClientReport = kind.ClientReport
+
+abbrev kind_in : ItemView → Option Kind
+kind_in v = option_map kind_of_type (kind_held v)
+
+kind_is : (i : EnvelopeItem) → kind_of_item i ≡ kind_in (item_held i)
+kind_is (variants.ItemContainer (container.Logs logs)) = refl
+kind_is (variants.ItemContainer (container.Metrics metrics)) = refl
+kind_is variants.Raw = refl
+kind_is _ = refl
+
+abbrev orphan_in : ItemView → Bool
+orphan_in (attachment a) = true
+orphan_in _ = false
+
+orphan_is : (i : EnvelopeItem) → is_orphan i ≡ orphan_in (item_held i)
+unfolding is_orphan
+orphan_is (variants.Attachment a) = refl
+orphan_is _ = refl
+
+same_id : (i j : EnvelopeItem) → item_view i ≡ item_view j → id_of i ≡ id_of j
+unfolding id_of
+same_id i j same = ap (λ (v : Item). id_in (given_by item_types v)) same
+
+same_main : (i j : EnvelopeItem) → item_view i ≡ item_view j → is_main i ≡ is_main j
+same_main i j same = ap is_some (same_id i j same)
+
+same_stay : (i j : EnvelopeItem) → item_view i ≡ item_view j → not (is_orphan i) ≡ not (is_orphan j)
+same_stay i j same = ap not (agree is_orphan orphan_in orphan_is i j same)
+
+-- ---- items that show the same, one by one
+
+abbrev Alike : List EnvelopeItem → List EnvelopeItem → Type 0
+Alike items others = map item_view items ≡ map item_view others
+
+module _ (p : EnvelopeItem → Bool) (respects : (i j : EnvelopeItem) → item_view i ≡ item_view j → p i ≡ p j) where
+  any_alike : (items others : List EnvelopeItem) → Alike items others → list_any p items ≡ list_any p others
+  any_alike [] [] same = refl
+  any_alike [] (j ∷ others) same = cc
+  any_alike (i ∷ items) [] same = cc
+  any_alike (i ∷ items) (j ∷ others) same = rw (respects i j (cc), any_alike items others (cc)) refl
+
+  filter_alike : (items others : List EnvelopeItem) → Alike items others → Alike (filter p items) (filter p others)
+  filter_alike [] [] same = refl
+  filter_alike [] (j ∷ others) same = cc
+  filter_alike (i ∷ items) [] same = cc
+  filter_alike (i ∷ items) (j ∷ others) same =
+      let rest = filter_alike items others (cc) in
+      rw (respects i j (cc))
+      (elim (p j) as (λ b. Alike (if b then i ∷ filter p items else filter p items) (if b then j ∷ filter p others else filter p others)) [
+        | true ↦ cc
+        | false ↦ rest
+      ])
+
+first_id_alike : (items others : List EnvelopeItem) → Alike items others → first_id_of items ≡ first_id_of others
+first_id_alike [] [] same = refl
+first_id_alike [] (j ∷ others) same = cc
+first_id_alike (i ∷ items) [] same = cc
+first_id_alike (i ∷ items) (j ∷ others) same = rw (same_id i j (cc), first_id_alike items others (cc)) refl
+
+losses_alike : (items others : List EnvelopeItem) → Alike items others → losses_of_items items ≡ losses_of_items others
+losses_alike [] [] same = refl
+losses_alike [] (j ∷ others) same = cc
+losses_alike (i ∷ items) [] same = cc
+losses_alike (i ∷ items) (j ∷ others) same = rw (same_losses i j (same_held i j (cc)), losses_alike items others (cc)) refl
+
+chosen_alike : (items others : List EnvelopeItem) (answers : List Bool) → Alike items others → Alike (chosen items answers) (chosen others answers)
+chosen_alike [] [] answers same = refl
+chosen_alike [] (j ∷ others) answers same = cc
+chosen_alike (i ∷ items) [] answers same = cc
+chosen_alike (i ∷ items) (j ∷ others) [] same = refl
+chosen_alike (i ∷ items) (j ∷ others) (true ∷ answers) same = let rest = chosen_alike items others answers (cc) in cc
+chosen_alike (i ∷ items) (j ∷ others) (false ∷ answers) same = chosen_alike items others answers (cc)
+
+kept_alike : (items others : List EnvelopeItem) → Alike items others → Alike (kept items) (kept others)
+kept_alike items others same =
+    rw (any_alike is_main same_main items others same)
+    (elim (list_any is_main others) as (λ b. Alike (if b then items else filter (λ i. not (is_orphan i)) items) (if b then others else filter (λ i. not (is_orphan i)) others)) [
+      | true ↦ same
+      | false ↦ filter_alike (λ i. not (is_orphan i)) same_stay items others same
+    ])
+
+orphans_alike : (items others : List EnvelopeItem) → Alike items others → Alike (orphans items) (orphans others)
+orphans_alike items others same =
+    rw (any_alike is_main same_main items others same)
+    (elim (list_any is_main others) as (λ b. Alike (if b then [] else filter is_orphan items) (if b then [] else filter is_orphan others)) [
+      | true ↦ refl
+      | false ↦ filter_alike is_orphan (agree is_orphan orphan_in orphan_is) items others same
+    ])
+
+refused_alike : (items others : List EnvelopeItem) (answers : List Bool) → Alike items others → Alike (filter_map item_of_hand (asks items answers)) (filter_map item_of_hand (asks others answers))
+refused_alike [] [] answers same = refl
+refused_alike [] (j ∷ others) answers same = cc
+refused_alike (i ∷ items) [] answers same = cc
+refused_alike (i ∷ items) (j ∷ others) [] same = refl
+refused_alike (i ∷ items) (j ∷ others) (true ∷ answers) same = refused_alike items others answers (cc)
+refused_alike (i ∷ items) (j ∷ others) (false ∷ answers) same = let rest = refused_alike items others answers (cc) in cc
+
+handed_shows : (items : List EnvelopeItem) (answers : List Bool) → map item_view (handed items answers) ≡ map item_view (filter_map item_of_hand (asks items answers)) ++ map item_view (orphans (chosen items answers))
+handed_shows items answers =
+    ap (map item_view) (filter_map-append item_of_hand (asks items answers) (map Hand (orphans (chosen items answers))) ∙ ap (λ (is : List EnvelopeItem). filter_map item_of_hand (asks items answers) ++ is) (handed_of_hands (orphans (chosen items answers))))
+    ∙ map-append item_view (filter_map item_of_hand (asks items answers)) (orphans (chosen items answers))
+
+handed_alike : (items others : List EnvelopeItem) (answers : List Bool) → Alike items others → Alike (handed items answers) (handed others answers)
+handed_alike items others answers same =
+    handed_shows items answers
+    ∙ ap (λ (is : List Item). is ++ map item_view (orphans (chosen items answers))) (refused_alike items others answers same)
+    ∙ ap (λ (is : List Item). map item_view (filter_map item_of_hand (asks others answers)) ++ is) (orphans_alike _ _ (chosen_alike items others answers same))
+    ∙ sym (handed_shows others answers)
+
+-- ---- answers by kind
+
+of_kinds : (kinds : List Kind) (i j : EnvelopeItem) → item_view i ≡ item_view j → IsOfKinds kinds i → IsOfKinds kinds j
+of_kinds kinds i j same listed = record { kind = listed.kind; of_kind = sym (agree kind_of_item kind_in kind_is i j same) ∙ listed.of_kind; listed = listed.listed }
+
+same_answer : {P Q : Type 0} (a b : Bool) → (P → Q) → (Q → P) → ((a ≡ false) ↔ P) → ((b ≡ false) ↔ Q) → a ≡ b
+same_answer true true to from p q = refl
+same_answer false false to from p q = refl
+same_answer true false to from p q = p.1 (from (q.0 refl))
+same_answer false true to from p q = sym (q.1 (to (p.0 refl)))
+
+answers_alike : (kinds : List Kind) (items others : List EnvelopeItem) (answers also : List Bool) → Alike items others → AnswersFor kinds items answers → AnswersFor kinds others also → answers ≡ also
+answers_alike kinds [] [] [] [] same by by' = refl
+answers_alike kinds [] [] [] (b ∷ also) same by by' = absurd by'
+answers_alike kinds [] [] (a ∷ answers) also same by by' = absurd by
+answers_alike kinds [] (j ∷ others) answers also same by by' = cc
+answers_alike kinds (i ∷ items) [] answers also same by by' = cc
+answers_alike kinds (i ∷ items) (j ∷ others) [] also same by by' = absurd by
+answers_alike kinds (i ∷ items) (j ∷ others) (a ∷ answers) [] same by by' = absurd by'
+answers_alike kinds (i ∷ items) (j ∷ others) (a ∷ answers) (b ∷ also) same by by' =
+    let head : item_view i ≡ item_view j = cc in
+    let first = same_answer a b (of_kinds kinds i j head) (of_kinds kinds j i (sym head)) by.0 by'.0 in
+    let rest = answers_alike kinds items others answers also (cc) by.1 by'.1 in
+    cc
+
+-- ---- what is due
+
+kept_text_alike : (header : Cell) (items others : List EnvelopeItem) → Alike items others → kept_text header items ≡ kept_text header others
+kept_text_alike header [] [] same = refl
+kept_text_alike header [] (j ∷ others) same = cc
+kept_text_alike header (i ∷ items) [] same = cc
+kept_text_alike header (i ∷ items) (j ∷ others) same =
+    let id = first_id_alike (i ∷ items) (j ∷ others) same in
+    ap (λ (h : Cell). envelope_text profile (record { header = h; items = map item_view (i ∷ items) })) (ap (λ d. put_id d header) id)
+    ∙ ap (λ (is : List Item). envelope_text profile (record { header = put_id (first_id_of (j ∷ others)) header; items = is })) same
+
+outcome_alike : (items others : List EnvelopeItem) → Alike items others → outcome_of items ≡ outcome_of others
+outcome_alike [] [] same = refl
+outcome_alike [] (j ∷ others) same = cc
+outcome_alike (i ∷ items) [] same = cc
+outcome_alike (i ∷ items) (j ∷ others) same = refl
+
+due_alike : (kinds : List Kind) (keep : Bool) (header : Cell) (items others : List EnvelopeItem) (out out' table table' : List ℕ) (outcome outcome' : Outcome) → Alike items others
+    → IsDue kinds keep header items out table outcome → IsDue kinds keep header others out' table' outcome' → (out ≡ out') × (table ≡ table') × (outcome ≡ outcome')
+due_alike [] keep header items others out out' table table' outcome outcome' same due due' =
+    (due.0 ∙ ap (λ (is : List Item). envelope_text profile (record { header = header; items = is })) same ∙ sym due'.0, due.1 ∙ sym due'.1, due.2 ∙ sym due'.2)
+due_alike (kind ∷ kinds) keep header items others out out' table table' outcome outcome' same due due' =
+    let answers = answers_alike (kind ∷ kinds) items others due.answers due'.answers same due.by_kind due'.by_kind in
+    let left = kept_alike _ _ (chosen_alike items others due'.answers same) in
+    let gone = handed_alike items others due'.answers same in (
+      due.out_is ∙ rw answers (kept_text_alike (header_left keep header) _ _ left) ∙ sym due'.out_is,
+      due.table_is ∙ rw answers (ap table_of (losses_alike _ _ gone)) ∙ sym due'.table_is,
+      due.outcome_is ∙ rw answers (outcome_alike _ _ left) ∙ sym due'.outcome_is,
+    )
+
+one_due : (kinds : List Kind) (keep : Bool) (header header' : Cell) (items others : List EnvelopeItem) → model header items ≡ model header' others → IsOneDue kinds keep header header' items others
+one_due kinds keep header header' items others same out out' table table' outcome outcome' due due' =
+    let header_is : header ≡ header' = ap (λ (m : Model). m.header) same in
+    let items_are : map item_view items ≡ map item_view others = ap (λ (m : Model). m.items) same in
+    due_alike kinds keep header items others out out' table table' outcome outcome' items_are due (rw header_is due')
+
+pub due_is_settled : DueIsSettled
+due_is_settled bytes now kinds keep header header' items others drawn spelled spelled' =
+    one_due kinds keep header header' items others (one_envelope profile profile_lawful bytes now (model header items) (model header' others) drawn spelled spelled')

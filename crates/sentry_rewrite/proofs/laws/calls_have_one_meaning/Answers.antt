@@ -1,5 +1,0 @@
-use Rattle.sentry_rewrite.proofs.CallLemmas.{IsCall-only}
-use Rattle.sentry_rewrite.proofs.laws.calls_have_one_meaning.Goals as goal
-
-pub returns : goal.returns
-returns c = IsCall-only
