@@ -146,6 +146,19 @@ fn read(alloc: Global, bytes: &[u8], ids: &mut Counting) -> Result<Envelope, Fai
     Ok(Envelope::from_slice(alloc, bytes, now, ids)?)
 }
 
+/// The text of the envelope that bytes spell, and its ids.
+fn rewritten(
+    alloc: Global,
+    bytes: &[u8],
+    ids: &mut Counting,
+) -> Result<(Vec<u8>, Option<(Uuid, SpanId, TraceId)>), Fail> {
+    let envelope = read(alloc, bytes, ids)?;
+    let mut text = Vec::new(alloc);
+    envelope.to_writer(alloc, &mut text)?;
+    let found = ids_of(&envelope);
+    Ok((text, found))
+}
+
 /// The next ids of a generator, drawn in the order of the keys: those of `contexts` come before `event_id`.
 fn next_ids(ids: &mut Counting) -> (Uuid, SpanId, TraceId) {
     let (span, trace) = (SpanId::random(ids), TraceId::random(ids));
@@ -158,13 +171,11 @@ fn two_reads_draw_different_ids(rt: HostRuntime) -> Result<(), Fail> {
     let alloc = rt.alloc();
     let bytes = b"{}\n{\"type\":\"event\"}\n{\"contexts\":{\"trace\":{}}}\n";
     let (mut ids, mut alike) = (Counting(0), Counting(0));
-    let first = read(alloc, bytes, &mut ids)?;
-    let second = read(alloc, bytes, &mut ids)?;
-    let (one, other) = (ids_of(&first).ok_or("ids")?, ids_of(&second).ok_or("ids")?);
-    assert!(rt; one.0 != other.0 && one.1 != other.1 && one.2 != other.2);
-    assert!(rt; [one, other] == [next_ids(&mut alike), next_ids(&mut alike)]);
-    let mut text = Vec::new(alloc);
-    first.to_writer(alloc, &mut text)?;
-    assert!(rt; ids_of(&read(alloc, &text, &mut ids)?) == Some(one));
+    let (text, one) = rewritten(alloc, bytes, &mut ids)?;
+    let (_, other) = rewritten(alloc, bytes, &mut ids)?;
+    let (_, again) = rewritten(alloc, &text, &mut ids)?;
+    let (first, second) = (next_ids(&mut alike), next_ids(&mut alike));
+    assert!(rt; first.0 != second.0 && first.1 != second.1 && first.2 != second.2);
+    assert!(rt; [one, other, again] == [Some(first), Some(second), Some(first)]);
     Ok(())
 }

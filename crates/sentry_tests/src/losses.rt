@@ -76,28 +76,6 @@ fn losses_of_sources(rt: HostRuntime) -> Result<(), Fail> {
     Ok(())
 }
 
-#[test]
-fn losses_of_items(rt: HostRuntime) -> Result<(), Fail> {
-    let alloc = rt.alloc();
-    let items = [
-        EnvelopeItem::Raw,
-        EnvelopeItem::from(attachment(alloc, b"twelve bytes")?),
-        EnvelopeItem::Raw,
-        EnvelopeItem::Raw,
-        EnvelopeItem::from(ReplayRecording::default_in(alloc)),
-        EnvelopeItem::from(attachment(alloc, b"hello")?),
-    ];
-    let losses = [
-        ("attachment", 12, "none"),
-        ("replay", 1, "none"),
-        ("attachment", 5, "none"),
-    ];
-    let raw = [EnvelopeItem::Raw, EnvelopeItem::Raw];
-    let given = gives_in_order(ItemLossIter::of_items(&items), &losses);
-    assert!(rt; given && gives_in_order(ItemLossIter::of_items(&raw), &[]));
-    Ok(())
-}
-
 /// The members of an object as attributes.
 fn attributes(alloc: Global, object: &str) -> Result<Map<String, LogAttribute>, TreeError> {
     let mut attributes = Map::new(alloc);

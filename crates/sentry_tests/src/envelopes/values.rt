@@ -119,26 +119,6 @@ fn normal_forms(rt: HostRuntime) -> Result<(), Fail> {
     Ok(())
 }
 
-#[test]
-fn normal_forms_of_types(rt: HostRuntime) -> Result<(), Fail> {
-    let alloc = rt.alloc();
-    let mut attachment = Attachment::default_in(alloc);
-    attachment.ty = Some(AttachmentType::Custom(String::from_str(alloc, "event.minidump")?));
-    attachment.content_type = Some(String::from_str(alloc, "text/plain")?);
-    let envelope = Envelope::from_item(alloc, EnvelopeItem::Attachment(attachment))?;
-    let normal = envelope.normalized()?;
-    assert!(rt;
-        is_attachment(
-            normal.items().next(),
-            &AttachmentType::Minidump,
-            "text/plain"
-        )
-    );
-    let raw = Envelope::from_bytes_raw(b"oh stahp!".to_vec(alloc)?)?;
-    assert!(rt; raw.normalized()? == raw);
-    Ok(())
-}
-
 /// Whether a raw envelope refuses an attachment, and hands it back.
 fn is_refused(alloc: Global, envelope: &mut Envelope) -> Result<bool, Fail> {
     match envelope.add_item(hello(alloc)?) {
