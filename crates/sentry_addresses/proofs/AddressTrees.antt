@@ -1,5 +1,6 @@
 -- Addresses in trees are lawful, and what their reader and writer answer.
 use Rattle.std.proofs.Common.{◌≡◌, ◌<◌, ◌^◌, ◌-◌, ℕ, zero, suc, ℤ, pos, negsuc, List, false, Option, Some, None, option_map, Result, OnOk, inl, inr, refl, sym, ap, subst, ◌∙◌, arith}
+use Rattle.std.specs.Prelude.{option_and_then}
 use Rattle.std.specs.Str.{IsAscii}
 use Rattle.std.specs.Int.{w64, cast_unsigned}
 use Rattle.std.specs.Fmt.{digits}
@@ -87,34 +88,28 @@ address_is_normal n small = (small, tt, tt, refl)
 
 -- ---- reading
 
-pub natural_address : (x : Num) (n : ℕ) → as_u64 x ≡ Some n → Some n ≡ number_address x
-natural_address (unsigned m) n e = sym e
-natural_address (negative z) n e = absurd (cc)
-natural_address (float x) n e = absurd (cc)
-
-pub negative_address : (x : Num) (z : ℤ) → as_u64 x ≡ None → as_i64 x ≡ Some z → Some (cast_unsigned w64 z) ≡ number_address x
-negative_address (unsigned m) z none e = absurd (cc)
-negative_address (negative y) z none e = ap (λ k. Some (cast_unsigned w64 k)) (same_Some z y (sym e))
-negative_address (float x) z none e = absurd (cc)
-
-pub no_number_address : (x : Num) → as_u64 x ≡ None → as_i64 x ≡ None → None ≡ number_address x
-no_number_address (unsigned m) none e = absurd (cc)
-no_number_address (negative z) none e = absurd (cc)
-no_number_address (float x) none e = refl
-
 pub text_address : (s : List ℕ) (d : Data) → as_str d ≡ Some s → address_of s ≡ address_in d
 text_address s (string t) e = ap address_of (same_Some s t (sym e))
 text_address s _ e = absurd (cc)
 
-pub of_number : (x : Num) (d : Data) → as_str d ≡ None → as_number d ≡ Some x → number_address x ≡ address_in d
-of_number x (string t) none e = absurd (cc)
-of_number x (number y) none e = ap number_address (same_Some x y (sym e))
-of_number x _ none e = absurd (cc)
+pub natural_address : (n : ℕ) (d : Data) → option_and_then as_u64 (as_number d) ≡ Some n → Some n ≡ address_in d
+natural_address n (number (unsigned m)) e = sym e
+natural_address n (number (negative z)) e = absurd (cc)
+natural_address n (number (float x)) e = absurd (cc)
+natural_address n _ e = absurd (cc)
 
-pub no_address : (d : Data) → as_str d ≡ None → as_number d ≡ None → None ≡ address_in d
-no_address (string t) none e = absurd (cc)
-no_address (number y) none e = absurd (cc)
-no_address _ none e = refl
+pub signed_address : (z : ℤ) (d : Data) → option_and_then as_u64 (as_number d) ≡ None → option_and_then as_i64 (as_number d) ≡ Some z → Some (cast_unsigned w64 z) ≡ address_in d
+signed_address z (number (unsigned m)) none e = absurd (cc)
+signed_address z (number (negative y)) none e = ap (λ k. Some (cast_unsigned w64 k)) (same_Some z y (sym e))
+signed_address z (number (float x)) none e = absurd (cc)
+signed_address z _ none e = absurd (cc)
+
+pub no_address : (d : Data) → as_str d ≡ None → option_and_then as_u64 (as_number d) ≡ None → option_and_then as_i64 (as_number d) ≡ None → None ≡ address_in d
+no_address (string t) text natural signed = absurd (cc)
+no_address (number (unsigned m)) text natural signed = absurd (cc)
+no_address (number (negative z)) text natural signed = absurd (cc)
+no_address (number (float x)) text natural signed = refl
+no_address _ text natural signed = refl
 
 pub address_found : (n : ℕ) (d : Data) → Some n ≡ address_in d → Shown address_kind d (natural_cell n)
 unfolding Shown

@@ -5,9 +5,8 @@ ghost use Rattle.std.specs.Int.{w64, cast_unsigned};
 ghost use Rattle.std.specs.Result.{result_ok};
 ghost use Rattle.sentry_numbers.specs.Number.{ReadsAs};
 ghost use Rattle.sentry_addresses.specs.Address.{address_of, address_text};
-ghost use Rattle.serde_json.specs.View.{view, number_view};
 ghost use Rattle.sentry_members.specs.Cells.{natural_cell};
-ghost use Rattle.sentry_addresses.specs.AddressTree.{address_in, address_kind, number_address};
+ghost use Rattle.sentry_addresses.specs.AddressTree.{address_in, address_kind};
 
 use json::Writer;
 use sentry_members::member::Usual;
@@ -15,7 +14,7 @@ use sentry_members::spelled::printed;
 use sentry_members::{FromTree, Member, Room, TreeError, Way};
 use sentry_numbers::{ParseNumberError, parse_number};
 use sentry_trees::Node;
-use serde_json::{Number, Value};
+use serde_json::Value;
 use std::alloc::{AllocError, Global};
 use std::fmt;
 use std::str::FromStr;
@@ -184,31 +183,20 @@ impl From<RegVal> for u64 {
     }
 }
 
-// The address that a number of a tree stands for.
-#[tactic(auto, using(crate::proofs::AddressTrees::natural_address, crate::proofs::AddressTrees::negative_address, crate::proofs::AddressTrees::no_number_address))]
-fn number_address(number: &Number) -> Option<u64>
-    ensures { result ≡ number_address (number_view number.now) }
+// The address that the tree at a node shows.
+#[tactic(auto, using(crate::proofs::AddressTrees::text_address, crate::proofs::AddressTrees::natural_address, crate::proofs::AddressTrees::signed_address, crate::proofs::AddressTrees::no_address))]
+fn address_in<N: Node>(node: &N) -> Option<u64>
+    ensures { result ≡ address_in (N.data_of node.now) }
 {
-    match number.as_u64() {
-        Some(natural) => Some(natural),
-        None => match number.as_i64() {
-            Some(negative) => Some(negative.cast_unsigned()),
-            None => None,
-        },
+    if let Some(text) = node.as_str() {
+        return parse_address(text).ok();
     }
-}
-
-// The address that a tree shows.
-#[tactic(auto, using(crate::proofs::AddressTrees::text_address, crate::proofs::AddressTrees::of_number, crate::proofs::AddressTrees::no_address))]
-fn address_in(tree: &Value) -> Option<u64>
-    ensures { result ≡ address_in (view tree.now) }
-{
-    match tree.as_str() {
-        Some(text) => parse_address(text).ok(),
-        None => match tree.as_number() {
-            Some(number) => number_address(number),
-            None => None,
-        },
+    if let Some(natural) = node.as_u64() {
+        return Some(natural);
+    }
+    match node.as_i64() {
+        Some(negative) => Some(negative.cast_unsigned()),
+        None => None,
     }
 }
 
@@ -259,9 +247,8 @@ impl Member for Addr {
 
 impl FromTree for Addr {
     #[tactic(auto, using(crate::proofs::AddressTrees::address_found, crate::proofs::AddressTrees::address_refused))]
-    fn from_node<N: Node>(alloc: Global, node: &N) -> Result<Addr, TreeError> {
-        let tree = node.to_value(alloc)?;
-        match address_in(&tree) {
+    fn from_node<N: Node>(_alloc: Global, node: &N) -> Result<Addr, TreeError> {
+        match address_in(node) {
             Some(address) => Ok(Addr(address)),
             None => Err(TreeError::Misfit),
         }

@@ -9,8 +9,8 @@ use sentry_parts::{
     AppleDebugImage, Breadcrumb, DebugImage, DebugMeta, ProguardDebugImage, Request,
     SymbolicDebugImage, SystemSdkInfo, User, WasmDebugImage,
 };
-use sentry_sinks::Values;
-use sentry_sinks::values::AsValues;
+use sentry_writing::Values;
+use sentry_writing::values::AsValues;
 use serde_json::Value;
 use std::alloc::{AllocError, Global};
 

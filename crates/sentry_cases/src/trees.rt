@@ -14,8 +14,8 @@ use sentry_moments::{Moment, Rfc3339, SampleRand, SampleRate, Seconds};
 use sentry_numbers::{LogSeverityNumber, OrganizationId, OrganizationText, ProjectId};
 use sentry_parts::{ClientSdkInfo, ClientSdkPackage};
 use sentry_reports::{Category, Reason};
-use sentry_sinks::Values;
-use sentry_sinks::values::AsValues;
+use sentry_writing::Values;
+use sentry_writing::values::AsValues;
 use sentry_units::Unit;
 use sentry_urls::UrlText;
 use sentry_words::{

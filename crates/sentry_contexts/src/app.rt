@@ -7,7 +7,7 @@ ghost use Rattle.sentry_contexts.specs.Programs.{app_fields, app_in_order};
 
 use sentry_members::{Formed, Member};
 use sentry_moments::{Moment, Rfc3339};
-use sentry_rows::{AsKept, Copier, CopyKept, Giver, KeptTable, ReadKept, Reader, Sink, Table};
+use sentry_rows::{AsKept, Copier, CopyKept, KeptTable, ReadKept, Reader, Sink, Table};
 use sentry_trees::Node;
 use serde_json::{Map, Value};
 use std::alloc::{AllocError, Global};
@@ -76,7 +76,7 @@ impl Formed for AppContext {
 impl Table for AppContext {
     ghost lines = { app_fields };
 
-    fn rows<S: Sink>(&self, to: &mut Giver<'_, S>) {
+    fn rows<S: Sink>(&self, to: &mut S) {
         to.optional("app_build", &self.app_build);
         to.optional("app_identifier", &self.app_identifier);
         to.optional("app_name", &self.app_name);

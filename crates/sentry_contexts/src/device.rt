@@ -7,7 +7,7 @@ ghost use Rattle.sentry_contexts.specs.Devices.{device_fields, device_in_order};
 
 use sentry_members::{Formed, Member};
 use sentry_moments::{Moment, Rfc3339};
-use sentry_rows::{AsKept, Copier, CopyKept, Giver, KeptTable, ReadKept, Reader, Sink, Table};
+use sentry_rows::{AsKept, Copier, CopyKept, KeptTable, ReadKept, Reader, Sink, Table};
 use sentry_trees::Node;
 use sentry_words::Orientation;
 use serde_json::{Map, Value};
@@ -107,7 +107,7 @@ impl Formed for DeviceContext {
 impl Table for DeviceContext {
     ghost lines = { device_fields };
 
-    fn rows<S: Sink>(&self, to: &mut Giver<'_, S>) {
+    fn rows<S: Sink>(&self, to: &mut S) {
         to.optional("arch", &self.arch);
         to.optional("battery_level", &self.battery_level);
         to.optional_strict_as::<Rfc3339, Moment>("boot_time", &self.boot_time);

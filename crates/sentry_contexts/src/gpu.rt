@@ -6,7 +6,7 @@ ghost use Rattle.sentry_tables.specs.Kind.{tag};
 ghost use Rattle.sentry_contexts.specs.Devices.{gpu_fields, gpu_in_order};
 
 use sentry_members::{Formed, Member};
-use sentry_rows::{AsKept, Copier, CopyKept, Giver, KeptTable, ReadKept, Reader, Sink, Table};
+use sentry_rows::{AsKept, Copier, CopyKept, KeptTable, ReadKept, Reader, Sink, Table};
 use sentry_trees::Node;
 use serde_json::{Map, Value};
 use std::alloc::{AllocError, Global};
@@ -102,7 +102,7 @@ impl Formed for GpuContext {
 impl Table for GpuContext {
     ghost lines = { gpu_fields };
 
-    fn rows<S: Sink>(&self, to: &mut Giver<'_, S>) {
+    fn rows<S: Sink>(&self, to: &mut S) {
         to.optional("api_type", &self.api_type);
         to.optional("driver_version", &self.driver_version);
         to.optional("graphics_shader_level", &self.graphics_shader_level);

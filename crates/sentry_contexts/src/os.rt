@@ -6,7 +6,7 @@ ghost use Rattle.sentry_tables.specs.Kind.{tag};
 ghost use Rattle.sentry_contexts.specs.Systems.{os_fields, os_in_order};
 
 use sentry_members::{Formed, Member};
-use sentry_rows::{AsKept, Copier, CopyKept, Giver, KeptTable, ReadKept, Reader, Sink, Table};
+use sentry_rows::{AsKept, Copier, CopyKept, KeptTable, ReadKept, Reader, Sink, Table};
 use sentry_trees::Node;
 use serde_json::{Map, Value};
 use std::alloc::{AllocError, Global};
@@ -69,7 +69,7 @@ impl Formed for OsContext {
 impl Table for OsContext {
     ghost lines = { os_fields };
 
-    fn rows<S: Sink>(&self, to: &mut Giver<'_, S>) {
+    fn rows<S: Sink>(&self, to: &mut S) {
         to.optional("build", &self.build);
         to.optional("kernel_version", &self.kernel_version);
         to.optional("name", &self.name);

@@ -3,7 +3,7 @@
 ghost use Rattle.sentry_contexts.specs.Responses.{response_fields, response_in_order};
 
 use sentry_members::{Formed, Member};
-use sentry_rows::{AsTable, Copier, CopyTable, Giver, ReadTable, Reader, Sink, Table};
+use sentry_rows::{AsTable, Copier, CopyTable, ReadTable, Reader, Sink, Table};
 use sentry_trees::Node;
 use serde_json::{Map, Value};
 use std::alloc::{AllocError, Global};
@@ -60,7 +60,7 @@ impl Formed for ResponseContext {
 impl Table for ResponseContext {
     ghost lines = { response_fields };
 
-    fn rows<S: Sink>(&self, to: &mut Giver<'_, S>) {
+    fn rows<S: Sink>(&self, to: &mut S) {
         to.optional("body_size", &self.body_size);
         to.optional("cookies", &self.cookies);
         to.optional("data", &self.data_);

@@ -6,7 +6,7 @@ ghost use Rattle.sentry_tables.specs.Kind.{tag};
 ghost use Rattle.sentry_contexts.specs.Systems.{runtime_fields, runtime_in_order};
 
 use sentry_members::{Formed, Member};
-use sentry_rows::{AsKept, Copier, CopyKept, Giver, KeptTable, ReadKept, Reader, Sink, Table};
+use sentry_rows::{AsKept, Copier, CopyKept, KeptTable, ReadKept, Reader, Sink, Table};
 use sentry_trees::Node;
 use serde_json::{Map, Value};
 use std::alloc::{AllocError, Global};
@@ -60,7 +60,7 @@ impl Formed for RuntimeContext {
 impl Table for RuntimeContext {
     ghost lines = { runtime_fields };
 
-    fn rows<S: Sink>(&self, to: &mut Giver<'_, S>) {
+    fn rows<S: Sink>(&self, to: &mut S) {
         to.optional("name", &self.name);
         to.optional("version", &self.version);
     }

@@ -12,7 +12,7 @@ use sentry_members::{Formed, Member, TreeError, read_line_with};
 use sentry_moments::{Moment, Rfc3339};
 use sentry_parts::ClientSdkInfo;
 use sentry_records::DynamicSamplingContext;
-use sentry_rows::{AsTable, Copier, CopyTable, Giver, ReadTable, Reader, Sink, Table};
+use sentry_rows::{AsTable, Copier, CopyTable, ReadTable, Reader, Sink, Table};
 use sentry_trees::Node;
 use std::alloc::{AllocError, Global};
 use uuid::Uuid;
@@ -160,7 +160,7 @@ impl Formed for EnvelopeHeaders {
 impl Table for EnvelopeHeaders {
     ghost lines = { header_fields };
 
-    fn rows<S: Sink>(&self, to: &mut Giver<'_, S>) {
+    fn rows<S: Sink>(&self, to: &mut S) {
         to.optional("dsn", &self.dsn);
         to.optional_as::<Hyphenated, Uuid>("event_id", &self.event_id);
         to.optional("sdk", &self.sdk);

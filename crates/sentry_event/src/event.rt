@@ -11,9 +11,8 @@ use sentry_identifiers::{Simple, random_uuid};
 use sentry_members::{Formed, Member};
 use sentry_moments::{Moment, Seconds};
 use sentry_parts::{Breadcrumb, ClientSdkInfo, DebugMeta, Request, User};
-use sentry_readers::MadeCodec;
 use sentry_rows::{
-    AsCaseMap, AsTable, Copier, CopyTable, Giver, ReadTableAt, Reader, Sink, Table, Values,
+    AsCaseMap, AsTable, Copier, CopyTable, MadeCodec, ReadTableAt, Reader, Sink, Table, Values,
 };
 use sentry_trees::Node;
 use sentry_words::Level;
@@ -230,7 +229,7 @@ impl<'a> Formed for Event<'a> {
 impl<'a> Table for Event<'a> {
     ghost lines = { event_fields };
 
-    fn rows<S: Sink>(&self, to: &mut Giver<'_, S>) {
+    fn rows<S: Sink>(&self, to: &mut S) {
         to.values("breadcrumbs", &self.breadcrumbs);
         to.unless_usual_as::<AsCaseMap, Map<String, Context>>("contexts", &self.contexts);
         to.optional("culprit", &self.culprit);

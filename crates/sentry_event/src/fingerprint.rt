@@ -12,7 +12,7 @@ use crate::owned::owned_text;
 use json::Writer;
 use sentry_members::codec::DefaultedCodec;
 use sentry_members::{Codec, FromTree, Member, ReadCodec, TreeError, Way};
-use sentry_readers::MadeCodec;
+use sentry_rows::MadeCodec;
 use sentry_trees::Node;
 use serde_json::Value;
 use std::alloc::{AllocError, Global};

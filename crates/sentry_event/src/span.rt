@@ -4,10 +4,9 @@ ghost use Rattle.sentry_event.specs.Spans.{span_table_fields, span_table_in_orde
 
 use rand_core::Rng;
 use sentry_identifiers::{SpanId, TraceId};
-use sentry_members::{Formed, Member, Own};
+use sentry_members::{Drawn, Formed, Member, Own};
 use sentry_moments::{Moment, Rfc3339, Seconds};
-use sentry_rows::{AsTable, Copier, CopyTable, Giver, ReadTableAt, Reader, Sink, Table};
-use sentry_sinks::Drawn;
+use sentry_rows::{AsTable, Copier, CopyTable, ReadTableAt, Reader, Sink, Table};
 use sentry_trees::Node;
 use sentry_words::SpanStatus;
 use serde_json::{Map, Value};
@@ -123,7 +122,7 @@ impl Formed for Span {
 impl Table for Span {
     ghost lines = { span_table_fields };
 
-    fn rows<S: Sink>(&self, to: &mut Giver<'_, S>) {
+    fn rows<S: Sink>(&self, to: &mut S) {
         to.map("data", &self.data_);
         to.optional("description", &self.description);
         to.optional("op", &self.op);

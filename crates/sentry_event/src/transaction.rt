@@ -10,7 +10,7 @@ use sentry_identifiers::{Simple, random_uuid};
 use sentry_members::{Formed, Member};
 use sentry_moments::{Moment, Rfc3339, Seconds};
 use sentry_parts::{ClientSdkInfo, Request, User};
-use sentry_rows::{AsCaseMap, AsTable, Copier, CopyTable, Giver, ReadTableAt, Reader, Sink, Table};
+use sentry_rows::{AsCaseMap, AsTable, Copier, CopyTable, ReadTableAt, Reader, Sink, Table};
 use sentry_trees::Node;
 use serde_json::{Map, Value};
 use std::alloc::{AllocError, Global};
@@ -174,7 +174,7 @@ impl<'a> Formed for Transaction<'a> {
 impl<'a> Table for Transaction<'a> {
     ghost lines = { transaction_fields };
 
-    fn rows<S: Sink>(&self, to: &mut Giver<'_, S>) {
+    fn rows<S: Sink>(&self, to: &mut S) {
         to.unless_usual_as::<AsCaseMap, Map<String, Context>>("contexts", &self.contexts);
         to.optional("environment", &self.environment);
         to.drawn_as::<Simple, Uuid>("event_id", &self.event_id);

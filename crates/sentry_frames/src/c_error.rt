@@ -3,7 +3,7 @@
 ghost use Rattle.sentry_frames.specs.Causes.{c_error_fields, c_error_in_order};
 
 use sentry_members::{Formed, Member};
-use sentry_rows::{AsTable, Copier, CopyTable, Giver, ReadTable, Reader, Sink, Table};
+use sentry_rows::{AsTable, Copier, CopyTable, ReadTable, Reader, Sink, Table};
 use sentry_trees::Node;
 use std::alloc::{AllocError, Global};
 
@@ -70,7 +70,7 @@ impl From<CError> for i32 {
 impl Table for CError {
     ghost lines = { c_error_fields };
 
-    fn rows<S: Sink>(&self, to: &mut Giver<'_, S>) {
+    fn rows<S: Sink>(&self, to: &mut S) {
         to.optional("name", &self.name);
         to.required("number", &self.number);
     }

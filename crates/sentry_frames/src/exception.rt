@@ -6,7 +6,7 @@ use crate::mechanism::Mechanism;
 use crate::stacktrace::Stacktrace;
 use crate::thread_id::ThreadId;
 use sentry_members::{Formed, Member};
-use sentry_rows::{AsTable, Copier, CopyTable, Giver, ReadTable, Reader, Sink, Table};
+use sentry_rows::{AsTable, Copier, CopyTable, ReadTable, Reader, Sink, Table};
 use sentry_trees::Node;
 use std::alloc::{AllocError, Global};
 
@@ -68,7 +68,7 @@ impl Formed for Exception {
 impl Table for Exception {
     ghost lines = { exception_fields };
 
-    fn rows<S: Sink>(&self, to: &mut Giver<'_, S>) {
+    fn rows<S: Sink>(&self, to: &mut S) {
         to.optional("mechanism", &self.mechanism);
         to.optional("module", &self.module);
         to.optional("raw_stacktrace", &self.raw_stacktrace);

@@ -4,7 +4,7 @@ ghost use Rattle.sentry_frames.specs.Frames.{frame_fields, frame_in_order};
 
 use sentry_addresses::Addr;
 use sentry_members::{Formed, Member};
-use sentry_rows::{AsTable, Copier, CopyTable, Giver, ReadTable, Reader, Sink, Table};
+use sentry_rows::{AsTable, Copier, CopyTable, ReadTable, Reader, Sink, Table};
 use sentry_trees::Node;
 use serde_json::{Map, Value};
 use std::alloc::{AllocError, Global};
@@ -97,7 +97,7 @@ impl Formed for Frame {
 impl Table for Frame {
     ghost lines = { frame_fields };
 
-    fn rows<S: Sink>(&self, to: &mut Giver<'_, S>) {
+    fn rows<S: Sink>(&self, to: &mut S) {
         to.optional("abs_path", &self.abs_path);
         to.optional("addr_mode", &self.addr_mode);
         to.optional("colno", &self.colno);

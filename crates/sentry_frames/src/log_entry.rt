@@ -3,7 +3,7 @@
 ghost use Rattle.sentry_frames.specs.LogEntries.{entry_fields, entry_in_order};
 
 use sentry_members::{Formed, Member};
-use sentry_rows::{AsTable, Copier, CopyTable, Giver, ReadTable, Reader, Sink, Table};
+use sentry_rows::{AsTable, Copier, CopyTable, ReadTable, Reader, Sink, Table};
 use sentry_trees::Node;
 use serde_json::Value;
 use std::alloc::{AllocError, Global};
@@ -53,7 +53,7 @@ impl Formed for LogEntry {
 impl Table for LogEntry {
     ghost lines = { entry_fields };
 
-    fn rows<S: Sink>(&self, to: &mut Giver<'_, S>) {
+    fn rows<S: Sink>(&self, to: &mut S) {
         to.required("message", &self.message);
         to.list("params", &self.params);
     }

@@ -3,7 +3,7 @@
 ghost use Rattle.sentry_frames.specs.Causes.{mach_fields, mach_in_order};
 
 use sentry_members::{Formed, Member};
-use sentry_rows::{AsTable, Copier, CopyTable, Giver, ReadTable, Reader, Sink, Table};
+use sentry_rows::{AsTable, Copier, CopyTable, ReadTable, Reader, Sink, Table};
 use sentry_trees::Node;
 use std::alloc::{AllocError, Global};
 
@@ -56,7 +56,7 @@ impl Formed for MachException {
 impl Table for MachException {
     ghost lines = { mach_fields };
 
-    fn rows<S: Sink>(&self, to: &mut Giver<'_, S>) {
+    fn rows<S: Sink>(&self, to: &mut S) {
         to.required("code", &self.code);
         to.required("exception", &self.exception);
         to.optional("name", &self.name);

@@ -4,7 +4,7 @@ ghost use Rattle.sentry_frames.specs.Mechanisms.{mechanism_fields, mechanism_in_
 
 use crate::mechanism_meta::{MechanismMeta, ToldOrNothing};
 use sentry_members::{Formed, Member};
-use sentry_rows::{AsTable, Copier, CopyTable, Giver, ReadTable, Reader, Sink, Table};
+use sentry_rows::{AsTable, Copier, CopyTable, ReadTable, Reader, Sink, Table};
 use sentry_trees::Node;
 use sentry_urls::UrlText;
 use serde_json::{Map, Value};
@@ -69,7 +69,7 @@ impl Formed for Mechanism {
 impl Table for Mechanism {
     ghost lines = { mechanism_fields };
 
-    fn rows<S: Sink>(&self, to: &mut Giver<'_, S>) {
+    fn rows<S: Sink>(&self, to: &mut S) {
         to.map("data", &self.data_);
         to.optional("description", &self.description);
         to.optional("handled", &self.handled);

@@ -8,7 +8,7 @@ use crate::posix_signal::PosixSignal;
 use json::Writer;
 use sentry_members::codec::DefaultedCodec;
 use sentry_members::{Codec, Formed, Member, Way};
-use sentry_rows::{AsTable, Copier, CopyTable, Giver, ReadTable, Reader, Sink, Table};
+use sentry_rows::{AsTable, Copier, CopyTable, ReadTable, Reader, Sink, Table};
 use sentry_trees::Node;
 use serde_json::Value;
 use std::alloc::{AllocError, Global};
@@ -77,7 +77,7 @@ impl Formed for MechanismMeta {
 impl Table for MechanismMeta {
     ghost lines = { meta_fields };
 
-    fn rows<S: Sink>(&self, to: &mut Giver<'_, S>) {
+    fn rows<S: Sink>(&self, to: &mut S) {
         to.optional("errno", &self.errno);
         to.optional("mach_exception", &self.mach_exception);
         to.optional("signal", &self.signal);

@@ -3,7 +3,7 @@
 ghost use Rattle.sentry_frames.specs.Causes.{signal_fields, signal_in_order};
 
 use sentry_members::{Formed, Member};
-use sentry_rows::{AsTable, Copier, CopyTable, Giver, ReadTable, Reader, Sink, Table};
+use sentry_rows::{AsTable, Copier, CopyTable, ReadTable, Reader, Sink, Table};
 use sentry_trees::Node;
 use std::alloc::{AllocError, Global};
 
@@ -98,7 +98,7 @@ impl From<PosixSignal> for i32 {
 impl Table for PosixSignal {
     ghost lines = { signal_fields };
 
-    fn rows<S: Sink>(&self, to: &mut Giver<'_, S>) {
+    fn rows<S: Sink>(&self, to: &mut S) {
         to.optional("code", &self.code);
         to.optional("code_name", &self.code_name);
         to.optional("name", &self.name);

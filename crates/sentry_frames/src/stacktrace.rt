@@ -5,7 +5,7 @@ ghost use Rattle.sentry_frames.specs.Frames.{stacktrace_fields, stacktrace_in_or
 use crate::frame::Frame;
 use sentry_addresses::RegVal;
 use sentry_members::{Formed, Member};
-use sentry_rows::{AsTable, Copier, CopyTable, Giver, ReadTable, Reader, Sink, Table};
+use sentry_rows::{AsTable, Copier, CopyTable, ReadTable, Reader, Sink, Table};
 use sentry_trees::Node;
 use serde_json::Map;
 use std::alloc::{AllocError, Global};
@@ -77,7 +77,7 @@ impl Formed for Stacktrace {
 impl Table for Stacktrace {
     ghost lines = { stacktrace_fields };
 
-    fn rows<S: Sink>(&self, to: &mut Giver<'_, S>) {
+    fn rows<S: Sink>(&self, to: &mut S) {
         to.written_list("frames", &self.frames);
         to.optional("frames_omitted", &self.frames_omitted);
         to.map("registers", &self.registers);

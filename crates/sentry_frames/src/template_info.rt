@@ -3,7 +3,7 @@
 ghost use Rattle.sentry_frames.specs.Frames.{template_fields, template_in_order};
 
 use sentry_members::{Formed, Member};
-use sentry_rows::{AsTable, Copier, CopyTable, Giver, ReadTable, Reader, Sink, Table};
+use sentry_rows::{AsTable, Copier, CopyTable, ReadTable, Reader, Sink, Table};
 use sentry_trees::Node;
 use std::alloc::{AllocError, Global};
 
@@ -65,7 +65,7 @@ impl Formed for TemplateInfo {
 impl Table for TemplateInfo {
     ghost lines = { template_fields };
 
-    fn rows<S: Sink>(&self, to: &mut Giver<'_, S>) {
+    fn rows<S: Sink>(&self, to: &mut S) {
         to.optional("abs_path", &self.abs_path);
         to.optional("colno", &self.colno);
         to.optional("context_line", &self.context_line);

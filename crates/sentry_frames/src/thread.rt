@@ -5,7 +5,7 @@ ghost use Rattle.sentry_frames.specs.Threads.{thread_fields, thread_in_order};
 use crate::stacktrace::Stacktrace;
 use crate::thread_id::ThreadId;
 use sentry_members::{Formed, Member};
-use sentry_rows::{AsTable, Copier, CopyTable, Giver, ReadTable, Reader, Sink, Table};
+use sentry_rows::{AsTable, Copier, CopyTable, ReadTable, Reader, Sink, Table};
 use sentry_trees::Node;
 use std::alloc::{AllocError, Global};
 
@@ -64,7 +64,7 @@ impl Formed for Thread {
 impl Table for Thread {
     ghost lines = { thread_fields };
 
-    fn rows<S: Sink>(&self, to: &mut Giver<'_, S>) {
+    fn rows<S: Sink>(&self, to: &mut S) {
         to.unless("crashed", &self.crashed, &false);
         to.unless("current", &self.current, &false);
         to.optional("id", &self.id);

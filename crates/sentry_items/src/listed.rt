@@ -1,7 +1,7 @@
 //! The object that a container's payload is.
 
 use sentry_members::{Formed, FromTree, Member};
-use sentry_rows::{AsTable, Copier, CopyTable, Giver, ReadTable, Reader, Sink, Table};
+use sentry_rows::{AsTable, Copier, CopyTable, ReadTable, Reader, Sink, Table};
 use sentry_trees::Node;
 use std::alloc::AllocError;
 
@@ -21,7 +21,7 @@ impl<T: Member> Table for Listed<T> {
 
     ghost lines = { listed_fields T.kind T.cell_of };
 
-    fn rows<S: Sink>(&self, to: &mut Giver<'_, S>) {
+    fn rows<S: Sink>(&self, to: &mut S) {
         to.required("items", &self.items);
     }
 
@@ -55,7 +55,7 @@ impl<'s, T: Member> Table for Lent<'s, T> {
 
     ghost lines = { lent_fields T.kind T.cell_of };
 
-    fn rows<S: Sink>(&self, to: &mut Giver<'_, S>) {
+    fn rows<S: Sink>(&self, to: &mut S) {
         to.required("items", self.items);
     }
 

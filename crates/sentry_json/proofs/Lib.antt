@@ -4,6 +4,7 @@ pub mod Pieces
 pub mod Strings
 pub mod Bytes
 pub mod Texts
+pub mod Puts
 pub mod Regular
 pub mod Sound
 pub mod Lines

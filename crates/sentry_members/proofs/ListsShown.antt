@@ -1,17 +1,20 @@
 -- What trees show as lists and maps.
-use Rattle.std.proofs.Common.{◌≡◌, ℕ, zero, suc, ◌+◌, ◌<◌, List, [], ◌∷◌, ◌++◌, length, get_or, take, Some, None, String, Global, string_bytes, string_cmp, nat_cmp, Greater, refl, sym, ap, ◌∙◌, arith}
+use Rattle.std.proofs.Common.{◌≡◌, ℕ, zero, suc, ◌+◌, ◌<◌, List, [], ◌∷◌, ◌++◌, length, get_or, take, Some, None, String, Global, string_bytes, string_cmp, nat_cmp, refl, sym, ap, subst, ◌∙◌, arith, cond, Ordering, Less, Equal, Greater}
 use Rattle.std.proofs.lemmas.List.{take_more}
 use Rattle.std.specs.Cmp.Lexicographic.{slice_cmp}
-use Rattle.std.specs.List.Sorted.{IsStrictlySortedBy}
-use Rattle.std.specs.Map.{keys_of}
-use Rattle.std.specs.BTreeMap.{insert_entry}
-use Rattle.serde_json.specs.Data.{Data}
-use Rattle.serde_json.specs.Find.{as_array, as_object}
-use Rattle.sentry_trees.specs.Nodes.{items_by, members_by}
+use Rattle.std.specs.Prelude.{is_some}
+use Rattle.std.specs.Ordering.{is_eq, match_ordering}
+use Rattle.std.specs.Map.{lookup}
+use Rattle.std.specs.BTreeMap.{insert_entry, is_at}
+use Rattle.std.proofs.lemmas.Option.{same_Some}
+use Rattle.std.proofs.lemmas.Map.Text.{is_eq-slice_cmp}
+use Rattle.std.proofs.lemmas.Slice.Eq.{bytes_eq-Decides}
+use Rattle.serde_json.specs.Data.{Data, Members, no_members, member, put}
+use Rattle.serde_json.specs.Find.{get_member, as_array, as_object}
+use Rattle.sentry_trees.specs.Nodes.{items_by}
 use Rattle.sentry_tables.specs.Cell.{Cell, sequence, mapping, Cells, no_cells, cell, Entries, no_entries, entry}
 use Rattle.sentry_tables.specs.Kind.{Kind, list, map}
 use Rattle.sentry_tables.specs.Shows.{Shows, ItemsShow, MembersShow, IsSequence, IsMapping}
-use Rattle.sentry_members.proofs.Sorted.{MapEntry, put_at, above_first}
 use Rattle.sentry_members.specs.Cells.{cells, entries, list_cell, map_cell}
 use Rattle.sentry_members.specs.Reading.{Shown, Refused, ShownAt, RefusedAt, Only}
 use Rattle.sentry_members.specs.declared.error.TreeError.{TreeError}
@@ -46,22 +49,52 @@ mapping_refused Q _ f h = h
 
 -- ---- maps
 
-pub map_more : {V : Type 0} (w : V → Data) {A : Type 0} (P : Data → Cell → Type 0) (f : A → Cell) (done : List (MapEntry V)) (e : MapEntry V) (more : List (MapEntry V)) (name : String Global) (es : List (MapEntry A)) (x : A) → IsStrictlySortedBy string_cmp (keys_of (done ++ e ∷ more)) → string_bytes name ≡ string_bytes e.0
-    → MembersShow (λ k. P) (members_by w done) (entries f es) → P (w e.1) (f x) → MembersShow (λ k. P) (members_by w (done ++ e ∷ [])) (entries f (insert_entry string_cmp es name x))
-unfolding IsStrictlySortedBy
-map_more w P f [] e more name [] x sorted named h s = (sym named, s, tt)
-map_more w P f [] e more name (y ∷ ys) x sorted named h s = absurd h
-map_more w P f (first ∷ done) e more name [] x sorted named h s = absurd h
-map_more w P f (first ∷ done) e more name (y ∷ ys) x sorted named h s =
-    let up : slice_cmp nat_cmp (string_bytes e.0) (string_bytes first.0) ≡ Greater = above_first first done e more sorted.0 in
-    let above : string_cmp name y.0 ≡ Greater = ap (λ b. slice_cmp nat_cmp b (string_bytes y.0)) named ∙ ap (λ b. slice_cmp nat_cmp (string_bytes e.0) b) (sym h.0) ∙ up in
-    rw (put_at f y ys (insert_entry string_cmp ys name x) name x _ refl above) (h.0, h.1, map_more w P f done e more name ys x sorted.1 named h.2 s)
+-- the map has the keys of the members
+pub shown_key : {A : Type 0} (P : List ℕ → Data → Cell → Type 0) (f : A → Cell) (k : List ℕ) (ms : Members) (es : List (String Global × A)) → MembersShow P ms (entries f es)
+    → is_some (lookup (is_at (λ l. slice_cmp nat_cmp k (string_bytes l))) es) ≡ is_some (get_member k ms)
+shown_key P f k no_members [] h = refl
+shown_key P f k no_members (e ∷ es) h = absurd h
+shown_key P f k (member l d ms) [] h = absurd h
+shown_key P f k (member l d ms) (e ∷ es) h = rw h.0 (at (slice_cmp nat_cmp k (string_bytes e.0)) (shown_key P f k ms es h.2))
+  where
+    at : (o : Ordering) → is_some (lookup (is_at (λ l. slice_cmp nat_cmp k (string_bytes l))) es) ≡ is_some (get_member k ms)
+        → is_some (cond (is_eq o) (Some e.1) (lookup (is_at (λ l. slice_cmp nat_cmp k (string_bytes l))) es)) ≡ is_some (match_ordering o (get_member k ms) (Some d) (get_member k ms))
+    at Less more = more
+    at Equal more = refl
+    at Greater more = more
 
-member_refuses : {V : Type 0} (w : V → Data) (P : Data → Cell → Type 0) (done : List (MapEntry V)) (e : MapEntry V) (more : List (MapEntry V)) (es : Entries) → ((c : Cell) → P (w e.1) c → ⊥) → MembersShow (λ k. P) (members_by w (done ++ e ∷ more)) es → ⊥
-member_refuses w P [] e more no_entries refused h = h
-member_refuses w P [] e more (entry l c es) refused h = refused c h.1
-member_refuses w P (x ∷ xs) e more no_entries refused h = h
-member_refuses w P (x ∷ xs) e more (entry l c es) refused h = member_refuses w P xs e more es refused h.2
+-- a member that is put among them, and its value among those of the map
+pub shown_put : {A : Type 0} (P : List ℕ → Data → Cell → Type 0) (f : A → Cell) (name : String Global) (d : Data) (x : A) (ms : Members) (es : List (String Global × A)) → P (string_bytes name) d (f x) → MembersShow P ms (entries f es)
+    → MembersShow P (put (string_bytes name) d ms) (entries f (insert_entry string_cmp es name x))
+shown_put P f name d x no_members [] s h = (refl, s, tt)
+shown_put P f name d x no_members (e ∷ es) s h = absurd h
+shown_put P f name d x (member l y ms) [] s h = absurd h
+shown_put P f name d x (member l y ms) (e ∷ es) s h = rw h.0 (at (slice_cmp nat_cmp (string_bytes name) (string_bytes e.0)) refl (shown_put P f name d x ms es s h.2))
+  where
+    here : P (string_bytes e.0) y (f e.1)
+    here = subst (λ k. P k y (f e.1)) h.0 h.1
+
+    at : (o : Ordering) → slice_cmp nat_cmp (string_bytes name) (string_bytes e.0) ≡ o → MembersShow P (put (string_bytes name) d ms) (entries f (insert_entry string_cmp es name x))
+        → MembersShow P (match_ordering o (member (string_bytes name) d (member (string_bytes e.0) y ms)) (member (string_bytes e.0) d ms) (member (string_bytes e.0) y (put (string_bytes name) d ms)))
+        (entries f (match_ordering o ((name, x) ∷ e ∷ es) ((e.0, x) ∷ es) (e ∷ insert_entry string_cmp es name x)))
+    at Less is more = (refl, s, (refl, here, h.2))
+    at Equal is more = (refl, subst (λ k. P k d (f x)) ((bytes_eq-Decides (string_bytes name) (string_bytes e.0)).0 (sym (is_eq-slice_cmp (string_bytes name) (string_bytes e.0)) ∙ ap is_eq is)) s, h.2)
+    at Greater is more = (refl, here, more)
+
+-- where one of them shows nothing, all show nothing
+pub shown_nowhere : (P : List ℕ → Data → Cell → Type 0) (k : List ℕ) (d : Data) (ms : Members) (es : Entries) → get_member k ms ≡ Some d → ((c : Cell) → P k d c → ⊥) → MembersShow P ms es → ⊥
+shown_nowhere P k d no_members no_entries at none h = absurd cc
+shown_nowhere P k d no_members (entry l c es) at none h = h
+shown_nowhere P k d (member n e ms) no_entries at none h = h
+shown_nowhere P k d (member n e ms) (entry l c es) at none h = which _ refl (shown_nowhere P k d ms es)
+  where
+    which : (o : Ordering) → slice_cmp nat_cmp k n ≡ o → (get_member k ms ≡ Some d → ((x : Cell) → P k d x → ⊥) → MembersShow P ms es → ⊥) → ⊥
+    which Less is more = more (rw is at at) none h.2
+    which Equal is more =
+        let same : k ≡ n = (bytes_eq-Decides k n).0 (sym (is_eq-slice_cmp k n) ∙ ap is_eq is) in
+        let here : e ≡ d = same_Some e d (rw is at at) in
+        none c (subst (λ x. P k x c) here (subst (λ x. P x e c) (sym same) h.1))
+    which Greater is more = more (rw is at at) none h.2
 
 -- ---- at every moment
 
@@ -82,14 +115,14 @@ pub not_map : (K : Kind) (d : Data) → as_object d ≡ None → Refused (map K)
 unfolding Refused
 not_map K d is = λ now c h. rw is at h
 
-pub map_shown : {V : Type 0} (w : V → Data) {A : Type 0} (K : Kind) (f : A → Cell) (d : Data) (ms : List (MapEntry V)) (es : List (MapEntry A)) → as_object d ≡ Some (members_by w ms) → ((now : Cell) → MembersShow (λ k. Shows K now) (members_by w ms) (entries f es)) → Shown (map K) d (map_cell f es)
+pub map_shown : {A : Type 0} (K : Kind) (f : A → Cell) (d : Data) (ms : Members) (es : List (String Global × A)) → as_object d ≡ Some ms → ((now : Cell) → MembersShow (λ k. Shows K now) ms (entries f es)) → Shown (map K) d (map_cell f es)
 unfolding Shown
-map_shown w K f d ms es is h = λ now. rw is (h now)
+map_shown K f d ms es is h = λ now. rw is (h now)
 
-pub map_fails : {V : Type 0} (w : V → Data) (K : Kind) (d : Data) (ms done : List (MapEntry V)) (e : MapEntry V) (more : List (MapEntry V)) (x : TreeError) → as_object d ≡ Some (members_by w ms) → ms ≡ done ++ e ∷ more → Only x (Refused K (w e.1)) → Only x (Refused (map K) d)
+pub map_fails : (K : Kind) (d : Data) (ms : Members) (key : List ℕ) (e : Data) (x : TreeError) → as_object d ≡ Some ms → get_member key ms ≡ Some e → Only x (Refused K e) → Only x (Refused (map K) d)
 unfolding Refused
-map_fails w K d ms done e more Misfit is parts refused = λ now c h. mapping_refused _ c (λ es. member_refuses w (Shows K now) done e more es (refused now)) (rw (is, parts) at h)
-map_fails w K d ms done e more Memory is parts refused = tt
+map_fails K d ms key e Misfit is at refused = λ now c h. mapping_refused _ c (λ es. shown_nowhere (λ k. Shows K now) key e ms es at (refused now)) (rw is at h)
+map_fails K d ms key e Memory is at refused = tt
 
 -- ---- at a moment
 
@@ -105,19 +138,6 @@ pub list_fails_at : {V : Type 0} (w : V → Data) (now : Cell) (K : Kind) (d : D
 unfolding RefusedAt
 list_fails_at w now K d vs i v Misfit is lt same refused = λ c h. sequence_refused _ c (λ cs. each_refuses w (Shows K now) vs i v cs lt (rw (← same) refused)) (rw is at h)
 list_fails_at w now K d vs i v Memory is lt same refused = tt
-
-pub not_map_at : (now : Cell) (K : Kind) (d : Data) → as_object d ≡ None → RefusedAt now (map K) d
-unfolding RefusedAt
-not_map_at now K d is = λ c h. rw is at h
-
-pub map_shown_at : {V : Type 0} (w : V → Data) (now : Cell) {A : Type 0} (K : Kind) (f : A → Cell) (d : Data) (ms : List (MapEntry V)) (es : List (MapEntry A)) → as_object d ≡ Some (members_by w ms) → (MembersShow (λ k. Shows K now) (members_by w ms) (entries f es)) → ShownAt now (map K) d (map_cell f es)
-unfolding ShownAt
-map_shown_at w now K f d ms es is h = rw is h
-
-pub map_fails_at : {V : Type 0} (w : V → Data) (now : Cell) (K : Kind) (d : Data) (ms done : List (MapEntry V)) (e : MapEntry V) (more : List (MapEntry V)) (x : TreeError) → as_object d ≡ Some (members_by w ms) → ms ≡ done ++ e ∷ more → Only x (RefusedAt now K (w e.1)) → Only x (RefusedAt now (map K) d)
-unfolding RefusedAt
-map_fails_at w now K d ms done e more Misfit is parts refused = λ c h. mapping_refused _ c (λ es. member_refuses w (Shows K now) done e more es (refused)) (rw (is, parts) at h)
-map_fails_at w now K d ms done e more Memory is parts refused = tt
 
 -- ---- what is shown, at a moment
 

@@ -5,7 +5,7 @@ ghost use Rattle.serde_json.specs.View.{view};
 ghost use Rattle.sentry_tables.specs.Cell.{Cell, same_cell};
 ghost use Rattle.sentry_tables.specs.Kind.{Kind};
 ghost use Rattle.sentry_tables.specs.Norm.{norm, is_null_of};
-ghost use Rattle.sentry_tables.specs.Meets.{IsPlain, IsStored, IsOptional};
+ghost use Rattle.sentry_tables.specs.Meets.{IsPlain, IsStored};
 ghost use Rattle.sentry_members.specs.Cells.{option_cell};
 ghost use Rattle.sentry_members.specs.Made.{made, row_made};
 ghost use Rattle.sentry_tables.specs.Kind.{may, may_strict};
@@ -130,26 +130,5 @@ pub fn remade_strict_as<F: Codec<T>, T>(
     match value {
         Some(value) => Ok(Some(F::remade(value, way)?)),
         None => Ok(None),
-    }
-}
-
-/// A copy of a row that may be absent. It fails where memory runs out.
-pub fn copy_option_as<F: Codec<T>, T>(value: &Option<T>) -> Result<Option<T>, AllocError>
-    ensures { IfOk result (λ v. option_cell F.cell_of v ≡ option_cell F.cell_of value.now) }
-{
-    match value {
-        Some(value) => Ok(Some(F::copy(value)?)),
-        None => Ok(None),
-    }
-}
-
-/// Whether a row that may be absent is plain.
-pub fn is_plain_option_as<F: Codec<T>, T>(value: &Option<T>) -> bool
-    ensures plain { IsTrue result ↔ IsOptional (IsPlain F.kind) (option_cell F.cell_of value.now) }
-    ensures stored { IsTrue result → IsOptional (IsStored F.kind) (option_cell F.cell_of value.now) }
-{
-    match value {
-        Some(value) => F::is_plain(value),
-        None => true,
     }
 }

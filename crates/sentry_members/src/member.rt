@@ -5,12 +5,11 @@ ghost use Rattle.serde_json.specs.View.{view};
 ghost use Rattle.sentry_tables.specs.Cell.{Cell, same_cell};
 ghost use Rattle.sentry_tables.specs.Kind.{Kind};
 ghost use Rattle.sentry_tables.specs.Norm.{norm, is_null_of};
-ghost use Rattle.sentry_tables.specs.Meets.{IsPlain, IsStored, IsOptional};
-ghost use Rattle.sentry_members.specs.Cells.{option_cell};
+ghost use Rattle.sentry_tables.specs.Meets.{IsPlain, IsStored};
 ghost use Rattle.sentry_members.specs.Made.{made};
 ghost use Rattle.sentry_members.specs.Written.{written, WritesTree};
 
-use crate::codec::{Codec, Own, copy_option_as, is_plain_option_as};
+use crate::codec::Codec;
 use crate::way::Way;
 use json::Writer;
 use serde_json::Value;
@@ -126,19 +125,4 @@ pub trait Defaulted: Member {
     /// Whether the value is written as the usual one is.
     fn is_usual(&self) -> bool
         ensures { result ≡ same_cell (norm Self.kind (Self.cell_of self.now)) usual };
-}
-
-/// A copy of a row that may be absent. It fails where memory runs out.
-pub fn copy_option<T: Member>(value: &Option<T>) -> Result<Option<T>, AllocError>
-    ensures { IfOk result (λ v. option_cell T.cell_of v ≡ option_cell T.cell_of value.now) }
-{
-    copy_option_as::<Own, T>(value)
-}
-
-/// Whether a row that may be absent is plain.
-pub fn is_plain_option<T: Member>(value: &Option<T>) -> bool
-    ensures plain { IsTrue result ↔ IsOptional (IsPlain T.kind) (option_cell T.cell_of value.now) }
-    ensures stored { IsTrue result → IsOptional (IsStored T.kind) (option_cell T.cell_of value.now) }
-{
-    is_plain_option_as::<Own, T>(value)
 }

@@ -210,16 +210,23 @@ impl<T: FromTree> FromTree for Vec<T> {
     }
 }
 
+/// Of members of one key the last one counts, so they are read from the last to the first.
 impl<T: FromTree> FromTree for Map<String, T> {
     fn from_node<N: Node>(alloc: Global, node: &N) -> Result<Map<String, T>, TreeError> {
-        let members = match node.members(alloc)? {
+        let members = match node.named(alloc)? {
             Some(members) => members,
             None => return Err(TreeError::Misfit),
         };
         let mut map = Map::new(alloc);
-        for (key, member) in members.iter() {
-            let name = key.clone()?;
-            drop(map.insert(name, T::from_node(alloc, member)?)?);
+        let mut left = members.len();
+        while left > 0 {
+            left -= 1;
+            let member = &members[left];
+            if map.contains_key(member.key) {
+                continue;
+            }
+            let name = String::from_str(alloc, member.key)?;
+            drop(map.insert(name, T::from_node(alloc, &member.node)?)?);
         }
         Ok(map)
     }

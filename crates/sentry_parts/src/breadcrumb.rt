@@ -5,7 +5,7 @@ ghost use Rattle.sentry_parts.specs.Breadcrumbs.{breadcrumb_fields, breadcrumb_i
 use rand_core::Rng;
 use sentry_members::{Formed, Member};
 use sentry_moments::{Moment, Seconds};
-use sentry_rows::{AsTable, Copier, CopyTable, Giver, ReadTableAt, Reader, Sink, Table};
+use sentry_rows::{AsTable, Copier, CopyTable, ReadTableAt, Reader, Sink, Table};
 use sentry_trees::Node;
 use sentry_words::Level;
 use serde_json::{Map, Value};
@@ -71,7 +71,7 @@ impl Formed for Breadcrumb {
 impl Table for Breadcrumb {
     ghost lines = { breadcrumb_fields };
 
-    fn rows<S: Sink>(&self, to: &mut Giver<'_, S>) {
+    fn rows<S: Sink>(&self, to: &mut S) {
         to.optional("category", &self.category);
         to.map("data", &self.data_);
         to.unless("level", &self.level, &Level::Info);

@@ -4,7 +4,7 @@ ghost use Rattle.sentry_parts.specs.ClientSdk.{sdk_fields, sdk_in_order};
 
 use crate::client_sdk_package::ClientSdkPackage;
 use sentry_members::{Formed, Member};
-use sentry_rows::{AsTable, Copier, CopyTable, Giver, ReadTable, Reader, Sink, Table};
+use sentry_rows::{AsTable, Copier, CopyTable, ReadTable, Reader, Sink, Table};
 use sentry_trees::Node;
 use std::alloc::AllocError;
 
@@ -43,7 +43,7 @@ impl Formed for ClientSdkInfo {
 impl Table for ClientSdkInfo {
     ghost lines = { sdk_fields };
 
-    fn rows<S: Sink>(&self, to: &mut Giver<'_, S>) {
+    fn rows<S: Sink>(&self, to: &mut S) {
         to.list("integrations", &self.integrations);
         to.required("name", &self.name);
         to.list("packages", &self.packages);

@@ -3,7 +3,7 @@
 ghost use Rattle.sentry_parts.specs.ClientSdk.{package_fields, package_in_order};
 
 use sentry_members::{Formed, Member};
-use sentry_rows::{AsTable, Copier, CopyTable, Giver, ReadTable, Reader, Sink, Table};
+use sentry_rows::{AsTable, Copier, CopyTable, ReadTable, Reader, Sink, Table};
 use sentry_trees::Node;
 use std::alloc::AllocError;
 
@@ -38,7 +38,7 @@ impl Formed for ClientSdkPackage {
 impl Table for ClientSdkPackage {
     ghost lines = { package_fields };
 
-    fn rows<S: Sink>(&self, to: &mut Giver<'_, S>) {
+    fn rows<S: Sink>(&self, to: &mut S) {
         to.required("name", &self.name);
         to.required("version", &self.version);
     }

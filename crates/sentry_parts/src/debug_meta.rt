@@ -7,7 +7,7 @@ use crate::system_sdk_info::SystemSdkInfo;
 use json::Writer;
 use sentry_members::member::Defaulted;
 use sentry_members::{Codec, FromTree, Member, ReadCodec, TreeError, Way};
-use sentry_rows::{AsTable, Copier, CopyTable, Giver, ReadTable, Reader, Sink, Table};
+use sentry_rows::{AsTable, Copier, CopyTable, ReadTable, Reader, Sink, Table};
 use sentry_trees::Node;
 use serde_json::Value;
 use std::alloc::{AllocError, Global};
@@ -91,7 +91,7 @@ impl FromTree for DebugMeta {
 impl Table for DebugMeta {
     ghost lines = { meta_fields };
 
-    fn rows<S: Sink>(&self, to: &mut Giver<'_, S>) {
+    fn rows<S: Sink>(&self, to: &mut S) {
         to.list("images", &self.images);
         to.optional("sdk_info", &self.sdk_info);
     }

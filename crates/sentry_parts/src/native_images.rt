@@ -5,7 +5,7 @@ ghost use Rattle.sentry_parts.specs.DebugImages.{apple_fields, apple_in_order, s
 use sentry_addresses::Addr;
 use sentry_identifiers::{CodeId, DebugId, Hyphenated};
 use sentry_members::{Formed, Member};
-use sentry_rows::{AsTable, Copier, CopyTable, Giver, ReadTable, Reader, Sink, Table};
+use sentry_rows::{AsTable, Copier, CopyTable, ReadTable, Reader, Sink, Table};
 use sentry_trees::Node;
 use std::alloc::AllocError;
 use uuid::Uuid;
@@ -53,7 +53,7 @@ impl Formed for AppleDebugImage {
 impl Table for AppleDebugImage {
     ghost lines = { apple_fields };
 
-    fn rows<S: Sink>(&self, to: &mut Giver<'_, S>) {
+    fn rows<S: Sink>(&self, to: &mut S) {
         to.optional_or_null("arch", &self.arch);
         to.optional_or_null("cpu_subtype", &self.cpu_subtype);
         to.optional_or_null("cpu_type", &self.cpu_type);
@@ -142,7 +142,7 @@ impl Formed for SymbolicDebugImage {
 impl Table for SymbolicDebugImage {
     ghost lines = { symbolic_fields };
 
-    fn rows<S: Sink>(&self, to: &mut Giver<'_, S>) {
+    fn rows<S: Sink>(&self, to: &mut S) {
         to.optional_or_null("arch", &self.arch);
         to.optional("code_id", &self.code_id);
         to.optional("debug_file", &self.debug_file);

@@ -4,7 +4,7 @@ ghost use Rattle.sentry_parts.specs.DebugImages.{proguard_fields, proguard_in_or
 
 use sentry_identifiers::Hyphenated;
 use sentry_members::{Formed, Member};
-use sentry_rows::{AsTable, Copier, CopyTable, Giver, ReadTable, Reader, Sink, Table};
+use sentry_rows::{AsTable, Copier, CopyTable, ReadTable, Reader, Sink, Table};
 use sentry_trees::Node;
 use std::alloc::AllocError;
 use uuid::Uuid;
@@ -38,7 +38,7 @@ impl Formed for ProguardDebugImage {
 impl Table for ProguardDebugImage {
     ghost lines = { proguard_fields };
 
-    fn rows<S: Sink>(&self, to: &mut Giver<'_, S>) {
+    fn rows<S: Sink>(&self, to: &mut S) {
         to.required_as::<Hyphenated, Uuid>("uuid", &self.uuid);
     }
 
@@ -100,7 +100,7 @@ impl Formed for WasmDebugImage {
 impl Table for WasmDebugImage {
     ghost lines = { wasm_fields };
 
-    fn rows<S: Sink>(&self, to: &mut Giver<'_, S>) {
+    fn rows<S: Sink>(&self, to: &mut S) {
         to.required("code_file", &self.code_file);
         to.optional("code_id", &self.code_id);
         to.optional("debug_file", &self.debug_file);

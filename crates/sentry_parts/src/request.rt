@@ -3,7 +3,7 @@
 ghost use Rattle.sentry_parts.specs.Requests.{request_fields, request_in_order};
 
 use sentry_members::{Formed, Member};
-use sentry_rows::{AsTable, Copier, CopyTable, Giver, ReadTable, Reader, Sink, Table};
+use sentry_rows::{AsTable, Copier, CopyTable, ReadTable, Reader, Sink, Table};
 use sentry_trees::Node;
 use sentry_urls::UrlText;
 use serde_json::Map;
@@ -68,7 +68,7 @@ impl Formed for Request {
 impl Table for Request {
     ghost lines = { request_fields };
 
-    fn rows<S: Sink>(&self, to: &mut Giver<'_, S>) {
+    fn rows<S: Sink>(&self, to: &mut S) {
         to.optional("cookies", &self.cookies);
         to.optional("data", &self.data_);
         to.map("env", &self.env);

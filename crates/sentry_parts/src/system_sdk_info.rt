@@ -3,7 +3,7 @@
 ghost use Rattle.sentry_parts.specs.Debugging.{system_fields, system_in_order};
 
 use sentry_members::{Formed, Member};
-use sentry_rows::{AsTable, Copier, CopyTable, Giver, ReadTable, Reader, Sink, Table};
+use sentry_rows::{AsTable, Copier, CopyTable, ReadTable, Reader, Sink, Table};
 use sentry_trees::Node;
 use std::alloc::AllocError;
 
@@ -42,7 +42,7 @@ impl Formed for SystemSdkInfo {
 impl Table for SystemSdkInfo {
     ghost lines = { system_fields };
 
-    fn rows<S: Sink>(&self, to: &mut Giver<'_, S>) {
+    fn rows<S: Sink>(&self, to: &mut S) {
         to.required("sdk_name", &self.sdk_name);
         to.required("version_major", &self.version_major);
         to.required("version_minor", &self.version_minor);

@@ -6,7 +6,7 @@ ghost use Rattle.sentry_parts.specs.Users.{user_fields, user_in_order};
 
 use sentry_addresses::IpAddress;
 use sentry_members::{Formed, Member};
-use sentry_rows::{AsKept, Copier, CopyKept, Giver, KeptTable, ReadKept, Reader, Sink, Table};
+use sentry_rows::{AsKept, Copier, CopyKept, KeptTable, ReadKept, Reader, Sink, Table};
 use sentry_trees::Node;
 use serde_json::{Map, Value};
 use std::alloc::{AllocError, Global};
@@ -66,7 +66,7 @@ impl Formed for User {
 impl Table for User {
     ghost lines = { user_fields };
 
-    fn rows<S: Sink>(&self, to: &mut Giver<'_, S>) {
+    fn rows<S: Sink>(&self, to: &mut S) {
         to.optional("email", &self.email);
         to.optional("id", &self.id);
         to.optional("ip_address", &self.ip_address);

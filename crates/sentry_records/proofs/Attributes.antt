@@ -1,5 +1,5 @@
 -- Attributes are lawful; what their readers and writers answer.
-use Rattle.std.proofs.Common.{Global, ◌≡◌, ◌≤◌, ◌^◌, ℕ, pos, negsuc, nat_lt, List, codes, Bool, true, false, cond, Option, Some, None, option_map, option_and_then, Result, Ok, Err, refl, sym, ap, ◌∙◌, subst, arith, IsUtf8}
+use Rattle.std.proofs.Common.{Global, ◌≡◌, ◌≤◌, ◌^◌, ℕ, pos, negsuc, nat_lt, List, codes, Bool, true, false, cond, Option, Some, None, option_map, option_and_then, Result, Ok, refl, sym, ap, ◌∙◌, subst, arith, IsUtf8}
 use Rattle.std.proofs.lemmas.Bool.{false≢true}
 use Rattle.std.proofs.lemmas.Option.{none-some, same_Some}
 use Rattle.std.specs.Prelude.{OnOk, is_some, if◌then◌else◌}
@@ -25,7 +25,7 @@ use Rattle.sentry_members.specs.Kinds.{any_kind}
 use Rattle.sentry_members.specs.Made.{made}
 use Rattle.sentry_members.specs.Written.{written, WritesTree, WritesMembers}
 use Rattle.sentry_members.proofs.Tokens.{object_wrote}
-use Rattle.sentry_sinks.specs.Given.{both}
+use Rattle.sentry_writing.specs.Given.{both}
 use Rattle.sentry_members.specs.Reading.{Shown, Refused, Only}
 use Rattle.sentry_members.specs.declared.error.TreeError.{TreeError}
 use Rattle.sentry_members.specs.declared.error.TreeError.TheVariants.{Misfit, Memory}
@@ -239,13 +239,12 @@ attribute_has_laws = has_laws attribute_kind attribute_lawful
 
 -- what a sink takes of a type and a value
 module _ {S : Type 0} (Adds : S → S → Members → Type 0) (joined : (a b c : S) (ms ns : Members) → Adds a b ms → Adds b c ns → Adds a c (both ms ns)) where
-  pub gave : {E : Type 0} (P : Type 0) (word : List ℕ) (e : Data) (r : Result (Unit {0}) E) (a b c : S) → Adds a b (member tag (string word) no_members) → OnOk r (Adds b c (member value_key e no_members) × P) → OnOk r (Adds a c (member tag (string word) (member value_key e no_members)))
-  gave P word e (Ok u) a b c x y = joined a b c (member tag (string word) no_members) (member value_key e no_members) x y.0
-  gave P word e (Err f) a b c x y = tt
+  pub gave : (word : List ℕ) (e : Data) (a b c : S) → Adds a b (member tag (string word) no_members) → Adds b c (member value_key e no_members) → Adds a c (member tag (string word) (member value_key e no_members))
+  gave word e a b c x y = joined a b c (member tag (string word) no_members) (member value_key e no_members) x y
 
-  pub gave_any : {E : Type 0} (P : Type 0) (word : List ℕ) (e : Data) (r : Result (Unit {0}) E) (a b c : S) → Adds a b (member tag (string word) no_members) → OnOk r (Adds b c (member value_key (written any_kind (any e)) no_members) × P) → OnOk r (Adds a c (member tag (string word) (member value_key e no_members)))
+  pub gave_any : (word : List ℕ) (e : Data) (a b c : S) → Adds a b (member tag (string word) no_members) → Adds b c (member value_key (written any_kind (any e)) no_members) → Adds a c (member tag (string word) (member value_key e no_members))
   unfolding written
-  gave_any P word e r a b c x y = gave P word e r a b c x y
+  gave_any word e a b c x y = gave word e a b c x y
 
 pub compact_is : (d : Data) (s t : List ℕ) → has_float d ≡ false → (has_float (written any_kind (any d)) ≡ false → s ≡ compact_text (written any_kind (any d))) → t ≡ s → string t ≡ compacted d
 unfolding written

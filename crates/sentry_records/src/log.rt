@@ -8,7 +8,7 @@ use sentry_identifiers::TraceId;
 use sentry_members::{Formed, Member};
 use sentry_moments::{Moment, Seconds};
 use sentry_numbers::LogSeverityNumber;
-use sentry_rows::{AsTable, Copier, CopyTable, Giver, ReadTable, Reader, Sink, Table};
+use sentry_rows::{AsTable, Copier, CopyTable, ReadTable, Reader, Sink, Table};
 use sentry_trees::Node;
 use sentry_words::LogLevel;
 use serde_json::Map;
@@ -53,7 +53,7 @@ impl Formed for Log {
 impl Table for Log {
     ghost lines = { log_fields };
 
-    fn rows<S: Sink>(&self, to: &mut Giver<'_, S>) {
+    fn rows<S: Sink>(&self, to: &mut S) {
         to.map("attributes", &self.attributes);
         to.required("body", &self.body);
         to.required("level", &self.level);

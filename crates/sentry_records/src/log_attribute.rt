@@ -1,10 +1,11 @@
 //! Attributes of logs and metrics.
 
-ghost use Rattle.std.specs.Prelude.{◌≡◌, IfOk, OnOk, None};
+ghost use Rattle.std.specs.Prelude.{◌≡◌, IfOk, OnOk, OnErr, None};
 ghost use Rattle.serde_json.specs.Data.{number as number_data, string as string_data, member, no_members};
 ghost use Rattle.serde_json.specs.Find.{as_i64};
 ghost use Rattle.serde_json.specs.View.{view, number_view};
 ghost use Rattle.sentry_tables.specs.Kind.{tag};
+ghost use Rattle.sentry_members.specs.Written.{WritesMembers};
 ghost use Rattle.sentry_records.specs.LogAttribute.{attribute_cell, attribute_form, attribute_kind, attribute_members, compacted, value_key, ReadsTyped};
 
 use json::Writer;
@@ -12,8 +13,10 @@ use sentry_members::spelled::printed;
 use sentry_members::tree::has_float;
 use sentry_members::{FromTree, Member, Own, Room, TreeError, Way, text_of};
 use sentry_rows::Sink;
-use sentry_rows::sink::TreeRows;
+use sentry_rows::table::leave;
 use sentry_rows::tagged::tag;
+use sentry_rows::text::TextRows;
+use sentry_rows::tree::TreeRows;
 use sentry_trees::Node;
 use serde_json::{Number, Value};
 use std::alloc::{AllocError, Global};
@@ -30,25 +33,56 @@ pub struct LogAttribute(pub Value);
 
 impl LogAttribute {
     // Gives a sink the members of the written tree.
-    fn give<S: Sink<Refusal = AllocError>>(&self, sink: &mut S) -> Result<(), AllocError>
-        ensures { OnOk result (S.Adds sink.old sink.new (attribute_members (attribute_form (view self.now.0)))) }
+    fn give<S: Sink>(&self, sink: &mut S) -> Result<(), AllocError>
+        ensures ok { OnOk result (S.Adds sink.old sink.new (attribute_members (attribute_form (view self.now.0)))) }
+        ensures err { OnErr result (sink.new ≡ sink.old) }
     {
         match &self.0 {
-            Value::Null => give_text("null", sink),
-            Value::Bool(_) => give_typed("boolean", &self.0, sink),
+            Value::Null => {
+                give_text("null", sink);
+                Ok(())
+            }
+            Value::Bool(_) => {
+                give_typed("boolean", &self.0, sink);
+                Ok(())
+            }
             Value::Number(number) => {
                 if number.as_i64().is_some() {
-                    give_typed("integer", &self.0, sink)
+                    give_typed("integer", &self.0, sink);
+                    Ok(())
                 } else {
                     give_large(number, sink)
                 }
             }
-            Value::String(text) => give_text(text.as_str(), sink),
+            Value::String(text) => {
+                give_text(text.as_str(), sink);
+                Ok(())
+            }
             Value::Array(items) => give_compact(*items.allocator(), &self.0, sink),
             Value::Object(members) => match members.iter().next() {
                 Some((key, _)) => give_compact(*key.allocator(), &self.0, sink),
-                None => give_text("{}", sink),
+                None => {
+                    give_text("{}", sink);
+                    Ok(())
+                }
             },
+        }
+    }
+
+    // Writes the members of the written tree.
+    fn write_members(&self, out: &mut Writer) -> Result<(), AllocError>
+        ensures { OnOk result (WritesMembers (attribute_members (attribute_form (view self.now.0))) out.old out.new) }
+    {
+        let mut text = TextRows { out, failed: None };
+        let gave = self.give(&mut text);
+        let TextRows { out, failed } = text;
+        leave(out);
+        match gave {
+            Ok(()) => match failed {
+                None => Ok(()),
+                Some(error) => Err(error),
+            },
+            Err(error) => Err(error),
         }
     }
 
@@ -85,12 +119,12 @@ impl Member for LogAttribute {
     fn to_tree(&self, alloc: Global) -> Result<Value, AllocError> {
         let mut rows = TreeRows::new(alloc);
         self.give(&mut rows)?;
-        Ok(rows.into_tree())
+        rows.into_tree()
     }
 
     fn write(&self, out: &mut Writer) -> Result<(), AllocError> {
         out.begin_object()?;
-        self.give(out)?;
+        self.write_members(out)?;
         out.end_object()
     }
 
@@ -141,59 +175,58 @@ fn compact(alloc: Global, tree: &Value) -> Result<LogAttribute, AllocError>
 }
 
 // Gives a sink the members of an attribute of a type.
-fn give_typed<S: Sink<Refusal = AllocError>>(
-    word: &str,
-    value: &Value,
-    sink: &mut S,
-) -> Result<(), AllocError>
-    ensures { OnOk result (S.Adds sink.old sink.new
-        (member tag (string_data word.now) (member value_key (view value.now) no_members))) }
+fn give_typed<S: Sink>(word: &str, value: &Value, sink: &mut S)
+    ensures { S.Adds sink.old sink.new
+        (member tag (string_data word.now) (member value_key (view value.now) no_members)) }
 {
-    sink.word("type", word)?;
-    sink.member::<Own, Value>("value", value)
+    sink.word("type", word);
+    sink.member::<Own, Value>("value", value);
 }
 
 // Gives a sink the members of an attribute that is written as a text.
-fn give_text<S: Sink<Refusal = AllocError>>(text: &str, sink: &mut S) -> Result<(), AllocError>
-    ensures { OnOk result (S.Adds sink.old sink.new (attribute_members (string_data text.now))) }
+fn give_text<S: Sink>(text: &str, sink: &mut S)
+    ensures { S.Adds sink.old sink.new (attribute_members (string_data text.now)) }
 {
-    sink.word("type", "string")?;
-    sink.word("value", text)
+    sink.word("type", "string");
+    sink.word("value", text);
 }
 
 // Gives a sink the members of an attribute that is written as its compact text.
-fn give_compact<S: Sink<Refusal = AllocError>>(
-    alloc: Global,
-    value: &Value,
-    sink: &mut S,
-) -> Result<(), AllocError>
-    ensures { OnOk result (S.Adds sink.old sink.new (attribute_members (compacted (view value.now)))) }
+fn give_compact<S: Sink>(alloc: Global, value: &Value, sink: &mut S) -> Result<(), AllocError>
+    ensures ok { OnOk result (S.Adds sink.old sink.new (attribute_members (compacted (view value.now)))) }
+    ensures err { OnErr result (sink.new ≡ sink.old) }
 {
     if has_float(value) {
-        return give_text("", sink);
+        give_text("", sink);
+        return Ok(());
     }
     let text = text_of(alloc, value)?;
     match str::from_utf8(text.as_slice()) {
-        Ok(text) => give_text(text, sink),
+        Ok(text) => {
+            give_text(text, sink);
+            Ok(())
+        }
         Err(_) => unreachable!(),
     }
 }
 
 // Gives a sink the members of an attribute that is a number from 2^63 on, or a float.
 #[tactic(auto, using(sentry_numbers::proofs::Lengths::decimal_size))]
-fn give_large<S: Sink<Refusal = AllocError>>(
-    number: &Number,
-    sink: &mut S,
-) -> Result<(), AllocError>
-    ensures { OnOk result (as_i64 (number_view number.now) ≡ None
+fn give_large<S: Sink>(number: &Number, sink: &mut S) -> Result<(), AllocError>
+    ensures ok { OnOk result (as_i64 (number_view number.now) ≡ None
         → S.Adds sink.old sink.new (attribute_members (compacted (number_data (number_view number.now))))) }
+    ensures err { OnErr result (sink.new ≡ sink.old) }
 {
     match number.as_u64() {
         Some(natural) => {
             let mut room = Room::new();
-            give_text(printed(&natural, &mut room)?, sink)
+            give_text(printed(&natural, &mut room)?, sink);
+            Ok(())
         }
-        None => give_text("", sink),
+        None => {
+            give_text("", sink);
+            Ok(())
+        }
     }
 }
 

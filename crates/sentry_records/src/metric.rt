@@ -7,7 +7,7 @@ use crate::stand_in::epoch;
 use sentry_identifiers::{SpanId, TraceId};
 use sentry_members::{Formed, Member};
 use sentry_moments::{Moment, Seconds};
-use sentry_rows::{AsTable, Copier, CopyTable, Giver, ReadTable, Reader, Sink, Table};
+use sentry_rows::{AsTable, Copier, CopyTable, ReadTable, Reader, Sink, Table};
 use sentry_trees::Node;
 use sentry_units::Unit;
 use sentry_words::MetricType;
@@ -58,7 +58,7 @@ impl Formed for Metric {
 impl Table for Metric {
     ghost lines = { metric_fields };
 
-    fn rows<S: Sink>(&self, to: &mut Giver<'_, S>) {
+    fn rows<S: Sink>(&self, to: &mut S) {
         to.map("attributes", &self.attributes);
         to.required("name", &self.name);
         to.optional("span_id", &self.span_id);

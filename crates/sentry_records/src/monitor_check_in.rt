@@ -5,7 +5,7 @@ ghost use Rattle.sentry_records.specs.Monitors.{check_in_fields, check_in_in_ord
 use crate::monitor_config::MonitorConfig;
 use sentry_identifiers::Simple;
 use sentry_members::{Formed, Member};
-use sentry_rows::{AsTable, Copier, CopyTable, Giver, ReadTable, Reader, Sink, Table};
+use sentry_rows::{AsTable, Copier, CopyTable, ReadTable, Reader, Sink, Table};
 use sentry_trees::Node;
 use sentry_words::MonitorCheckInStatus;
 use std::alloc::AllocError;
@@ -50,7 +50,7 @@ impl Formed for MonitorCheckIn {
 impl Table for MonitorCheckIn {
     ghost lines = { check_in_fields };
 
-    fn rows<S: Sink>(&self, to: &mut Giver<'_, S>) {
+    fn rows<S: Sink>(&self, to: &mut S) {
         to.required_as::<Simple, Uuid>("check_in_id", &self.check_in_id);
         to.optional("duration", &self.duration);
         to.optional("environment", &self.environment);

@@ -4,7 +4,7 @@ ghost use Rattle.sentry_records.specs.Monitors.{config_fields, config_in_order};
 
 use crate::monitor_schedule::MonitorSchedule;
 use sentry_members::{Formed, Member};
-use sentry_rows::{AsTable, Copier, CopyTable, Giver, ReadTable, Reader, Sink, Table};
+use sentry_rows::{AsTable, Copier, CopyTable, ReadTable, Reader, Sink, Table};
 use sentry_trees::Node;
 use std::alloc::AllocError;
 
@@ -47,7 +47,7 @@ impl Formed for MonitorConfig {
 impl Table for MonitorConfig {
     ghost lines = { config_fields };
 
-    fn rows<S: Sink>(&self, to: &mut Giver<'_, S>) {
+    fn rows<S: Sink>(&self, to: &mut S) {
         to.optional("checkin_margin", &self.checkin_margin);
         to.optional("failure_issue_threshold", &self.failure_issue_threshold);
         to.optional("max_runtime", &self.max_runtime);

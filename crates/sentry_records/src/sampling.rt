@@ -6,7 +6,7 @@ use sentry_identifiers::TraceId;
 use sentry_members::{Formed, Member};
 use sentry_moments::{SampleRand, SampleRate};
 use sentry_numbers::{OrganizationId, OrganizationText};
-use sentry_rows::{AsTable, Copier, CopyTable, Giver, ReadTable, Reader, Sink, Table};
+use sentry_rows::{AsTable, Copier, CopyTable, ReadTable, Reader, Sink, Table};
 use sentry_trees::Node;
 use sentry_words::Sampled;
 use std::alloc::{AllocError, Global};
@@ -168,7 +168,7 @@ impl Formed for DynamicSamplingContext {
 impl Table for DynamicSamplingContext {
     ghost lines = { sampling_fields };
 
-    fn rows<S: Sink>(&self, to: &mut Giver<'_, S>) {
+    fn rows<S: Sink>(&self, to: &mut S) {
         to.optional("environment", &self.environment);
         to.optional_as::<OrganizationText, OrganizationId>("org_id", &self.org_id);
         to.optional("public_key", &self.public_key);

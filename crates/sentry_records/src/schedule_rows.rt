@@ -3,7 +3,7 @@
 ghost use Rattle.sentry_records.specs.Monitors.{crontab_fields, crontab_in_order, interval_fields, interval_in_order, lent_fields, lent_in_order};
 
 use sentry_members::Formed;
-use sentry_rows::{AsTable, Copier, CopyTable, Giver, ReadTable, Reader, Sink, Table};
+use sentry_rows::{AsTable, Copier, CopyTable, ReadTable, Reader, Sink, Table};
 use sentry_trees::Node;
 use sentry_words::MonitorIntervalUnit;
 use std::alloc::AllocError;
@@ -22,7 +22,7 @@ impl Formed for CrontabRows {
 impl Table for CrontabRows {
     ghost lines = { crontab_fields };
 
-    fn rows<S: Sink>(&self, to: &mut Giver<'_, S>) {
+    fn rows<S: Sink>(&self, to: &mut S) {
         to.required("value", &self.value);
     }
 
@@ -62,7 +62,7 @@ impl Formed for IntervalRows {
 impl Table for IntervalRows {
     ghost lines = { interval_fields };
 
-    fn rows<S: Sink>(&self, to: &mut Giver<'_, S>) {
+    fn rows<S: Sink>(&self, to: &mut S) {
         to.required("unit", &self.unit);
         to.required("value", &self.value);
     }
@@ -100,7 +100,7 @@ pub(crate) struct LentCrontab<'s> {
 impl<'s> Table for LentCrontab<'s> {
     ghost lines = { lent_fields };
 
-    fn rows<S: Sink>(&self, to: &mut Giver<'_, S>) {
+    fn rows<S: Sink>(&self, to: &mut S) {
         to.required("value", self.value);
     }
 

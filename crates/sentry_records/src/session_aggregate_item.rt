@@ -5,7 +5,7 @@ ghost use Rattle.sentry_records.specs.Sessions.{group_fields, group_in_order};
 use crate::stand_in::epoch;
 use sentry_members::{Formed, Member};
 use sentry_moments::{Moment, Rfc3339};
-use sentry_rows::{AsTable, Copier, CopyTable, Giver, ReadTable, Reader, Sink, Table};
+use sentry_rows::{AsTable, Copier, CopyTable, ReadTable, Reader, Sink, Table};
 use sentry_trees::Node;
 use std::alloc::AllocError;
 
@@ -48,7 +48,7 @@ impl Formed for SessionAggregateItem {
 impl Table for SessionAggregateItem {
     ghost lines = { group_fields };
 
-    fn rows<S: Sink>(&self, to: &mut Giver<'_, S>) {
+    fn rows<S: Sink>(&self, to: &mut S) {
         to.unless("abnormal", &self.abnormal, &0);
         to.unless("crashed", &self.crashed, &0);
         to.optional("did", &self.distinct_id);

@@ -5,7 +5,7 @@ ghost use Rattle.sentry_records.specs.Sessions.{groups_fields, groups_in_order};
 use crate::session_aggregate_item::SessionAggregateItem;
 use crate::session_attributes::SessionAttributes;
 use sentry_members::{Formed, Member};
-use sentry_rows::{AsTable, Copier, CopyTable, Giver, ReadTable, Reader, Sink, Table};
+use sentry_rows::{AsTable, Copier, CopyTable, ReadTable, Reader, Sink, Table};
 use sentry_trees::Node;
 use std::alloc::AllocError;
 
@@ -40,7 +40,7 @@ impl<'a> Formed for SessionAggregates<'a> {
 impl<'a> Table for SessionAggregates<'a> {
     ghost lines = { groups_fields };
 
-    fn rows<S: Sink>(&self, to: &mut Giver<'_, S>) {
+    fn rows<S: Sink>(&self, to: &mut S) {
         to.written_list("aggregates", &self.aggregates);
         to.required("attrs", &self.attributes);
     }

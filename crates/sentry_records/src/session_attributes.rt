@@ -4,7 +4,7 @@ ghost use Rattle.sentry_records.specs.Sessions.{attributes_fields, attributes_in
 
 use sentry_addresses::IpText;
 use sentry_members::{Formed, Member};
-use sentry_rows::{AsTable, Copier, CopyTable, Giver, ReadTable, Reader, Sink, Table};
+use sentry_rows::{AsTable, Copier, CopyTable, ReadTable, Reader, Sink, Table};
 use sentry_trees::Node;
 use std::alloc::AllocError;
 use std::borrow::CowStr;
@@ -57,7 +57,7 @@ impl<'a> Formed for SessionAttributes<'a> {
 impl<'a> Table for SessionAttributes<'a> {
     ghost lines = { attributes_fields };
 
-    fn rows<S: Sink>(&self, to: &mut Giver<'_, S>) {
+    fn rows<S: Sink>(&self, to: &mut S) {
         to.optional("environment", &self.environment);
         to.optional_as::<IpText, IpAddr>("ip_address", &self.ip_address);
         to.required("release", &self.release);

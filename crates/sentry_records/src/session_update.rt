@@ -7,7 +7,7 @@ use rand_core::Rng;
 use sentry_identifiers::Hyphenated;
 use sentry_members::{Formed, Member};
 use sentry_moments::{Moment, Rfc3339};
-use sentry_rows::{AsTable, Copier, CopyTable, Giver, ReadTableAt, Reader, Sink, Table};
+use sentry_rows::{AsTable, Copier, CopyTable, ReadTableAt, Reader, Sink, Table};
 use sentry_trees::Node;
 use sentry_words::SessionStatus;
 use std::alloc::AllocError;
@@ -63,7 +63,7 @@ impl<'a> Formed for SessionUpdate<'a> {
 impl<'a> Table for SessionUpdate<'a> {
     ghost lines = { session_fields };
 
-    fn rows<S: Sink>(&self, to: &mut Giver<'_, S>) {
+    fn rows<S: Sink>(&self, to: &mut S) {
         to.required("attrs", &self.attributes);
         to.optional_or_null("did", &self.distinct_id);
         to.optional("duration", &self.duration);

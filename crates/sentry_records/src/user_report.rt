@@ -4,7 +4,7 @@ ghost use Rattle.sentry_records.specs.UserReports.{user_report_fields, user_repo
 
 use sentry_identifiers::Simple;
 use sentry_members::{Formed, Member};
-use sentry_rows::{AsTable, Copier, CopyTable, Giver, ReadTable, Reader, Sink, Table};
+use sentry_rows::{AsTable, Copier, CopyTable, ReadTable, Reader, Sink, Table};
 use sentry_trees::Node;
 use std::alloc::AllocError;
 use uuid::Uuid;
@@ -44,7 +44,7 @@ impl Formed for UserReport {
 impl Table for UserReport {
     ghost lines = { user_report_fields };
 
-    fn rows<S: Sink>(&self, to: &mut Giver<'_, S>) {
+    fn rows<S: Sink>(&self, to: &mut S) {
         to.required("comments", &self.comments);
         to.optional("email", &self.email);
         to.required_as::<Simple, Uuid>("event_id", &self.event_id);

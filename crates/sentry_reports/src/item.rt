@@ -5,7 +5,7 @@ ghost use Rattle.sentry_reports.specs.ItemTable.{item_fields, item_in_order};
 use crate::category::Category;
 use crate::reason::Reason;
 use sentry_members::Formed;
-use sentry_rows::{AsTable, Copier, CopyTable, Giver, ReadTable, Reader, Sink, Table};
+use sentry_rows::{AsTable, Copier, CopyTable, ReadTable, Reader, Sink, Table};
 use sentry_trees::Node;
 use std::alloc::AllocError;
 
@@ -44,7 +44,7 @@ impl Formed for Item {
 impl Table for Item {
     ghost lines = { item_fields };
 
-    fn rows<S: Sink>(&self, to: &mut Giver<'_, S>) {
+    fn rows<S: Sink>(&self, to: &mut S) {
         to.required("category", &self.category);
         to.required("quantity", &self.quantity);
         to.required("reason", &self.reason);

@@ -9,7 +9,7 @@ use crate::reason::Reason;
 use rand_core::Rng;
 use sentry_members::{Formed, Member};
 use sentry_moments::{Moment, Seconds};
-use sentry_rows::{AsTable, Copier, CopyTable, Giver, ReadTableAt, Reader, Sink, Table};
+use sentry_rows::{AsTable, Copier, CopyTable, ReadTableAt, Reader, Sink, Table};
 use sentry_trees::Node;
 use std::alloc::AllocError;
 use std::fmt;
@@ -127,7 +127,7 @@ impl Formed for Report {
 impl Table for Report {
     ghost lines = { report_fields };
 
-    fn rows<S: Sink>(&self, to: &mut Giver<'_, S>) {
+    fn rows<S: Sink>(&self, to: &mut S) {
         to.required("discarded_events", &self.discarded_events);
         to.at_once_as::<Seconds, Moment>("timestamp", &self.timestamp);
     }

@@ -1,21 +1,17 @@
 -- Maps of values of several cases.
-use Rattle.std.proofs.Common.{◌≡◌, ℕ, List, [], ◌∷◌, ◌++◌, Bool, true, false, Some, None, Result, Ok, Err, length, refl, sym, ap, ◌∙◌, String, Global, string_bytes, string_cmp, nat_cmp, Greater}
+use Rattle.std.proofs.Common.{◌≡◌, ℕ, List, [], ◌∷◌, Bool, true, false, Some, None, Result, Ok, Err, length, refl, sym, ◌∙◌}
 use Rattle.std.proofs.Math.Dec.{eqb-suc-zero}
 use Rattle.std.specs.Prelude.{◌==◌, option_and_then}
-use Rattle.std.specs.Cmp.Lexicographic.{slice_cmp}
-use Rattle.std.specs.List.Sorted.{IsStrictlySortedBy}
-use Rattle.std.specs.Map.{keys_of}
-use Rattle.std.specs.BTreeMap.{insert_entry}
-use Rattle.serde_json.specs.Data.{Data}
-use Rattle.serde_json.specs.Find.{get, as_str, as_object}
+use Rattle.serde_json.specs.Data.{Data, Members}
+use Rattle.serde_json.specs.Find.{get, get_member, as_str, as_object}
 use Rattle.sentry_trees.specs.Keys.{is_among, are_distinct, StandsAt}
-use Rattle.sentry_trees.specs.Nodes.{members_by}
 use Rattle.sentry_trees.proofs.Beside.{among}
-use Rattle.sentry_tables.specs.Cell.{Cell, mapping, Entries, no_entries, entry, same_cell}
+use Rattle.sentry_tables.specs.Cell.{Cell, mapping, Entries, same_cell}
 use Rattle.sentry_tables.specs.Kind.{map, tagged, tagged_map, Cases, words, tag}
 use Rattle.sentry_tables.specs.Norm.{norm}
 use Rattle.sentry_tables.specs.Shows.{IsMapping, MembersShow, word_at, word_of}
-use Rattle.sentry_members.proofs.Sorted.{MapEntry, put_at, above_first}
+use Rattle.sentry_members.proofs.ListsShown.{shown_nowhere}
+use Rattle.sentry_members.proofs.Sorted.{MapEntry}
 use Rattle.sentry_members.specs.Cells.{entries, map_cell, empty_map}
 use Rattle.sentry_members.specs.Made.{made}
 use Rattle.sentry_members.specs.Reading.{ShownAt, RefusedAt, Only}
@@ -24,7 +20,7 @@ use Rattle.sentry_members.specs.declared.way.Way.{Way}
 use Rattle.sentry_members.specs.declared.way.Way.TheVariants.{Same, Normal}
 use Rattle.sentry_members.specs.declared.error.TreeError.{TreeError}
 use Rattle.sentry_members.specs.declared.error.TreeError.TheVariants.{Misfit, Memory}
-use Rattle.sentry_sinks.proofs.Others.{is_key}
+use Rattle.sentry_writing.proofs.Others.{is_key}
 use Rattle.sentry_rows.specs.Cased.{ReadsCaseAt, ShowsEntry, EntryShownAt, EntryRefusedAt, ReadsEntryAt}
 use Rattle.sentry_rows.proofs.CasesRead.{shown_by_word, refused_by_word}
 use Rattle.sentry_rows.proofs.TagsShown.{other_words, choice_refused, no_case_shows}
@@ -75,26 +71,7 @@ module _ (now : Cell) (cases : Cases) (fallback key : List ℕ) where
   unfolding EntryRefusedAt
   no_entry d is c s = choice_refused _ c (λ n x t. no_case_shows cases d now n x (rw (← is) at t)) s.1
 
--- ---- members by their keys
-
-module _ {V : Type 0} (w : V → Data) where
-  -- the key of a member as the relation takes it
-  pub keyed_more : {A : Type 0} (P : List ℕ → Data → Cell → Type 0) (f : A → Cell) (done : List (MapEntry V)) (e : MapEntry V) (more : List (MapEntry V)) (name : String Global) (es : List (MapEntry A)) (x : A) → IsStrictlySortedBy string_cmp (keys_of (done ++ e ∷ more)) → string_bytes name ≡ string_bytes e.0
-      → MembersShow P (members_by w done) (entries f es) → P (string_bytes e.0) (w e.1) (f x) → MembersShow P (members_by w (done ++ e ∷ [])) (entries f (insert_entry string_cmp es name x))
-  unfolding IsStrictlySortedBy
-  keyed_more P f [] e more name [] x sorted named h s = (sym named, s, tt)
-  keyed_more P f [] e more name (y ∷ ys) x sorted named h s = absurd h
-  keyed_more P f (first ∷ done) e more name [] x sorted named h s = absurd h
-  keyed_more P f (first ∷ done) e more name (y ∷ ys) x sorted named h s =
-      let up : slice_cmp nat_cmp (string_bytes e.0) (string_bytes first.0) ≡ Greater = above_first first done e more sorted.0 in
-      let above : string_cmp name y.0 ≡ Greater = ap (λ b. slice_cmp nat_cmp b (string_bytes y.0)) named ∙ ap (λ b. slice_cmp nat_cmp (string_bytes e.0) b) (sym h.0) ∙ up in
-      rw (put_at f y ys (insert_entry string_cmp ys name x) name x _ refl above) (h.0, h.1, keyed_more P f done e more name ys x sorted.1 named h.2 s)
-
-  keyed_refuses : (P : List ℕ → Data → Cell → Type 0) (done : List (MapEntry V)) (e : MapEntry V) (more : List (MapEntry V)) (es : Entries) → ((c : Cell) → P (string_bytes e.0) (w e.1) c → ⊥) → MembersShow P (members_by w (done ++ e ∷ more)) es → ⊥
-  keyed_refuses P [] e more no_entries refused h = h
-  keyed_refuses P [] e more (entry l c es) refused h = refused c h.1
-  keyed_refuses P (x ∷ xs) e more no_entries refused h = h
-  keyed_refuses P (x ∷ xs) e more (entry l c es) refused h = keyed_refuses P xs e more es refused h.2
+-- ---- the map
 
 mapping_refused : (Q : Entries → Type 0) (c : Cell) → ((es : Entries) → Q es → ⊥) → IsMapping Q c → ⊥
 mapping_refused Q (mapping es) f h = f es h
@@ -105,14 +82,14 @@ module _ (now : Cell) (cases : Cases) (fallback : List ℕ) where
   unfolding RefusedAt
   no_map d is c h = rw is at h
 
-  pub map_shown : {V : Type 0} (w : V → Data) {A : Type 0} (f : A → Cell) (d : Data) (ms : List (MapEntry V)) (es : List (MapEntry A)) → as_object d ≡ Some (members_by w ms) → MembersShow (ShowsEntry cases fallback now) (members_by w ms) (entries f es) → ShownAt now (tagged_map cases fallback) d (map_cell f es)
+  pub map_shown : {A : Type 0} (f : A → Cell) (d : Data) (ms : Members) (es : List (MapEntry A)) → as_object d ≡ Some ms → MembersShow (ShowsEntry cases fallback now) ms (entries f es) → ShownAt now (tagged_map cases fallback) d (map_cell f es)
   unfolding ShownAt
-  map_shown w f d ms es is h = rw is h
+  map_shown f d ms es is h = rw is h
 
-  pub map_fails : {V : Type 0} (w : V → Data) (d : Data) (ms done : List (MapEntry V)) (e : MapEntry V) (more : List (MapEntry V)) (x : TreeError) → as_object d ≡ Some (members_by w ms) → ms ≡ done ++ e ∷ more → Only x (EntryRefusedAt now cases fallback (string_bytes e.0) (w e.1)) → Only x (RefusedAt now (tagged_map cases fallback) d)
+  pub map_fails : (d : Data) (ms : Members) (key : List ℕ) (e : Data) (x : TreeError) → as_object d ≡ Some ms → get_member key ms ≡ Some e → Only x (EntryRefusedAt now cases fallback key e) → Only x (RefusedAt now (tagged_map cases fallback) d)
   unfolding RefusedAt EntryRefusedAt
-  map_fails w d ms done e more Misfit is parts refused = λ c h. mapping_refused _ c (λ es. keyed_refuses w (ShowsEntry cases fallback now) done e more es refused) (rw (is, parts) at h)
-  map_fails w d ms done e more Memory is parts refused = tt
+  map_fails d ms key e Misfit is at refused = λ c h. mapping_refused _ c (λ es. shown_nowhere (ShowsEntry cases fallback now) key e ms es at refused) (rw is at h)
+  map_fails d ms key e Memory is at refused = tt
 
   pub entry_shown : (key : List ℕ) (d : Data) (c : Cell) → EntryShownAt now cases fallback key d c → ShowsEntry cases fallback now key d c
   unfolding EntryShownAt

@@ -14,7 +14,7 @@ use Rattle.sentry_members.specs.Made.{made}
 use Rattle.sentry_members.specs.Written.{written, WritesTree}
 use Rattle.sentry_members.specs.declared.way.Way.{Way}
 use Rattle.sentry_members.specs.declared.way.Way.TheVariants.{Same, Normal}
-use Rattle.sentry_sinks.specs.Given.{case_written}
+use Rattle.sentry_writing.specs.Given.{case_written}
 use Rattle.sentry_rows.specs.Cased.{but_tag, CaseTaken, TakesCase, CaseMade, MakesCase}
 use Rattle.sentry_rows.specs.Taken.{IsCaseTree, WritesCase, TestsCase}
 

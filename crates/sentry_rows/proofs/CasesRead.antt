@@ -12,8 +12,8 @@ use Rattle.sentry_tables.specs.Shows.{Shows, CaseShows, is_object, IsChoice, wor
 use Rattle.sentry_members.specs.Reading.{Shown, Refused, ShownAt, RefusedAt, Only}
 use Rattle.sentry_members.specs.declared.error.TreeError.{TreeError}
 use Rattle.sentry_members.specs.declared.error.TreeError.TheVariants.{Misfit, Memory}
-use Rattle.sentry_readers.proofs.Answering.{shows_table}
-use Rattle.sentry_sinks.proofs.Others.{is_key}
+use Rattle.sentry_rows.proofs.Answering.{shows_table}
+use Rattle.sentry_writing.proofs.Others.{is_key}
 use Rattle.sentry_rows.specs.Cased.{but_tag, case_kind, CaseShown, CaseRefused, CaseShownAt, CaseRefusedAt}
 use Rattle.sentry_rows.proofs.TagsShown.{other_words, choice_refused, another_word, another_word_at}
 

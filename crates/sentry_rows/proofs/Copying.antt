@@ -27,11 +27,6 @@ pub row_copied : (r : Rule) (K : Kind) (c d : Cell) (a : Copier) → d ≡ row_m
 unfolding CopiesField
 row_copied r K c d a is = (refl, λ none. (none, is))
 
--- a row that was not copied, since an earlier one failed
-pub copied_after : (r : Rule) (K : Kind) (c d : Cell) (a : Copier) → is_some a.failed ≡ true → CopiesField r K c d a a
-unfolding CopiesField
-copied_after r K c d a failed = (refl, λ none. absurd cc)
-
 -- one that failed
 pub copied_failed : (r : Rule) (K : Kind) (c d : Cell) (a b : Copier) → b.way ≡ a.way → is_some b.failed ≡ true → CopiesField r K c d a b
 unfolding CopiesField
@@ -99,3 +94,12 @@ pub kept_copied : {A : Type 0} (way : Way) (fs : List (Field A)) (o : Other) (v 
 kept_copied way fs o v w ms ns a z is h none =
     let p = others_same ms ns h.0 z h.2 none in
     by_way way fs o v w ms ns a h.0 is h.1 p.0 p.1
+
+-- ---- what is answered at the end
+
+pub table_ended : {A : Type 0} (way : Way) (fs : List (Field A)) (v w : A) (a z : Copier) → a.way ≡ way → CopiesFields fs v w a z → (x : A) → (z.failed ≡ None) × (x ≡ w) → fields_by fs x ≡ made way (table_of fs) (fields_by fs v)
+table_ended way fs v w a z is h x ends = ap (fields_by fs) ends.1 ∙ table_copied way fs v w a z is h ends.0
+
+pub kept_ended : {A : Type 0} (way : Way) (fs : List (Field A)) (o : Other) (others_of : A → Members) (v w : A) (a z : Copier) → a.way ≡ way → CopiesKept fs v w (others_of v) (others_of w) a z → (x : A) → (z.failed ≡ None) × (x ≡ w)
+    → fields (cells_by fs x) (others_of x) ≡ made way (table (rows_of fs) o) (fields (cells_by fs v) (others_of v))
+kept_ended way fs o others_of v w a z is h x ends = ap (λ u. fields (cells_by fs u) (others_of u)) ends.1 ∙ kept_copied way fs o v w (others_of v) (others_of w) a z is h ends.0

@@ -10,7 +10,7 @@ use Rattle.sentry_tables.specs.Cell.{Cells}
 use Rattle.sentry_tables.specs.Kind.{Rows, Other, keys}
 use Rattle.sentry_tables.specs.Meets.{RowsMeet, StandsApart, IsKept, plain_demand, stored_demand}
 use Rattle.sentry_members.specs.Written.{WritesTree}
-use Rattle.sentry_sinks.specs.Given.{case_written}
+use Rattle.sentry_writing.specs.Given.{case_written}
 
 -- its written tree
 abbrev pub IsCaseTree : Result Value AllocError → List ℕ → Rows → Other → Cells → Members → Type 0

@@ -9,12 +9,12 @@ ghost use Rattle.sentry_moments.specs.Moments.{moment_cell};
 ghost use Rattle.sentry_rows.specs.Cased.{ReadsEntryAt};
 
 use crate::cased::{AsCase, Cased, ReadCasedAt};
+use crate::timed::ReadCodecAt;
 use json::Writer;
 use rand_core::Rng;
 use sentry_members::codec::DefaultedCodec;
 use sentry_members::{Codec, Formed, Member, TreeError, Way};
 use sentry_moments::Moment;
-use sentry_readers::ReadCodecAt;
 use sentry_trees::Node;
 use sentry_trees::keys::place;
 use serde_json::{Map, Value};
@@ -138,16 +138,22 @@ pub fn read_case_map<T: ReadCasedAt, N: Node, R: Rng>(
     ensures { ReadsAt (moment_cell now) (tagged_map T.cases fallback.now) (λ m. map_cell T.choice_of m.entries)
         (N.data_of node.now) result }
 {
-    let members = match node.members(alloc)? {
+    let members = match node.named(alloc)? {
         Some(members) => members,
         None => return Err(TreeError::Misfit),
     };
     let mut map = Map::new(alloc);
-    for (key, member) in members.iter() {
-        let name = key.clone()?;
+    let mut left = members.len();
+    while left > 0 {
+        left -= 1;
+        let member = &members[left];
+        if map.contains_key(member.key) {
+            continue;
+        }
+        let name = String::from_str(alloc, member.key)?;
         drop(map.insert(
             name,
-            read_entry(alloc, member, key.as_str(), fallback, now, ids)?,
+            read_entry(alloc, &member.node, member.key, fallback, now, ids)?,
         )?);
     }
     Ok(map)

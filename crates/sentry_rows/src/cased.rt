@@ -12,19 +12,19 @@ ghost use Rattle.sentry_members.specs.Reading.{Reads};
 ghost use Rattle.sentry_moments.specs.Moments.{moment_cell};
 ghost use Rattle.sentry_rows.specs.Cased.{but_tag, TakesCase, MakesCase, ReadsCase, ReadsCaseAt};
 
+use crate::reader::Reader;
 use crate::tagged::tag;
 use crate::taken::{PlainCase, TextCase, TreeCase};
+use crate::timed::ReadCodecAt;
 use json::Writer;
 use rand_core::Rng;
-use sentry_givers::table::leave;
-use sentry_givers::{KeptTable, Table};
 use sentry_members::{Codec, ReadCodec, TreeError, Way};
 use sentry_moments::Moment;
-use sentry_readers::ReadCodecAt;
-use sentry_readers::rows::{object, others};
-use sentry_sinks::kept::copy_others;
 use sentry_trees::Node;
 use sentry_trees::keys::place;
+use sentry_writing::kept::copy_others;
+use sentry_writing::table::leave;
+use sentry_writing::{KeptTable, Table};
 use serde_json::{Map, Value};
 use std::alloc::{AllocError, Global};
 
@@ -170,11 +170,13 @@ impl<T: ReadCasedAt> ReadCodecAt<T> for AsCase {
 /// All members of a tree but its tag: a case without rows.
 ///
 /// Fails with `Misfit` where the tree is no object, and with `Memory` where memory is refused.
-#[tactic(auto, using(crate::proofs::CasesRead::rest_shown, sentry_readers::proofs::Answering::no_object_fails))]
+#[tactic(auto, using(crate::proofs::Answering::no_object_fails))]
 pub fn read_members<N: Node>(alloc: Global, node: &N) -> Result<Map<String, Value>, TreeError>
     ensures { Reads (table no_rows but_tag) (λ m. fields no_cells (members_view m.entries)) (N.data_of node.now) result }
 {
-    Ok(others(alloc, &object(alloc, node)?, &["type"])?)
+    let mut from = Reader::new(alloc, node)?;
+    let members = from.others(&["type"]);
+    from.end(members)
 }
 
 /// The same members, which are their own normal form. It fails where memory runs out.

@@ -1,17 +1,16 @@
 //! Copies and normal forms of values, row by row.
 
-ghost use Rattle.std.specs.Prelude.{◌≡◌, None, IfOk};
+ghost use Rattle.std.specs.Prelude.{◌≡◌, None, IfOk, is_some, true};
 ghost use Rattle.serde_json.specs.View.{members_view};
 ghost use Rattle.sentry_tables.specs.Kind.{must, may, may_strict, list as list_kind, map as map_kind, values as values_kind};
 ghost use Rattle.sentry_members.specs.Cells.{text_cell, cow_cell, option_cell, list_cell, map_cell};
 ghost use Rattle.sentry_members.specs.Kinds.{text_kind};
 ghost use Rattle.sentry_rows.specs.Copied.{CopiesField, CopiesFields, CopiesOthers, CopiesKept};
 
-use sentry_givers::{KeptTable, Table};
 use sentry_members::codec::{remade_option_as, remade_strict_as};
 use sentry_members::{Codec, Member, Own, Way};
-use sentry_sinks::Values;
-use sentry_sinks::kept::copy_others;
+use sentry_writing::kept::copy_others;
+use sentry_writing::{KeptTable, Table, Values};
 use serde_json::{Map, Value};
 use std::alloc::AllocError;
 use std::borrow::CowStr;
@@ -49,20 +48,33 @@ impl Copier {
         Copier { way, failed: None }
     }
 
+    /// The copy of the rows, or the first refusal.
+    pub fn end<X: Drop>(self, copy: X) -> Result<X, AllocError>
+        ensures { IfOk result (λ x. (self.failed ≡ None) × (x ≡ copy)) }
+    {
+        match self.failed {
+            None => Ok(copy),
+            Some(error) => Err(error),
+        }
+    }
+
+    // Remembers a refusal, and gives the value that stands in.
+    fn refuse<X: Drop>(&mut self, error: AllocError, stand_in: X) -> X
+        ensures way { self.new.way ≡ self.old.way }
+        ensures failed { is_some self.new.failed ≡ true }
+    {
+        self.failed = Some(error);
+        stand_in
+    }
+
     /// A value that may be absent or null.
-    #[tactic(auto, using(crate::proofs::Copying::row_copied, crate::proofs::Copying::copied_after, crate::proofs::Copying::copied_failed))]
-    pub fn optional_as<F: Codec<X>, X>(&mut self, value: &Option<X>) -> Option<X>
+    #[tactic(auto, using(crate::proofs::Copying::row_copied, crate::proofs::Copying::copied_failed))]
+    pub fn optional_as<F: Codec<X>, X: Drop>(&mut self, value: &Option<X>) -> Option<X>
         ensures { CopiesField may F.kind (option_cell F.cell_of value.now) (option_cell F.cell_of result) self.old self.new }
     {
-        if self.failed.is_some() {
-            return None;
-        }
         match remade_option_as::<F, X>(value, self.way) {
             Ok(copy) => copy,
-            Err(error) => {
-                self.failed = Some(error);
-                None
-            }
+            Err(error) => self.refuse(error, None),
         }
     }
 
@@ -74,40 +86,24 @@ impl Copier {
     }
 
     /// A value that may be absent, but not null.
-    #[tactic(auto, using(crate::proofs::Copying::row_copied, crate::proofs::Copying::copied_after, crate::proofs::Copying::copied_failed))]
-    pub fn optional_strict_as<F: Codec<X>, X>(&mut self, value: &Option<X>) -> Option<X>
+    #[tactic(auto, using(crate::proofs::Copying::row_copied, crate::proofs::Copying::copied_failed))]
+    pub fn optional_strict_as<F: Codec<X>, X: Drop>(&mut self, value: &Option<X>) -> Option<X>
         ensures { CopiesField may_strict F.kind (option_cell F.cell_of value.now) (option_cell F.cell_of result) self.old self.new }
     {
-        if self.failed.is_some() {
-            return None;
-        }
         match remade_strict_as::<F, X>(value, self.way) {
             Ok(copy) => copy,
-            Err(error) => {
-                self.failed = Some(error);
-                None
-            }
+            Err(error) => self.refuse(error, None),
         }
-    }
-
-    /// A value that may be absent, but not null.
-    pub fn optional_strict<X: Member>(&mut self, value: &Option<X>) -> Option<X>
-        ensures { CopiesField may_strict X.kind (option_cell X.cell_of value.now) (option_cell X.cell_of result) self.old self.new }
-    {
-        self.optional_strict_as::<Own, X>(value)
     }
 
     /// A value that takes no memory.
-    #[tactic(auto, using(crate::proofs::Copying::whole_copied, crate::proofs::Copying::copied_after, crate::proofs::Copying::copied_failed))]
+    #[tactic(auto, using(crate::proofs::Copying::whole_copied, crate::proofs::Copying::copied_failed))]
     pub fn plain_as<F: Codec<X>, X: Copy>(&mut self, value: &X) -> X
         ensures { CopiesField must F.kind (F.cell_of value.now) (F.cell_of result) self.old self.new }
     {
         match F::remade(value, self.way) {
             Ok(copy) => copy,
-            Err(error) => {
-                self.failed = Some(error);
-                *value
-            }
+            Err(error) => self.refuse(error, *value),
         }
     }
 
@@ -119,74 +115,51 @@ impl Copier {
     }
 
     /// A text.
-    #[tactic(auto, using(crate::proofs::Copying::whole_copied, crate::proofs::Copying::copied_after, crate::proofs::Copying::copied_failed))]
+    #[tactic(auto, using(crate::proofs::Copying::whole_copied, crate::proofs::Copying::copied_failed))]
     pub fn text(&mut self, text: &String) -> String
         ensures { CopiesField must text_kind (text_cell text.now) (text_cell result) self.old self.new }
     {
-        if self.failed.is_some() {
-            return String::new(*text.allocator());
-        }
         match text.remade(self.way) {
             Ok(copy) => copy,
-            Err(error) => {
-                self.failed = Some(error);
-                String::new(*text.allocator())
-            }
+            Err(error) => self.refuse(error, String::new(*text.allocator())),
         }
     }
 
     /// A text that may be borrowed.
-    #[tactic(auto, using(crate::proofs::Copying::whole_copied, crate::proofs::Copying::copied_after, crate::proofs::Copying::copied_failed))]
+    #[tactic(auto, using(crate::proofs::Copying::whole_copied, crate::proofs::Copying::copied_failed))]
     pub fn cow<'a>(&mut self, text: &CowStr<'a>) -> CowStr<'a>
         ensures { CopiesField must text_kind (cow_cell text.now) (cow_cell result) self.old self.new }
     {
-        if self.failed.is_some() {
-            return CowStr::Borrowed("");
-        }
         match text.remade(self.way) {
             Ok(copy) => copy,
-            Err(error) => {
-                self.failed = Some(error);
-                CowStr::Borrowed("")
-            }
+            Err(error) => self.refuse(error, CowStr::Borrowed("")),
         }
     }
 
     /// A list.
-    #[tactic(auto, using(crate::proofs::Copying::whole_copied, crate::proofs::Copying::copied_after, crate::proofs::Copying::copied_failed))]
+    #[tactic(auto, using(crate::proofs::Copying::whole_copied, crate::proofs::Copying::copied_failed))]
     pub fn list<X: Member>(&mut self, list: &Vec<X>) -> Vec<X>
         ensures { CopiesField must (list_kind X.kind) (list_cell X.cell_of list.now.items) (list_cell X.cell_of result.items) self.old self.new }
     {
-        if self.failed.is_some() {
-            return Vec::new(*list.allocator());
-        }
         match list.remade(self.way) {
             Ok(copy) => copy,
-            Err(error) => {
-                self.failed = Some(error);
-                Vec::new(*list.allocator())
-            }
+            Err(error) => self.refuse(error, Vec::new(*list.allocator())),
         }
     }
 
     /// A list under the key `values`.
-    #[tactic(auto, using(crate::proofs::Copying::whole_copied, crate::proofs::Copying::copied_after, crate::proofs::Copying::copied_failed))]
+    #[tactic(auto, using(crate::proofs::Copying::whole_copied, crate::proofs::Copying::copied_failed))]
     pub fn values<X: Member>(&mut self, list: &Values<X>) -> Values<X>
         ensures { CopiesField must (values_kind X.kind) (list_cell X.cell_of list.now.values.items) (list_cell X.cell_of result.values.items) self.old self.new }
     {
-        if self.failed.is_some() {
-            return Values {
-                values: Vec::new(*list.values.allocator()),
-            };
-        }
         match list.remade(self.way) {
             Ok(copy) => copy,
-            Err(error) => {
-                self.failed = Some(error);
+            Err(error) => self.refuse(
+                error,
                 Values {
                     values: Vec::new(*list.values.allocator()),
-                }
-            }
+                },
+            ),
         }
     }
 

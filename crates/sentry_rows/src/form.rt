@@ -6,17 +6,19 @@ ghost use Rattle.sentry_tables.specs.Kind.{table, kept};
 
 use crate::copier::{Copier, CopyKept, CopyTable};
 use crate::read::{ReadKept, ReadTable, ReadTableAt};
+use crate::reader::Reader;
+use crate::timed::ReadCodecAt;
 use json::Writer;
 use rand_core::Rng;
-use sentry_givers::plain::rows_are_plain;
-use sentry_givers::table::{kept_tree, table_tree, write_kept, write_table};
-use sentry_givers::{KeptTable, Table};
 use sentry_members::{Codec, ReadCodec, TreeError, Way};
 use sentry_moments::Moment;
-use sentry_readers::rows::object;
-use sentry_readers::{ReadCodecAt, Reader};
-use sentry_sinks::kept::others_are_plain;
 use sentry_trees::Node;
+use sentry_writing::beside::{Kept, Tag};
+use sentry_writing::kept::others_are_plain;
+use sentry_writing::plain::rows_are_plain;
+use sentry_writing::table::{rows_tree, table_tree, write_rows, write_table};
+use sentry_writing::tree::TreeRows;
+use sentry_writing::{KeptTable, Table};
 use serde_json::Value;
 use std::alloc::{AllocError, Global};
 
@@ -39,10 +41,7 @@ impl<T: CopyTable> Codec<T> for AsTable {
     fn remade(value: &T, way: Way) -> Result<T, AllocError> {
         let mut copies = Copier::new(way);
         let copy = CopyTable::copied(value, &mut copies)?;
-        match copies.failed {
-            None => Ok(copy),
-            Some(error) => Err(error),
-        }
+        copies.end(copy)
     }
 
     fn is_null_tree(_value: &T) -> bool {
@@ -55,31 +54,25 @@ impl<T: CopyTable> Codec<T> for AsTable {
 }
 
 impl<T: ReadTable + CopyTable> ReadCodec<T> for AsTable {
-    #[tactic(auto, using(sentry_readers::proofs::Answering::no_object_fails))]
+    #[tactic(auto, using(crate::proofs::Answering::no_object_fails))]
     fn from_node<N: Node>(alloc: Global, node: &N) -> Result<T, TreeError> {
-        let mut from = Reader::new(alloc, object(alloc, node)?);
+        let mut from = Reader::new(alloc, node)?;
         let value = T::read(&mut from);
-        match from.failed {
-            None => Ok(value),
-            Some(error) => Err(error),
-        }
+        from.end(value)
     }
 }
 
 impl<T: ReadTableAt + CopyTable> ReadCodecAt<T> for AsTable {
-    #[tactic(auto, using(sentry_readers::proofs::Answering::no_object_fails_at))]
+    #[tactic(auto, using(crate::proofs::Answering::no_object_fails_at))]
     fn from_node<N: Node, R: Rng>(
         alloc: Global,
         node: &N,
         now: Moment,
         ids: &mut R,
     ) -> Result<T, TreeError> {
-        let mut from = Reader::new(alloc, object(alloc, node)?);
+        let mut from = Reader::new(alloc, node)?;
         let value = T::read(&mut from, now, ids);
-        match from.failed {
-            None => Ok(value),
-            Some(error) => Err(error),
-        }
+        from.end(value)
     }
 }
 
@@ -92,20 +85,17 @@ impl<T: CopyKept> Codec<T> for AsKept {
     ghost cell_of = { λ v. fields (cells_by T.lines v) (T.others_of v) };
 
     fn to_tree(value: &T, alloc: Global) -> Result<Value, AllocError> {
-        kept_tree(value, value.others(), alloc)
+        rows_tree(value, TreeRows::with_others(alloc, value.others()))
     }
 
     fn write(value: &T, out: &mut Writer) -> Result<(), AllocError> {
-        write_kept(value, value.others(), out)
+        write_rows(value, Tag::none(), Kept::new(value.others()), out)
     }
 
     fn remade(value: &T, way: Way) -> Result<T, AllocError> {
         let mut copies = Copier::new(way);
         let copy = CopyKept::copied(value, &mut copies)?;
-        match copies.failed {
-            None => Ok(copy),
-            Some(error) => Err(error),
-        }
+        copies.end(copy)
     }
 
     fn is_null_tree(_value: &T) -> bool {
@@ -118,13 +108,10 @@ impl<T: CopyKept> Codec<T> for AsKept {
 }
 
 impl<T: ReadKept + CopyKept> ReadCodec<T> for AsKept {
-    #[tactic(auto, using(sentry_readers::proofs::Answering::no_object_fails))]
+    #[tactic(auto, using(crate::proofs::Answering::no_object_fails))]
     fn from_node<N: Node>(alloc: Global, node: &N) -> Result<T, TreeError> {
-        let mut from = Reader::new(alloc, object(alloc, node)?);
+        let mut from = Reader::new(alloc, node)?;
         let value = T::read(&mut from);
-        match from.failed {
-            None => Ok(value),
-            Some(error) => Err(error),
-        }
+        from.end(value)
     }
 }

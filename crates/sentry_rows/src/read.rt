@@ -3,14 +3,14 @@
 ghost use Rattle.std.specs.Prelude.{◌++◌};
 ghost use Rattle.sentry_tables.specs.Fields.{rows_of};
 ghost use Rattle.sentry_tables.specs.Kind.{keys};
-ghost use Rattle.sentry_readers.specs.Fields.{ReadsFields, ReadsFieldsAt, ReadsKept};
+ghost use Rattle.sentry_rows.specs.Fields.{ReadsFields, ReadsFieldsAt, ReadsKept};
 ghost use Rattle.sentry_moments.specs.Moments.{moment_cell};
 
+use crate::reader::Reader;
 use rand_core::Rng;
-use sentry_givers::{KeptTable, Table};
 use sentry_moments::Moment;
-use sentry_readers::Reader;
 use sentry_trees::Node;
+use sentry_writing::{KeptTable, Table};
 
 /// A table that is read row by row.
 pub trait ReadTable: Table {

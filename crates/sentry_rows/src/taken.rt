@@ -5,11 +5,12 @@ ghost use Rattle.sentry_rows.specs.NoRows.{no_lines, no_lines_in_order};
 
 use crate::cased::CaseSink;
 use json::Writer;
-use sentry_givers::plain::rows_are_plain;
-use sentry_givers::table::{case_tree, kept_case_tree, write_case, write_kept_case};
-use sentry_givers::{Giver, KeptTable, Table};
-use sentry_sinks::Sink;
-use sentry_sinks::kept::others_are_plain;
+use sentry_writing::beside::{Kept, NoOthers};
+use sentry_writing::kept::others_are_plain;
+use sentry_writing::plain::rows_are_plain;
+use sentry_writing::table::{case_tree, write_case};
+use sentry_writing::tree::TreeRows;
+use sentry_writing::{KeptTable, Sink, Table};
 use serde_json::{Map, Value};
 use std::alloc::{AllocError, Global};
 
@@ -20,7 +21,7 @@ pub(crate) struct NoRows;
 impl Table for NoRows {
     ghost lines = { no_lines };
 
-    fn rows<S: Sink>(&self, _to: &mut Giver<'_, S>) {}
+    fn rows<S: Sink>(&self, _to: &mut S) {}
 
     ghost ordered = { no_lines_in_order };
 }
@@ -36,15 +37,17 @@ impl CaseSink for TreeCase {
     ghost Takes = { λ a b w rows o cs ms. IsCaseTree b.tree w rows o cs ms };
 
     fn table<T: Table>(&mut self, word: &str, value: &T) {
-        self.tree = case_tree(value, word, self.alloc);
+        self.tree = case_tree(value, word, TreeRows::new(self.alloc));
     }
 
     fn kept<T: KeptTable>(&mut self, word: &str, value: &T) {
-        self.tree = kept_case_tree(value, word, value.others(), self.alloc);
+        let rows = TreeRows::with_others(self.alloc, value.others());
+        self.tree = case_tree(value, word, rows);
     }
 
     fn members(&mut self, word: &str, members: &Map<String, Value>) {
-        self.tree = kept_case_tree(&NoRows, word, members, self.alloc);
+        let rows = TreeRows::with_others(self.alloc, members);
+        self.tree = case_tree(&NoRows, word, rows);
     }
 }
 
@@ -61,15 +64,15 @@ impl<'w> CaseSink for TextCase<'w> {
     ghost Takes = { λ a b w rows o cs ms. (b.out.ghost_name ≡ a.out.ghost_name) × WritesCase a.out.now b.out.now b.wrote w rows o cs ms };
 
     fn table<T: Table>(&mut self, word: &str, value: &T) {
-        self.wrote = write_case(value, word, &mut *self.out);
+        self.wrote = write_case(value, word, NoOthers, &mut *self.out);
     }
 
     fn kept<T: KeptTable>(&mut self, word: &str, value: &T) {
-        self.wrote = write_kept_case(value, word, value.others(), &mut *self.out);
+        self.wrote = write_case(value, word, Kept::new(value.others()), &mut *self.out);
     }
 
     fn members(&mut self, word: &str, members: &Map<String, Value>) {
-        self.wrote = write_kept_case(&NoRows, word, members, &mut *self.out);
+        self.wrote = write_case(&NoRows, word, Kept::new(members), &mut *self.out);
     }
 }
 

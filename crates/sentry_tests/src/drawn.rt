@@ -7,7 +7,7 @@ use rand_core::{Rng, SeedableRng, utils};
 use rand_pcg::Pcg32;
 use sentry_members::read_tree;
 use sentry_rows::draw::or_drawn_as;
-use sentry_rows::rows::object;
+use sentry_trees::Object;
 use sentry_types::protocol::v7::{
     Context, Envelope, Hyphenated, Moment, Own, Simple, SpanId, TraceId, TreeError,
 };
@@ -101,7 +101,7 @@ fn absent_ids_are_drawn(rt: HostRuntime) -> Result<(), Fail> {
     let alloc = rt.alloc();
     let tree = read_tree(alloc, b"{\"given\":\"d42cee9fc3e74f5c\",\"none\":null}")?;
     let node = &tree;
-    let given = object(alloc, &node)?;
+    let given = Object::new(alloc, &node)?.ok_or(TreeError::Misfit)?;
     let (span, trace) = first_ids();
     let mut ids = Pcg32::seed_from_u64(1);
     for (key, wanted) in [
@@ -123,7 +123,7 @@ fn uuids_are_of_version_4(rt: HostRuntime) -> Result<(), Fail> {
     let zeros = Uuid::parse_str("00000000-0000-4000-8000-000000000000")?;
     let tree = read_tree(alloc, b"{}")?;
     let node = &tree;
-    let empty = object(alloc, &node)?;
+    let empty = Object::new(alloc, &node)?.ok_or(TreeError::Misfit)?;
     let simple = or_drawn_as::<Simple, Uuid, Zeros, _>(alloc, &empty, "id", &mut Zeros)?;
     let hyphenated = or_drawn_as::<Hyphenated, Uuid, Zeros, _>(alloc, &empty, "id", &mut Zeros)?;
     assert!(rt; [random_uuid(&mut Zeros), simple, hyphenated] == [zeros, zeros, zeros]);

@@ -1,5 +1,6 @@
 pub mod Deeper
 pub mod Gathered
+pub mod Latest
 pub mod Trees
 pub mod Numbers
 pub mod Lines

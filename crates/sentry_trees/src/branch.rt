@@ -1,6 +1,6 @@
 //! A place in a tape.
 
-ghost use Rattle.std.specs.Prelude.{◌≡◌, true, None, IfOk};
+ghost use Rattle.std.specs.Prelude.{◌≡◌, true, None, IfOk, option_map};
 ghost use Rattle.serde_json.specs.Find.{as_array, as_object};
 ghost use Rattle.serde_json.specs.View.{view, items_view, members_view};
 ghost use Rattle.sentry_trees.specs.Nodes.{items_by, members_by};
@@ -104,19 +104,6 @@ impl<'t, 'a> Node for Branch<'t, 'a> {
         Ok(Some(nodes))
     }
 
-    fn members(&self, alloc: Global) -> Result<Option<Map<String, Branch<'t, 'a>>>, AllocError> {
-        let mut members = match self.at.members() {
-            Some(members) => members,
-            None => return Ok(None),
-        };
-        let mut nodes = Map::new(alloc);
-        while let Some((key, at)) = members.next() {
-            let name = String::from_str(alloc, key)?;
-            drop(nodes.insert(name, Branch { at })?);
-        }
-        Ok(Some(nodes))
-    }
-
     fn named(&self, alloc: Global) -> Result<Option<Vec<Named<'_, Branch<'t, 'a>>>>, AllocError> {
         let mut members = match self.at.members() {
             Some(members) => members,
@@ -146,7 +133,7 @@ fn grown(node: &Branch<'_, '_>, alloc: Global) -> Result<Value, AllocError>
     if let Some(items) = node.items(alloc)? {
         return Ok(Value::Array(grown_items(&items, alloc)?));
     }
-    if let Some(members) = node.members(alloc)? {
+    if let Some(members) = members(node, alloc)? {
         return Ok(Value::Object(grown_members(&members, alloc)?));
     }
     leaf(node, alloc)
@@ -176,6 +163,26 @@ fn grown_members(
         drop(values.insert(name, grown(node, alloc)?)?);
     }
     Ok(values)
+}
+
+/// The members of an object, each key once.
+fn members<'t, 'a>(
+    node: &Branch<'t, 'a>,
+    alloc: Global,
+) -> Result<Option<Map<String, Branch<'t, 'a>>>, AllocError>
+    ensures { IfOk result (λ o. option_map (λ m. members_by (λ b. data_at b.at) m.entries) o
+        ≡ as_object (data_at node.now.at)) }
+{
+    let mut members = match node.at.members() {
+        Some(members) => members,
+        None => return Ok(None),
+    };
+    let mut nodes = Map::new(alloc);
+    while let Some((key, at)) = members.next() {
+        let name = String::from_str(alloc, key)?;
+        drop(nodes.insert(name, Branch { at })?);
+    }
+    Ok(Some(nodes))
 }
 
 /// The tree of a value with nothing inside.

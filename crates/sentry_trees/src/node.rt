@@ -6,10 +6,10 @@ ghost use Rattle.serde_json.specs.Find as find;
 ghost use Rattle.serde_json.specs.View.{view, number_view};
 ghost use Rattle.sentry_json.specs.Sound.{IsRanged};
 ghost use Rattle.sentry_trees.specs.Keys.{are_distinct};
-ghost use Rattle.sentry_trees.specs.Nodes.{items_by, members_by, named_by};
+ghost use Rattle.sentry_trees.specs.Nodes.{items_by, named_by};
 
 use crate::object::Named;
-use serde_json::{Map, Number, Value};
+use serde_json::{Number, Value};
 use std::alloc::{AllocError, Global};
 
 /// A place in a tree of JSON, whatever holds the tree.
@@ -67,11 +67,6 @@ pub trait Node: Sized + Drop {
     fn items(&self, alloc: Global) -> Result<Option<Vec<Self>>, AllocError>
         ensures { IfOk result (λ o. option_map (λ v. items_by data_of v.items) o
             ≡ find.as_array (data_of self.now)) };
-
-    /// The members of the object that stands here, in the order of their keys.
-    fn members(&self, alloc: Global) -> Result<Option<Map<String, Self>>, AllocError>
-        ensures { IfOk result (λ o. option_map (λ m. members_by data_of m.entries) o
-            ≡ find.as_object (data_of self.now)) };
 
     /// The members of the object that stands here, each with its key, as they come. Of members of one
     /// key the last one counts.
@@ -145,19 +140,6 @@ impl<'v> Node for &'v Value {
         let mut nodes = Vec::with_capacity(alloc, items.len())?;
         for item in items {
             nodes.push(item)?;
-        }
-        Ok(Some(nodes))
-    }
-
-    fn members(&self, alloc: Global) -> Result<Option<Map<String, &'v Value>>, AllocError> {
-        let members = match Value::as_object(*self) {
-            Some(members) => members,
-            None => return Ok(None),
-        };
-        let mut nodes = Map::new(alloc);
-        for (key, member) in members.iter() {
-            let name = key.clone()?;
-            drop(nodes.insert(name, member)?);
         }
         Ok(Some(nodes))
     }

@@ -7,9 +7,8 @@ ghost use Rattle.sentry_keys.specs.AuthFields.{auth_table, rows_cell};
 use crate::auth::{Auth, LATEST};
 use json::Writer;
 use sentry_members::{FromTree, Member, TreeError, Way};
-use sentry_rows::rows::object;
 use sentry_rows::table::{table_tree, write_table};
-use sentry_rows::{Giver, Reader, Sink, Table};
+use sentry_rows::{Reader, Sink, Table};
 use sentry_trees::Node;
 use serde_json::Value;
 use std::alloc::{AllocError, Global};
@@ -19,7 +18,7 @@ impl Table for Auth {
 
     ghost lines = { auth_fields };
 
-    fn rows<S: Sink>(&self, to: &mut Giver<'_, S>) {
+    fn rows<S: Sink>(&self, to: &mut S) {
         to.optional_or_null("sentry_client", &self.client);
         to.required("sentry_key", &self.key);
         to.optional_or_null("sentry_secret", &self.secret);
@@ -69,12 +68,12 @@ impl Member for Auth {
 }
 
 // What the rows of a tree show, without a moment.
-#[tactic(auto, using(sentry_readers::proofs::Answering::no_object_fails), unfolding(crate::specs::AuthFields::auth_table))]
+#[tactic(auto, using(sentry_rows::proofs::Answering::no_object_fails), unfolding(crate::specs::AuthFields::auth_table))]
 fn read_rows<N: Node>(alloc: Global, node: &N) -> Result<Auth, TreeError>
     ensures rows { Reads auth_table rows_cell (N.data_of node.now) result }
     ensures untimed { IfOk result (λ auth. auth.timestamp ≡ None) }
 {
-    let mut from = Reader::new(alloc, object(alloc, node)?);
+    let mut from = Reader::new(alloc, node)?;
     let auth = Auth {
         timestamp: None,
         client: from.optional_or_null("sentry_client"),
@@ -82,10 +81,7 @@ fn read_rows<N: Node>(alloc: Global, node: &N) -> Result<Auth, TreeError>
         secret: from.optional_or_null("sentry_secret"),
         version: from.required("sentry_version", LATEST),
     };
-    match from.failed {
-        None => Ok(auth),
-        Some(error) => Err(error),
-    }
+    from.end(auth)
 }
 
 impl FromTree for Auth {

@@ -1,46 +1,62 @@
-use Rattle.std.proofs.Common.{◌≡◌, Some, rules, [], ◌∷◌, ◌++◌, subst, sym, ap, ◌∙◌, append_assoc, string_cmp, string_bytes}
-use Rattle.std.specs.List.Sorted.{IsStrictlySortedBy}
-use Rattle.std.specs.Map.{keys_of}
-use Rattle.sentry_trees.specs.Nodes.{members_by}
+use Rattle.std.proofs.Common.{◌≡◌, Some, None, drop, arith, rules, true, false, zero, subst, sym, ◌∙◌, string_bytes}
+use Rattle.std.specs.Prelude.{is_some}
+use Rattle.std.proofs.lemmas.List.{drop_all}
+use Rattle.serde_json.specs.Find.{get_member}
+use Rattle.sentry_trees.specs.Nodes.{named_by}
+use Rattle.sentry_trees.proofs.Latest.{one_passed_over, one_put, one_counts}
+use Rattle.sentry_members.specs.Cells.{entries}
 use Rattle.sentry_members.specs.Reading.{Only, Refused}
+use Rattle.sentry_tables.specs.Cell.{absent}
 use Rattle.sentry_tables.specs.Kind.{map}
-use Rattle.sentry_members.proofs.Sorted.{MapEntry}
-use Rattle.sentry_members.proofs.ListsShown.{not_map, map_fails, map_shown, map_more, shown_when}
+use Rattle.sentry_tables.specs.Shows.{Shows, MembersShow}
+use Rattle.sentry_members.proofs.ListsShown.{not_map, map_fails, map_shown, shown_key, shown_put, shown_when}
 use Rattle.sentry_members.proofs.read.MapStringFromTree.from_node.Goals as goal
 
 pub returns-in-None : goal.returns-in-None
 returns-in-None g c = not_map _ _ (search rules)
 
-pub loop-key-init : goal.loop-key-init
-loop-key-init g c =
-    let all : c.into_iter-key-iterator.result ≡ c.in-Some.members.entries = search rules in
-    ([], rw all (search rules), rw all c.iter-key-items.ensures.ordered, λ now. rw c.new-map.ensures.empty tt)
+pub loop-left-init : goal.loop-left-init
+loop-left-init g c = (omega arith, λ now. rw (drop_all c.len-left.result c.in-Some.members.items (omega arith), c.new-map.ensures.empty) tt)
+
+pub index-member-requires : goal.index-member-requires
+index-member-requires g c = omega (arith, c.loop-left.invariant.0)
+
+pub loop-left-preserved-then-contains_key : goal.loop-left-preserved-then-contains_key
+loop-left-preserved-then-contains_key g c =
+    let l = c.loop-left in
+    let ms = c.in-Some.members.items in
+    let m = c.index-member.result.now in
+    let later : is_some (get_member m.key.now (named_by g.N.Node.data_of (drop l.left ms))) ≡ true =
+    sym (shown_key (λ k. Shows g.T.Member.kind absent) g.T.Member.cell_of m.key.now _ l.map.entries (l.invariant.1 absent)) ∙ sym c.contains_key.ensures ∙ c.if-contains_key.true in
+    (omega (arith, l.invariant.0), λ now. rw (one_passed_over g.N.Node.data_of ms l.left m (omega arith) l.invariant.0 c.index-member.ensures later) (l.invariant.1 now))
 
 pub returns-in_err-from_node : goal.returns-in_err-from_node
 returns-in_err-from_node g c =
-    let l = c.loop-key in
-    let e : MapEntry g.row.N.Denot = (c.in-Some-2.key.now, c.in-Some-2.member.now) in
-    let h : Only c.in_err-from_node.field-0.0 (Refused (map g.T.Member.kind) (g.N.Node.data_of c.args.node.now)) = map_fails g.N.Node.data_of _ _ _ l.invariant.0 e c.next.new.self _ l.invariant.1 (ap (λ es. l.invariant.0 ++ es) c.in-Some-2.ensures.steps) c.in_err-from_node.ensures in
+    let l = c.loop-left in
+    let ms = c.in-Some.members.items in
+    let m = c.index-member.result.now in
+    let last : is_some (get_member m.key.now (named_by g.N.Node.data_of (drop l.left ms))) ≡ false =
+    sym (shown_key (λ k. Shows g.T.Member.kind absent) g.T.Member.cell_of m.key.now _ l.map.entries (l.invariant.1 absent)) ∙ sym c.contains_key.ensures ∙ c.if-contains_key.false in
+    let at = one_counts g.N.Node.data_of ms l.left m (omega arith) l.invariant.0 c.index-member.ensures last in
+    let h : Only c.in_err-from_node.field-0.0 (Refused (map g.T.Member.kind) (g.N.Node.data_of c.args.node.now)) =
+    map_fails _ _ (named_by g.N.Node.data_of ms) m.key.now (g.N.Node.data_of m.node) _ (search rules) at c.in_err-from_node.ensures in
     search rules
 
-pub loop-key-preserved : goal.loop-key-preserved
-loop-key-preserved g c =
-    let l = c.loop-key in
-    let done = l.invariant.0 in
-    let e : MapEntry g.row.N.Denot = (c.in-Some-2.key.now, c.in-Some-2.member.now) in
-    let left = c.next.new.self in
-    let split : done ++ l.key-iterator ≡ done ++ e ∷ left = ap (λ es. done ++ es) c.in-Some-2.ensures.steps in
-    let steps : done ++ l.key-iterator ≡ (done ++ e ∷ []) ++ left = split ∙ sym (append_assoc done (e ∷ []) left) in
-    let named : string_bytes c.in_ok-name.name ≡ string_bytes e.0 = c.in_ok-name.ensures.cases in
-    let sorted = subst (λ es. IsStrictlySortedBy string_cmp (keys_of es)) split l.invariant.2 in (
-      done ++ e ∷ [],
-      l.invariant.1 ∙ ap (λ es. Some (members_by g.N.Node.data_of es)) steps,
-      subst (λ es. IsStrictlySortedBy string_cmp (keys_of es)) steps l.invariant.2,
-      λ now. rw c.in_ok-insert.ensures.entries (map_more g.N.Node.data_of _ _ done e left c.in_ok-name.name _ c.in_ok-from_node.field-0 sorted named (l.invariant.3 now) (shown_when now _ _ _ c.in_ok-from_node.ensures)),
+pub loop-left-preserved : goal.loop-left-preserved
+loop-left-preserved g c =
+    let l = c.loop-left in
+    let ms = c.in-Some.members.items in
+    let m = c.index-member.result.now in
+    let last : is_some (get_member m.key.now (named_by g.N.Node.data_of (drop l.left ms))) ≡ false =
+    sym (shown_key (λ k. Shows g.T.Member.kind absent) g.T.Member.cell_of m.key.now _ l.map.entries (l.invariant.1 absent)) ∙ sym c.contains_key.ensures ∙ c.if-contains_key.false in
+    let named : string_bytes c.in_ok-name.name ≡ m.key.now = c.in_ok-name.ensures.ok in (
+      omega (arith, l.invariant.0),
+      λ now.
+          rw (one_put g.N.Node.data_of ms l.left m (omega arith) l.invariant.0 c.index-member.ensures last, ← named, c.in_ok-insert.ensures.entries)
+          (shown_put (λ k. Shows g.T.Member.kind now) g.T.Member.cell_of c.in_ok-name.name _ c.in_ok-from_node.field-0 _ l.map.entries (shown_when now _ _ _ c.in_ok-from_node.ensures) (l.invariant.1 now)),
     )
 
 pub returns : goal.returns
 returns g c =
-    let l = c.loop-key in
-    let ends : l.invariant.0 ++ l.key-iterator ≡ l.invariant.0 = search rules in
-    map_shown g.N.Node.data_of _ _ _ l.invariant.0 _ (rw ends at l.invariant.1) l.invariant.3
+    let done : c.loop-left.left ≡ zero = omega arith in
+    map_shown _ _ _ (named_by g.N.Node.data_of c.in-Some.members.items) _ (search rules) (λ now. subst (λ n. MembersShow (λ k. Shows g.T.Member.kind now) (named_by g.N.Node.data_of (drop n c.in-Some.members.items)) (entries g.T.Member.cell_of c.loop-left.map.entries)) done (c.loop-left.invariant.1 now))

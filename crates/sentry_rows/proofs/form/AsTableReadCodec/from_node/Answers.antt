@@ -1,10 +1,5 @@
-use Rattle.std.proofs.Common.{ap, ◌∙◌}
-use Rattle.sentry_trees.specs.Nodes.{tree_of}
-use Rattle.sentry_readers.proofs.Reading.{table_read, table_failed}
+use Rattle.sentry_rows.proofs.Reading.{table_ends}
 use Rattle.sentry_rows.proofs.form.AsTableReadCodec.from_node.Goals as goal
 
-pub returns-in-None : goal.returns-in-None
-returns-in-None g c = table_read g.N.Node.data_of g.T.Table.lines c.read-value.result _ _ _ (ap (tree_of g.N.Node.data_of) c.new-from.ensures.object ∙ c.in_ok-object.ensures.ok) c.read-value.ensures c.in-None.is
-
 pub returns : goal.returns
-returns g c = table_failed g.N.Node.data_of g.T.Table.lines c.read-value.result _ _ _ _ (ap (tree_of g.N.Node.data_of) c.new-from.ensures.object ∙ c.in_ok-object.ensures.ok) c.read-value.ensures c.new-from.ensures.failed c.in-Some.is
+returns g c = table_ends g.N.Node.data_of g.T.Table.lines c.read-value.result _ _ _ _ c.in_ok-from.ensures.object c.read-value.ensures c.in_ok-from.ensures.failed c.end.ensures

@@ -1,3 +1,0 @@
-pub mod Giving
-pub mod Merging
-pub mod RowByRow

@@ -1,2 +1,0 @@
-pub mod Merged
-pub mod Told

@@ -1,3 +1,0 @@
-pub mod Answering
-pub mod Reading
-pub mod RowLemmas

@@ -1,0 +1,64 @@
+-- What a reader of a table's rows has read.
+use Rattle.std.specs.Prelude.{◌≡◌, ◌⊎◌, List, [], ◌∷◌, ℕ, Some, None, Result, Ok, Err, ⊤}
+use Rattle.serde_json.specs.Data.{Data, Members}
+use Rattle.sentry_trees.specs.Nodes.{tree_of}
+use Rattle.sentry_tables.specs.Cell.{Cell, Cells, no_cells, cell}
+use Rattle.sentry_tables.specs.Fields.{Field}
+use Rattle.sentry_tables.specs.Kind.{Rule, Kind, Rows, no_rows, row, without}
+use Rattle.sentry_tables.specs.Shows.{members_in}
+use Rattle.sentry_members.specs.Reading.{RowShown, RowRefused, RowShownAt, RowRefusedAt}
+use Rattle.sentry_members.specs.declared.error.TreeError.{TreeError}
+use Rattle.sentry_members.specs.declared.error.TreeError.TheVariants.{Misfit}
+use Rattle.sentry_rows.specs.declared.reader.Reader.{Reader}
+
+-- the tree of a reader, whatever holds it
+abbrev pub read_of : {N : Type 0} → (N → Data) → Reader N → Data
+read_of data_of r = tree_of data_of r.object
+
+-- what was read stands, or its failure is remembered, but for an earlier one
+unfoldable pub Keeps : {A N : Type 0} → Result A TreeError → A → Reader N → Reader N → Type 0
+Keeps read v a b =
+    (b.object ≡ a.object) × (b.failed ≡ None → (a.failed ≡ None) × (read ≡ Ok v)) × ((e : TreeError) → b.failed ≡ Some e → (a.failed ≡ Some e) ⊎ (read ≡ Err e))
+
+-- the value is answered where nothing has failed, and else what has
+abbrev pub Ends : {A N : Type 0} → Reader N → A → Result A TreeError → Type 0
+Ends z v (Ok w) = (z.failed ≡ None) × (w ≡ v)
+Ends z v (Err e) = z.failed ≡ Some e
+
+-- while nothing fails the row shows the value, and a misfit comes only where the row is refused
+unfoldable pub ReadsField : {N : Type 0} → (N → Data) → List ℕ → Rule → Kind → Cell → Reader N → Reader N → Type 0
+ReadsField data_of key r K c a b =
+    (b.object ≡ a.object) × (b.failed ≡ None → (a.failed ≡ None) × RowShown key r K (read_of data_of a) c) × (b.failed ≡ Some Misfit → (a.failed ≡ Some Misfit) ⊎ RowRefused key r K (read_of data_of a))
+
+-- each row of the table was read, from one state of the reader to the next
+abbrev pub ReadsFields : {A N : Type 0} → (N → Data) → List (Field A) → A → Reader N → Reader N → Type 0
+ReadsFields data_of [] v a z = a ≡ z
+ReadsFields {A} {N} data_of (f ∷ fs) v a z = (b : Reader N) × ReadsField data_of f.key f.rule f.kind (f.part v) a b × ReadsFields data_of fs v b z
+
+abbrev pub RowsShown : Rows → Data → Cells → Type 0
+RowsShown no_rows d no_cells = ⊤
+RowsShown no_rows d (cell c cs) = ⊥
+RowsShown (row key r K rows) d no_cells = ⊥
+RowsShown (row key r K rows) d (cell c cs) = RowShown key r K d c × RowsShown rows d cs
+
+-- while nothing fails these are the members of other keys; no misfit comes of them
+unfoldable pub ReadsOthers : {N : Type 0} → (N → Data) → List (List ℕ) → Members → Reader N → Reader N → Type 0
+ReadsOthers data_of names others a b =
+    (b.object ≡ a.object) × (b.failed ≡ None → (a.failed ≡ None) × (others ≡ without names (members_in (read_of data_of a)))) × (b.failed ≡ Some Misfit → a.failed ≡ Some Misfit)
+
+-- each row of the table was read, and then the members of other keys
+abbrev pub ReadsKept : {A N : Type 0} → (N → Data) → List (Field A) → List (List ℕ) → A → Members → Reader N → Reader N → Type 0
+ReadsKept {A} {N} data_of fs names v others a z = (b : Reader N) × ReadsFields data_of fs v a b × ReadsOthers data_of names others b z
+
+-- ---- at a moment
+
+-- while nothing fails the row shows the value now, and a misfit comes only where it is refused now
+unfoldable pub ReadsFieldAt : {N : Type 0} → (N → Data) → Cell → List ℕ → Rule → Kind → Cell → Reader N → Reader N → Type 0
+ReadsFieldAt data_of now key r K c a b =
+    (b.object ≡ a.object) × (b.failed ≡ None → (a.failed ≡ None) × RowShownAt now key r K (read_of data_of a) c) × (b.failed ≡ Some Misfit → (a.failed ≡ Some Misfit) ⊎ RowRefusedAt now key r K (read_of data_of a))
+
+-- each row of the table was read, at every moment or now, from one state of the reader to the next
+abbrev pub ReadsFieldsAt : {A N : Type 0} → (N → Data) → Cell → List (Field A) → A → Reader N → Reader N → Type 0
+ReadsFieldsAt data_of now [] v a z = a ≡ z
+ReadsFieldsAt {A} {N} data_of now (f ∷ fs) v a z =
+    (b : Reader N) × (ReadsField data_of f.key f.rule f.kind (f.part v) a b ⊎ ReadsFieldAt data_of now f.key f.rule f.kind (f.part v) a b) × ReadsFieldsAt data_of now fs v b z

@@ -1,0 +1,116 @@
+//! One row of a table, read: the member at a key, by the row's rule.
+
+ghost use Rattle.std.specs.Prelude.{◌≡◌, IfOk, IfErr, map as map_list};
+ghost use Rattle.serde_json.specs.View.{members_view};
+ghost use Rattle.sentry_trees.specs.Nodes.{tree_of};
+ghost use Rattle.sentry_tables.specs.Cell.{text};
+ghost use Rattle.sentry_tables.specs.Kind.{must, may, may_strict, default as default_rule, without};
+ghost use Rattle.sentry_tables.specs.Shows.{members_in};
+ghost use Rattle.sentry_members.specs.Cells.{text_cell, option_cell};
+ghost use Rattle.sentry_members.specs.Kinds.{text_kind};
+ghost use Rattle.sentry_members.specs.Reading.{ReadsRow};
+ghost use Rattle.sentry_members.specs.declared.error.TreeError.TheVariants.{Memory};
+
+use sentry_members::codec::DefaultedCodec;
+use sentry_members::{FromTree, ReadCodec, TreeError};
+use sentry_trees::{Node, Object};
+use serde_json::{Map, Value};
+use std::alloc::{AllocError, Global};
+
+/// A row that has to be there; `Misfit` where it isn't.
+#[tactic(auto, using(crate::proofs::RowLemmas::must_missing, crate::proofs::RowLemmas::must_read))]
+pub(crate) fn required_as<F: ReadCodec<T>, T, N: Node>(
+    alloc: Global,
+    object: &Object<'_, N>,
+    key: &str,
+) -> Result<T, TreeError>
+    ensures { ReadsRow key.now must F.kind F.cell_of (tree_of N.data_of object.now) result }
+{
+    match object.get(key) {
+        Some(member) => F::from_node(alloc, member),
+        None => Err(TreeError::Misfit),
+    }
+}
+
+/// A row that may be absent or null.
+#[tactic(auto, using(crate::proofs::RowLemmas::may_absent, crate::proofs::RowLemmas::may_is_null, crate::proofs::RowLemmas::may_shown, crate::proofs::RowLemmas::may_fails))]
+pub(crate) fn optional_as<F: ReadCodec<T>, T, N: Node>(
+    alloc: Global,
+    object: &Object<'_, N>,
+    key: &str,
+) -> Result<Option<T>, TreeError>
+    ensures { ReadsRow key.now may F.kind (option_cell F.cell_of) (tree_of N.data_of object.now) result }
+{
+    match object.get(key) {
+        None => Ok(None),
+        Some(member) if member.is_null() => Ok(None),
+        Some(member) => Ok(Some(F::from_node(alloc, member)?)),
+    }
+}
+
+/// A row that may be absent, but not null.
+#[tactic(auto, using(crate::proofs::RowLemmas::may_strict_absent, crate::proofs::RowLemmas::may_strict_shown, crate::proofs::RowLemmas::may_strict_fails))]
+pub(crate) fn optional_strict_as<F: ReadCodec<T>, T, N: Node>(
+    alloc: Global,
+    object: &Object<'_, N>,
+    key: &str,
+) -> Result<Option<T>, TreeError>
+    ensures { ReadsRow key.now may_strict F.kind (option_cell F.cell_of) (tree_of N.data_of object.now) result }
+{
+    let Some(member) = object.get(key) else {
+        return Ok(None);
+    };
+    Ok(Some(F::from_node(alloc, member)?))
+}
+
+/// A text with a default.
+#[tactic(auto, using(crate::proofs::RowLemmas::default_absent, crate::proofs::RowLemmas::default_read))]
+pub(crate) fn text_or<N: Node>(
+    alloc: Global,
+    object: &Object<'_, N>,
+    key: &str,
+    default: &str,
+) -> Result<String, TreeError>
+    ensures { ReadsRow key.now (default_rule (text default.now)) text_kind text_cell (tree_of N.data_of object.now) result }
+{
+    match object.get(key) {
+        Some(member) => FromTree::from_node(alloc, member),
+        None => Ok(String::from_str(alloc, default)?),
+    }
+}
+
+/// A form whose usual value is made, which takes memory.
+pub trait MadeCodec<T>: ReadCodec<T> + DefaultedCodec<T> {
+    /// The usual value. It fails where memory is refused.
+    fn make(alloc: Global) -> Result<T, AllocError>
+        ensures { IfOk result (λ v. Self.cell_of v ≡ Self.usual) };
+}
+
+/// A row with a default that is made, and stands where nothing is given.
+#[tactic(auto, using(crate::proofs::RowLemmas::default_absent, crate::proofs::RowLemmas::default_read))]
+pub(crate) fn made_as<F: MadeCodec<T>, T, N: Node>(
+    alloc: Global,
+    object: &Object<'_, N>,
+    key: &str,
+) -> Result<T, TreeError>
+    ensures { ReadsRow key.now (default_rule F.usual) F.kind F.cell_of (tree_of N.data_of object.now) result }
+{
+    match object.get(key) {
+        Some(member) => F::from_node(alloc, member),
+        None => Ok(F::make(alloc)?),
+    }
+}
+
+/// The members of other keys than the names.
+#[tactic(auto, using(sentry_writing::proofs::Others::members_left))]
+pub(crate) fn others<N: Node>(
+    alloc: Global,
+    object: &Object<'_, N>,
+    names: &[&str],
+) -> Result<Map<String, Value>, TreeError>
+    ensures ok { IfOk result (λ m. members_view m.entries
+        ≡ without (map_list (λ name. name.now) names.now) (members_in (tree_of N.data_of object.now))) }
+    ensures err { IfErr result (λ e. e ≡ Memory) }
+{
+    Ok(object.members_beside(alloc, names)?)
+}

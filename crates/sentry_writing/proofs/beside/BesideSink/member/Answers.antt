@@ -1,0 +1,6 @@
+use Rattle.std.proofs.Common.{refl}
+use Rattle.sentry_writing.proofs.Merging.{member_merged}
+use Rattle.sentry_writing.proofs.beside.BesideSink.member.Goals as goal
+
+pub returns : goal.returns
+returns g c = ((refl, member_merged g.S.Sink.Adds g.met.S.Sink.joined _ _ _ _ _ _ _ c.hand_before.ensures c.member.ensures.0), tt)

@@ -1,0 +1,13 @@
+use Rattle.std.proofs.Common.{rules, sym, subst}
+use Rattle.sentry_tables.specs.Fields.{rows_of, cells_by}
+use Rattle.sentry_tables.specs.Written.{rows_given}
+use Rattle.sentry_members.specs.Written.{WritesMembers}
+use Rattle.sentry_writing.proofs.OfTables.{while_none}
+use Rattle.sentry_writing.proofs.table.write_own.Goals as goal
+
+pub returns-in-None : goal.returns-in-None
+returns-in-None g c =
+    let ms = rows_given (rows_of g.T.Table.lines) (cells_by g.T.Table.lines c.args.value.now) in
+    let name = c.give.ensures.0 in
+    let q : WritesMembers ms c.args.out.now c.leave.new._sink = subst (λ s. WritesMembers ms c.args.out.now s) (sym c.leave.ensures) (while_none _ _ _ c.give.ensures.1 c.in-None.is) in
+    search rules

@@ -1,0 +1,19 @@
+//! What `==` says of lists under the key `values`.
+
+ghost use Rattle.std.specs.Prelude.{◌≡◌, ◌↔◌, true};
+ghost use Rattle.std.specs.Cmp.Lexicographic.{pointwise};
+ghost use Rattle.sentry_members.specs.Cells.{list_cell};
+ghost use Rattle.sentry_writing.specs.declared.values.Values.{Values as Lists};
+
+use crate::values::Values;
+use sentry_members::Member;
+
+/// Two lists are equal exactly where they have as many values, each equal to the one in its place; and
+/// so exactly where their cells are the same, if that is what `==` says of the values.
+#[tactic(auto, using(sentry_members::proofs::Equal::lists_decide))]
+pub fn equal_values<T: Member + PartialEq>()
+    ensures by_values { (a b : Lists T) → ⟦<Values<T> as PartialEq>⟧.eq a b ≡ pointwise T.eq a.values.items b.values.items }
+    ensures by_cells { ((x y : T) → T.eq x y ≡ true ↔ (T.cell_of x ≡ T.cell_of y))
+        → (a b : Lists T) → ⟦<Values<T> as PartialEq>⟧.eq a b ≡ true
+        ↔ (list_cell T.cell_of a.values.items ≡ list_cell T.cell_of b.values.items) }
+{}

@@ -1,0 +1,224 @@
+//! Where the members of one object go, key by key.
+
+ghost use Rattle.std.specs.Prelude.{IsUtf8, ⊤};
+ghost use Rattle.sentry_tables.specs.Meets.{IsPlain, IsStored};
+ghost use Rattle.serde_json.specs.Data.{Members, no_members, member, null, string};
+ghost use Rattle.sentry_tables.specs.Cell.{Cell, text as text_of};
+ghost use Rattle.sentry_tables.specs.Kind.{must, may, may_null, may_strict, default, always, draw, at_once, list as list_kind, map as map_kind, values as values_kind};
+ghost use Rattle.sentry_members.specs.Cells.{option_cell, list_cell, map_cell, empty_list, empty_map};
+ghost use Rattle.sentry_members.specs.Kinds.{text_kind};
+ghost use Rattle.sentry_writing.specs.Given.{both, Took, GivesRow};
+ghost use Rattle.sentry_members.specs.Written.{written};
+
+use crate::values::Values;
+use sentry_members::codec::DefaultedCodec;
+use sentry_members::member::{Defaulted, Usual};
+use sentry_members::{Codec, Drawn, Member, Own};
+use serde_json::Map;
+use std::convert::AsStr;
+
+/// What takes the members of one object. One that fails remembers it, and takes no more.
+pub trait Sink {
+    // from one state to a later one these members were taken
+    ghost Adds: { Self → Self → Members → Type 0 };
+
+    // from one state to a later one a value was tested that is plain where the first fact holds, and stored where the second does
+    ghost Tests: { Self → Self → Type 0 → Type 0 → Type 0 };
+
+    /// A member that holds a value.
+    fn member<F: Codec<T>, T>(&mut self, key: &str, value: &T)
+        ensures { Took Adds Tests (member key.now (written F.kind (F.cell_of value.now)) no_members)
+            (IsPlain F.kind (F.cell_of value.now)) (IsStored F.kind (F.cell_of value.now)) self.old self.new };
+
+    /// A member that is null.
+    fn null(&mut self, key: &str)
+        ensures { Took Adds Tests (member key.now null no_members) ⊤ ⊤ self.old self.new };
+
+    /// A member that is a text.
+    fn word(&mut self, key: &str, text: &str)
+        ensures { Took Adds Tests (member key.now (string text.now) no_members) ⊤ (IsUtf8 text.now) self.old self.new };
+
+    /// A value that no member holds, since its row leaves it out.
+    fn left_out<F: Codec<T>, T>(&mut self, value: &T)
+        ensures { Took Adds Tests no_members
+            (IsPlain F.kind (F.cell_of value.now)) (IsStored F.kind (F.cell_of value.now)) self.old self.new };
+
+    /// A text that no member holds, since its row leaves it out.
+    fn left_out_text(&mut self, text: &str)
+        ensures { Took Adds Tests no_members ⊤ (IsUtf8 text.now) self.old self.new };
+
+    /// A row without a value.
+    fn absent(&mut self)
+        ensures { Took Adds Tests no_members ⊤ ⊤ self.old self.new };
+
+    /// A row that has to be there.
+    #[tactic(auto, unfolding(crate::specs::Given::row_given, crate::specs::Given::GivesRow))]
+    final fn required_as<F: Codec<T>, T>(&mut self, key: &str, value: &T)
+        ensures { GivesRow Adds Tests key.now must F.kind (F.cell_of value.now) self.old self.new }
+    {
+        self.member::<F, T>(key, value)
+    }
+
+    /// A row that has to be there.
+    final fn required<T: Member>(&mut self, key: &str, value: &T)
+        ensures { GivesRow Adds Tests key.now must T.kind (T.cell_of value.now) self.old self.new }
+    {
+        self.required_as::<Own, T>(key, value)
+    }
+
+    /// A row that is left out where there is no value.
+    #[tactic(auto, unfolding(crate::specs::Given::row_given, crate::specs::Given::GivesRow))]
+    final fn optional_as<F: Codec<T>, T>(&mut self, key: &str, value: &Option<T>)
+        ensures { GivesRow Adds Tests key.now may F.kind (option_cell F.cell_of value.now) self.old self.new }
+    {
+        match value {
+            Some(value) => self.member::<F, T>(key, value),
+            None => self.absent(),
+        }
+    }
+
+    /// A row that is left out where there is no value.
+    final fn optional<T: Member>(&mut self, key: &str, value: &Option<T>)
+        ensures { GivesRow Adds Tests key.now may T.kind (option_cell T.cell_of value.now) self.old self.new }
+    {
+        self.optional_as::<Own, T>(key, value)
+    }
+
+    /// A row that is null where there is no value.
+    #[tactic(auto, unfolding(crate::specs::Given::row_given, crate::specs::Given::GivesRow))]
+    final fn optional_or_null<T: Member>(&mut self, key: &str, value: &Option<T>)
+        ensures { GivesRow Adds Tests key.now may_null T.kind (option_cell T.cell_of value.now) self.old self.new }
+    {
+        match value {
+            Some(value) => self.member::<Own, T>(key, value),
+            None => self.null(key),
+        }
+    }
+
+    /// A row that is left out where there is no value, and may not be null.
+    #[tactic(auto, unfolding(crate::specs::Given::row_given, crate::specs::Given::GivesRow))]
+    final fn optional_strict_as<F: Codec<T>, T>(&mut self, key: &str, value: &Option<T>)
+        ensures { GivesRow Adds Tests key.now may_strict F.kind (option_cell F.cell_of value.now) self.old self.new }
+    {
+        match value {
+            Some(value) => self.member::<F, T>(key, value),
+            None => self.absent(),
+        }
+    }
+
+    /// A row with a default that is written whatever it holds.
+    #[tactic(auto, unfolding(crate::specs::Given::row_given, crate::specs::Given::GivesRow))]
+    final fn always<T: Member>(&mut self, key: &str, value: &T)
+        ensures { (e : Cell) → GivesRow Adds Tests key.now (always e) T.kind (T.cell_of value.now) self.old self.new }
+    {
+        self.member::<Own, T>(key, value)
+    }
+
+    /// A row whose default is the moment of reading, written whatever it holds.
+    #[tactic(auto, unfolding(crate::specs::Given::row_given, crate::specs::Given::GivesRow))]
+    final fn at_once_as<F: Codec<T>, T>(&mut self, key: &str, value: &T)
+        ensures { GivesRow Adds Tests key.now at_once F.kind (F.cell_of value.now) self.old self.new }
+    {
+        self.member::<F, T>(key, value)
+    }
+
+    /// A row whose default is drawn, written whatever it holds.
+    #[tactic(auto, unfolding(crate::specs::Given::row_given, crate::specs::Given::GivesRow))]
+    final fn drawn_as<F: Drawn<T>, T>(&mut self, key: &str, value: &T)
+        ensures { GivesRow Adds Tests key.now (draw F.IsDrawn) F.kind (F.cell_of value.now) self.old self.new }
+    {
+        self.member::<F, T>(key, value)
+    }
+
+    /// A list that is left out where it is empty.
+    #[tactic(auto, unfolding(crate::specs::Given::row_given, crate::specs::Given::GivesRow))]
+    final fn list<T: Member>(&mut self, key: &str, list: &Vec<T>)
+        ensures { GivesRow Adds Tests key.now (default empty_list) (list_kind T.kind) (list_cell T.cell_of list.now.items) self.old self.new }
+    {
+        if list.is_empty() {
+            self.left_out::<Own, Vec<T>>(list)
+        } else {
+            self.member::<Own, Vec<T>>(key, list)
+        }
+    }
+
+    /// A list with an empty default that is written whatever it holds.
+    #[tactic(auto, unfolding(crate::specs::Given::row_given, crate::specs::Given::GivesRow))]
+    final fn written_list<T: Member>(&mut self, key: &str, list: &Vec<T>)
+        ensures { GivesRow Adds Tests key.now (always empty_list) (list_kind T.kind) (list_cell T.cell_of list.now.items) self.old self.new }
+    {
+        self.member::<Own, Vec<T>>(key, list)
+    }
+
+    /// A map that is left out where it is empty.
+    #[tactic(auto, unfolding(crate::specs::Given::row_given, crate::specs::Given::GivesRow))]
+    final fn map<T: Member>(&mut self, key: &str, map: &Map<String, T>)
+        ensures { GivesRow Adds Tests key.now (default empty_map) (map_kind T.kind) (map_cell T.cell_of map.now.entries) self.old self.new }
+    {
+        if map.is_empty() {
+            self.left_out::<Own, Map<String, T>>(map)
+        } else {
+            self.member::<Own, Map<String, T>>(key, map)
+        }
+    }
+
+    /// A list under the key `values` that is left out where it is empty.
+    #[tactic(auto, unfolding(crate::specs::Given::row_given, crate::specs::Given::GivesRow))]
+    final fn values<T: Member>(&mut self, key: &str, list: &Values<T>)
+        ensures { GivesRow Adds Tests key.now (default empty_list) (values_kind T.kind) (list_cell T.cell_of list.now.values.items) self.old self.new }
+    {
+        if list.values.is_empty() {
+            self.left_out::<Own, Values<T>>(list)
+        } else {
+            self.member::<Own, Values<T>>(key, list)
+        }
+    }
+
+    /// A text that is left out where it is the usual one.
+    #[tactic(auto, unfolding(crate::specs::Given::row_given, crate::specs::Given::GivesRow, sentry_members::specs::Written::written))]
+    final fn text_unless<T: AsStr>(&mut self, key: &str, value: &T, usual: &str)
+        ensures { GivesRow Adds Tests key.now (default (text_of usual.now)) text_kind (text_of (T.text value.now)) self.old self.new }
+    {
+        let text = value.as_str();
+        if text == usual {
+            self.left_out_text(text)
+        } else {
+            self.word(key, text)
+        }
+    }
+
+    /// A value that is left out where it is the usual one.
+    #[tactic(auto, unfolding(crate::specs::Given::row_given, crate::specs::Given::GivesRow))]
+    final fn unless<T: Usual>(&mut self, key: &str, value: &T, usual: &T)
+        ensures { GivesRow Adds Tests key.now (default (T.cell_of usual.now)) T.kind (T.cell_of value.now) self.old self.new }
+    {
+        if value.is(usual) {
+            self.left_out::<Own, T>(value)
+        } else {
+            self.member::<Own, T>(key, value)
+        }
+    }
+
+    /// A value that is left out where it is the usual one of its form.
+    #[tactic(auto, unfolding(crate::specs::Given::row_given, crate::specs::Given::GivesRow))]
+    final fn unless_usual_as<F: DefaultedCodec<T>, T>(&mut self, key: &str, value: &T)
+        ensures { GivesRow Adds Tests key.now (default F.usual) F.kind (F.cell_of value.now) self.old self.new }
+    {
+        if F::is_usual(value) {
+            self.left_out::<F, T>(value)
+        } else {
+            self.member::<F, T>(key, value)
+        }
+    }
+
+    /// A value that is left out where it is the usual one of its type.
+    final fn unless_usual<T: Defaulted>(&mut self, key: &str, value: &T)
+        ensures { GivesRow Adds Tests key.now (default T.usual) T.kind (T.cell_of value.now) self.old self.new }
+    {
+        self.unless_usual_as::<Own, T>(key, value)
+    }
+
+    ghost nothing: { (s : Self) → Adds s s no_members };
+
+    ghost joined: { (a b c : Self) (ms ns : Members) → Adds a b ms → Adds b c ns → Adds a c (both ms ns) };
+}

@@ -1,0 +1,156 @@
+//! Types that are written row by row.
+
+ghost use Rattle.std.specs.Prelude.{◌≡◌, ◌++◌, ℕ, List, OnOk, IfOk, None, true, map as map_list};
+ghost use Rattle.serde_json.specs.Data.{Members, object};
+ghost use Rattle.serde_json.specs.View.{view, members_view};
+ghost use Rattle.sentry_tables.specs.Fields.{Field, table_of, fields_by, rows_of, cells_by};
+ghost use Rattle.sentry_tables.specs.Kind.{keys};
+ghost use Rattle.sentry_tables.specs.Written.{put_all, rows_given, in_order};
+ghost use Rattle.sentry_members.specs.Written.{written, WritesTree, WritesMembers};
+ghost use Rattle.sentry_writing.specs.Given.{GivesRows, case_written};
+ghost use Rattle.sentry_writing.specs.Sinks.{members_so_far, tag_left};
+
+use crate::beside::{Others, Tag, rows_among};
+use crate::sink::Sink;
+use crate::text::TextRows;
+use crate::tree::TreeRows;
+use json::Writer;
+use serde_json::{Map, Value};
+use std::alloc::{AllocError, Global};
+
+/// A type whose values are the rows of a table.
+pub trait Table: Sized + Drop {
+    // the table, a line for each row, in the order of the keys
+    ghost lines: { List (Field Self) };
+
+    /// Gives the rows.
+    fn rows<S: Sink>(&self, to: &mut S)
+        ensures { GivesRows S.Adds S.Tests lines self.now to.old to.new };
+
+    /// Gives the members that the rows are written as.
+    final fn give<S: Sink>(&self, to: &mut S)
+        ensures { S.Adds to.old to.new (rows_given (rows_of lines) (cells_by lines self.now)) }
+    {
+        self.rows(to)
+    }
+
+    ghost ordered: { in_order (keys (rows_of lines)) ≡ true };
+}
+
+/// A table that keeps the members of other keys.
+pub trait KeptTable: Table {
+    // keys that these members may not have, beside those of the rows
+    ghost reserved: { List (List ℕ) };
+
+    ghost others_of: { Self → Members };
+
+    /// The members that no row names.
+    fn others(&self) -> &Map<String, Value>
+        ensures { members_view result.now.entries ≡ others_of self.now };
+
+    /// The keys that these members may not have.
+    fn names() -> &'static [&'static str]
+        ensures { map_list (λ name. name.now) result.now ≡ reserved ++ keys (rows_of Self.lines) };
+}
+
+/// Ends the loan of a writer, which stays as it is.
+pub fn leave<S>(_sink: &mut S)
+    ensures { _sink.new ≡ _sink.old }
+{}
+
+/// The tree of a value's rows, put among members. It fails where memory runs out.
+pub fn rows_tree<T: Table>(value: &T, mut rows: TreeRows) -> Result<Value, AllocError>
+    ensures { IfOk result (λ t. (rows.failed ≡ None)
+        × (view t ≡ object (put_all (rows_given (rows_of T.lines) (cells_by T.lines value.now)) (members_so_far rows)))) }
+{
+    value.give(&mut rows);
+    rows.into_tree()
+}
+
+// Writes the members of a value's rows, with a tag and others among them.
+fn write_members<T: Table, L: Others>(
+    value: &T,
+    tag: Tag<'_>,
+    others: L,
+    out: &mut Writer,
+) -> Result<(), AllocError>
+    ensures { OnOk result (WritesMembers (put_all (put_all
+        (rows_given (rows_of T.lines) (cells_by T.lines value.now)) (tag_left tag.entry.word)) (L.left others)) out.old out.new) }
+{
+    let mut text = TextRows { out, failed: None };
+    rows_among(value, tag, others, &mut text);
+    let TextRows { out, failed } = text;
+    leave(out);
+    match failed {
+        None => Ok(()),
+        Some(error) => Err(error),
+    }
+}
+
+/// Writes the text of a value's rows, with a tag and others among them. It fails where memory runs out, with a part of
+/// the text written.
+pub fn write_rows<T: Table, L: Others>(
+    value: &T,
+    tag: Tag<'_>,
+    others: L,
+    out: &mut Writer,
+) -> Result<(), AllocError>
+    ensures { OnOk result (WritesTree (object (put_all (put_all
+        (rows_given (rows_of T.lines) (cells_by T.lines value.now)) (tag_left tag.entry.word)) (L.left others))) out.old out.new) }
+{
+    out.begin_object()?;
+    write_members(value, tag, others, out)?;
+    out.end_object()
+}
+
+// Writes the members of a value's rows.
+fn write_own<T: Table>(value: &T, out: &mut Writer) -> Result<(), AllocError>
+    ensures { OnOk result (WritesMembers (rows_given (rows_of T.lines) (cells_by T.lines value.now)) out.old out.new) }
+{
+    let mut text = TextRows { out, failed: None };
+    value.give(&mut text);
+    let TextRows { out, failed } = text;
+    leave(out);
+    match failed {
+        None => Ok(()),
+        Some(error) => Err(error),
+    }
+}
+
+/// The written tree of a table's value. It fails where memory runs out.
+pub fn table_tree<T: Table>(value: &T, alloc: Global) -> Result<Value, AllocError>
+    ensures { IfOk result (λ t. view t ≡ written (table_of T.lines) (fields_by T.lines value.now)) }
+{
+    rows_tree(value, TreeRows::new(alloc))
+}
+
+/// Writes the text of that tree. It fails where memory runs out, with a part of the text written.
+pub fn write_table<T: Table>(value: &T, out: &mut Writer) -> Result<(), AllocError>
+    ensures { OnOk result (WritesTree (written (table_of T.lines) (fields_by T.lines value.now)) out.old out.new) }
+{
+    out.begin_object()?;
+    write_own(value, out)?;
+    out.end_object()
+}
+
+/// The written tree of a case: its rows, put among its tag and members. It fails where memory runs out.
+pub fn case_tree<T: Table>(value: &T, word: &str, mut rows: TreeRows) -> Result<Value, AllocError>
+    ensures { IfOk result (λ t. (rows.failed ≡ None)
+        × (view t ≡ case_written word.now (rows_of T.lines) (cells_by T.lines value.now) (members_so_far rows))) }
+{
+    rows.word("type", word);
+    rows_tree(value, rows)
+}
+
+/// Writes the text of that tree. It fails where memory runs out, with a part of the text written.
+pub fn write_case<T: Table, L: Others>(
+    value: &T,
+    word: &str,
+    others: L,
+    out: &mut Writer,
+) -> Result<(), AllocError>
+    ensures { OnOk result (WritesTree
+        (case_written word.now (rows_of T.lines) (cells_by T.lines value.now) (L.left others)) out.old out.new) }
+{
+    write_rows(value, Tag::new(word), others, out)
+}
