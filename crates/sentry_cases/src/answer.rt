@@ -3,11 +3,14 @@
 use crate::auths::{of_header, of_pairs, of_query};
 use crate::bytes::{decoded, of_bytes};
 use crate::dsns::of_dsn;
+use crate::equal::of_two_trees;
+use crate::ledger::of_history;
+use crate::made::{of_other_unit, of_parts};
 use crate::numbers::of_numbers;
 use crate::said::{refused, text, unknown};
 use crate::texts::of_text;
 use sentry_members::read_tree;
-use serde_json::Value;
+use sentry_types::protocol::v7::Value;
 use std::alloc::{AllocError, Global};
 
 // The pairs of a list of lists of two texts; others are left out.
@@ -25,6 +28,14 @@ fn pairs_of<'a>(alloc: Global, items: &'a [Value]) -> Result<Vec<(&'a str, &'a s
 }
 
 fn of_list(alloc: Global, name: &str, items: &[Value]) -> Result<Value, AllocError> {
+    if let Some(name) = name.strip_prefix("equal ")
+        && let [one, other] = items
+    {
+        return of_two_trees(alloc, name, one, other);
+    }
+    if let Some(answer) = of_parts(alloc, name, items)? {
+        return Ok(answer);
+    }
     match name {
         "Auth::from_pairs" => of_pairs(alloc, pairs_of(alloc, items)?.as_slice()),
         _ => of_numbers(alloc, name, items),
@@ -36,9 +47,11 @@ fn of_string(alloc: Global, name: &str, given: &str) -> Result<Value, AllocError
         return Ok(answer);
     }
     match name {
+        "Metric with the unit Other" => of_other_unit(alloc, given),
         "Dsn" => of_dsn(alloc, given),
         "Auth" => of_header(alloc, given),
         "Auth::from_querystring" => of_query(alloc, given.as_bytes()),
+        "ledger" => of_history(alloc, given),
         _ => match of_text(alloc, name, given)? {
             Some(answer) => Ok(answer),
             None => unknown(alloc),

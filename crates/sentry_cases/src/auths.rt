@@ -1,9 +1,8 @@
 //! Authentications.
 
 use crate::said::{list, maybe, refused, shown, text};
-use sentry_keys::{Auth, ParseAuthError};
-use sentry_members::Member;
-use serde_json::Value;
+use sentry_types::protocol::v7::{Member, Value};
+use sentry_types::{Auth, ParseAuthError};
 use std::alloc::{AllocError, Global};
 
 // The text, the parts and the tree of an authentication.

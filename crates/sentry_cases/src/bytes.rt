@@ -1,11 +1,12 @@
 //! Answers to bytes.
 
 use crate::envelopes::{of_envelope, of_frames, of_losses, of_raw, of_rewritten};
-use crate::filters::of_filter;
+use crate::filters::{of_answers, of_filter};
 use crate::form::of_tape;
+use crate::ledger::of_recorded;
 use crate::said::{list, text};
 use crate::trees::of_tree;
-use serde_json::Value;
+use sentry_types::protocol::v7::Value;
 use std::alloc::{AllocError, Global};
 use std::str;
 
@@ -35,6 +36,12 @@ pub fn of_bytes(alloc: Global, name: &str, bytes: &[u8]) -> Result<Option<Value>
     }
     if let Some(words) = name.strip_prefix("filter ") {
         return Ok(Some(of_filter(alloc, words, bytes)?));
+    }
+    if let Some(words) = name.strip_prefix("recorded ") {
+        return Ok(Some(of_recorded(alloc, words, bytes)?));
+    }
+    if let Some(words) = name.strip_prefix("asked ") {
+        return Ok(Some(of_answers(alloc, words, bytes)?));
     }
     Ok(Some(match name {
         "tape" => of_tape(alloc, bytes)?,

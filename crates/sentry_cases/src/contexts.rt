@@ -1,22 +1,58 @@
 //! Contexts that lines of JSON show.
 
-use crate::form::{form_at, own, own_at};
-use sentry_contexts::{
-    AppContext, BrowserContext, Context, DeviceContext, GpuContext, OsContext, OtelContext,
-    ResponseContext, RuntimeContext, TraceContext,
-};
+use crate::form::{by_tree, by_tree_at, cloned, cloned_at, form_at};
+use crate::said::{list, refused, text};
 use sentry_rows::AsCaseMap;
-use serde_json::{Map, Value};
+use sentry_types::protocol::v7::{
+    AppContext, BrowserContext, Context, DeviceContext, GpuContext, Map, Member, OsContext,
+    OtelContext, ResponseContext, RuntimeContext, TraceContext, TreeError, Value,
+};
 use std::alloc::{AllocError, Global};
+
+// The type and the tree of a context that is made of its struct.
+fn boxed<T: Drop, C: FnOnce(Global, T) -> Result<Context, T>>(
+    alloc: Global,
+    read: Result<T, TreeError>,
+    boxing: C,
+) -> Result<Value, AllocError>
+    requires { C.IsAlwaysCallable boxing }
+{
+    match read {
+        Ok(value) => match boxing(alloc, value) {
+            Ok(context) => {
+                let name = text(alloc, context.type_name())?;
+                list(alloc, [name, context.to_tree(alloc)?])
+            }
+            Err(_) => text(alloc, "handed back"),
+        },
+        Err(error) => refused(alloc, &error),
+    }
+}
+
+// What a call that makes a context of a struct makes of what a line shows.
+fn of_boxing(alloc: Global, name: &str, line: &[u8]) -> Result<Option<Value>, AllocError> {
+    Ok(Some(match name {
+        "Context::device" => boxed(alloc, by_tree(alloc, line), Context::device)?,
+        "Context::os" => boxed(alloc, by_tree(alloc, line), Context::os)?,
+        "Context::runtime" => boxed(alloc, by_tree(alloc, line), Context::runtime)?,
+        "Context::app" => boxed(alloc, by_tree(alloc, line), Context::app)?,
+        "Context::browser" => boxed(alloc, by_tree(alloc, line), Context::browser)?,
+        "Context::trace" => boxed(alloc, by_tree_at(alloc, line), Context::trace)?,
+        "Context::gpu" => boxed(alloc, by_tree(alloc, line), Context::gpu)?,
+        "Context::otel" => boxed(alloc, by_tree(alloc, line), Context::otel)?,
+        "Context::response" => boxed(alloc, by_tree(alloc, line), Context::response)?,
+        _ => return Ok(None),
+    }))
+}
 
 fn of_system(alloc: Global, name: &str, line: &[u8]) -> Result<Option<Value>, AllocError> {
     Ok(Some(match name {
-        "DeviceContext" => own::<DeviceContext>(alloc, line)?,
-        "OsContext" => own::<OsContext>(alloc, line)?,
-        "RuntimeContext" => own::<RuntimeContext>(alloc, line)?,
-        "AppContext" => own::<AppContext>(alloc, line)?,
-        "BrowserContext" => own::<BrowserContext>(alloc, line)?,
-        "GpuContext" => own::<GpuContext>(alloc, line)?,
+        "DeviceContext" => cloned(alloc, line, DeviceContext::clone)?,
+        "OsContext" => cloned(alloc, line, OsContext::clone)?,
+        "RuntimeContext" => cloned(alloc, line, RuntimeContext::clone)?,
+        "AppContext" => cloned(alloc, line, AppContext::clone)?,
+        "BrowserContext" => cloned(alloc, line, BrowserContext::clone)?,
+        "GpuContext" => cloned(alloc, line, GpuContext::clone)?,
         _ => return Ok(None),
     }))
 }
@@ -26,11 +62,14 @@ pub fn of_context(alloc: Global, name: &str, line: &[u8]) -> Result<Option<Value
     if let Some(answer) = of_system(alloc, name, line)? {
         return Ok(Some(answer));
     }
+    if let Some(answer) = of_boxing(alloc, name, line)? {
+        return Ok(Some(answer));
+    }
     Ok(Some(match name {
-        "OtelContext" => own::<OtelContext>(alloc, line)?,
-        "ResponseContext" => own::<ResponseContext>(alloc, line)?,
-        "TraceContext" => own_at::<TraceContext>(alloc, line)?,
-        "Context" => own_at::<Context>(alloc, line)?,
+        "OtelContext" => cloned(alloc, line, OtelContext::clone)?,
+        "ResponseContext" => cloned(alloc, line, ResponseContext::clone)?,
+        "TraceContext" => cloned_at(alloc, line, TraceContext::clone)?,
+        "Context" => cloned_at(alloc, line, Context::clone)?,
         "Map<String, Context>" => form_at::<AsCaseMap, Map<String, Context>>(alloc, line)?,
         _ => return Ok(None),
     }))

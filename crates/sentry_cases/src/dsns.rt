@@ -1,11 +1,9 @@
 //! DSNs.
 
 use crate::said::{list, maybe, refused, shown, text};
-use sentry_keys::{ApiUrlError, Dsn};
-use sentry_moments::Moment;
-use serde_json::Value;
+use sentry_types::protocol::v7::{Moment, Url, Value};
+use sentry_types::{ApiUrlError, Dsn};
 use std::alloc::{AllocError, Global};
-use url::Url;
 
 fn of_url(alloc: Global, answer: &Result<Url, ApiUrlError>) -> Result<Value, AllocError> {
     match answer {

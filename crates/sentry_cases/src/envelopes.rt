@@ -3,11 +3,9 @@
 use crate::bytes::said_bytes;
 use crate::said::{list, maybe, refused, text};
 use rand_pcg::Pcg32;
-use sentry_envelope::{CountedWriter, Envelope, EnvelopeError, Frames, ItemFrame};
-use sentry_losses::LossSource;
-use sentry_moments::Moment;
-use sentry_reports::ItemLoss;
-use serde_json::Value;
+use sentry_types::protocol::v7::{
+    CountedWriter, Envelope, EnvelopeError, Frames, ItemFrame, ItemLoss, LossSource, Moment, Value,
+};
 use std::alloc::{AllocError, Global};
 
 /// The envelope that bytes spell at second 0.
@@ -23,28 +21,39 @@ pub fn said_envelope(alloc: Global, envelope: &Envelope) -> Result<Value, AllocE
     let mut out = Vec::new(alloc);
     match envelope.to_writer(alloc, &mut out) {
         Ok(()) => said_bytes(alloc, out.as_slice()),
-        Err(error) => refused(alloc, &error),
+        Err(error) if out.is_empty() => refused(alloc, &error),
+        Err(_) => text(alloc, "a part is written"),
     }
 }
 
-// Whether the text of an envelope spells its normal form, which has the same text, and a copy is the envelope.
+// Whether an envelope is written as this text, and the same by a writer that counts failures.
+fn is_written(alloc: Global, envelope: &Envelope, text: &[u8]) -> bool {
+    let mut out = Vec::new(alloc);
+    let mut counted = CountedWriter::new(Vec::new(alloc));
+    envelope.to_writer(alloc, &mut out).is_ok()
+        && envelope.write_counted(alloc, &mut counted).is_ok()
+        && counted.failures() == 0
+        && out.as_slice() == text
+        && counted.into_inner().as_slice() == text
+}
+
+// Whether a text spells this envelope, and is written for what it spells.
+fn spells(alloc: Global, text: &[u8], envelope: &Envelope) -> bool {
+    match read(alloc, text) {
+        Ok(again) => again == *envelope && is_written(alloc, &again, text),
+        Err(_) => false,
+    }
+}
+
+// Whether the text of an envelope spells its normal form, which has the same text, and a clone is the envelope.
 fn is_steady(alloc: Global, envelope: &Envelope) -> Result<bool, AllocError> {
     let mut text = Vec::new(alloc);
-    let mut counted = CountedWriter::new(Vec::new(alloc));
-    let written = envelope.to_writer(alloc, &mut text).is_ok()
-        && envelope.write_counted(alloc, &mut counted).is_ok();
+    if envelope.to_writer(alloc, &mut text).is_err() || !envelope.is_plain() {
+        return Ok(false);
+    }
+    let same = is_written(alloc, envelope, &text) && envelope.clone()? == *envelope;
     let normal = envelope.normalized()?;
-    let mut same = Vec::new(alloc);
-    Ok(
-        written
-            && envelope.is_plain()
-            && envelope.clone()? == *envelope
-            && matches!(read(alloc, text.as_slice()), Ok(again) if again == normal)
-            && normal.to_writer(alloc, &mut same).is_ok()
-            && counted.failures() == 0
-            && counted.into_inner() == text
-            && same == text,
-    )
+    Ok(same && is_written(alloc, &normal, &text) && spells(alloc, &text, &normal))
 }
 
 /// What is written of the envelope that bytes spell.
@@ -124,10 +133,10 @@ pub fn said_loss(alloc: Global, loss: &ItemLoss) -> Result<Value, AllocError> {
     list(alloc, fields)
 }
 
-// The losses of an envelope, in order.
-fn said_losses(alloc: Global, envelope: &Envelope) -> Result<Value, AllocError> {
+/// The losses of a source, in order.
+pub fn said_losses<S: LossSource>(alloc: Global, source: &S) -> Result<Value, AllocError> {
     let mut told = Vec::new(alloc);
-    for loss in envelope.losses() {
+    for loss in source.losses() {
         told.push(said_loss(alloc, &loss)?)?;
     }
     Ok(Value::from(told))

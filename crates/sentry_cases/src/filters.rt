@@ -1,16 +1,13 @@
-//! Envelopes without the items of some kinds.
+//! Envelopes without the items that a filter refuses: those of some kinds, or by a list of answers.
 
 use crate::envelopes::{read, said_envelope, said_loss};
 use crate::said::{list, refused};
-use sentry_envelope::{Envelope, EnvelopeFilter};
-use sentry_items::EnvelopeItem;
-use sentry_losses::LossSource;
-use serde_json::Value;
+use sentry_types::protocol::v7::{Envelope, EnvelopeFilter, EnvelopeItem, LossSource, Value};
 use std::alloc::{AllocError, Global};
 
 /// Refuses items whose kinds are among some words, and notes what is lost with the items that go.
 #[derive(Drop)]
-struct ByKinds<'a> {
+pub struct ByKinds<'a> {
     alloc: Global,
     words: &'a str,
     losses: Vec<Value>,
@@ -24,7 +21,15 @@ fn word_of(item: &EnvelopeItem) -> &'static str {
     }
 }
 
-impl ByKinds<'_> {
+impl<'a> ByKinds<'a> {
+    pub fn new(alloc: Global, words: &'a str) -> ByKinds<'a> {
+        ByKinds {
+            alloc,
+            words,
+            losses: Vec::new(alloc),
+        }
+    }
+
     fn note(&mut self, item: &EnvelopeItem) -> Result<(), AllocError> {
         for loss in item.losses() {
             self.losses.push(said_loss(self.alloc, &loss)?)?;
@@ -56,6 +61,31 @@ impl EnvelopeFilter for ByKinds<'_> {
     }
 }
 
+// Filters an envelope. The fields of its header stay or go.
+fn filtered<F: EnvelopeFilter>(
+    alloc: Global,
+    envelope: Envelope,
+    keep: bool,
+    filter: &mut F,
+) -> Result<Option<Envelope>, Envelope>
+    requires { F.can_filter filter.old }
+{
+    if keep {
+        envelope.filter_keep_headers(alloc, filter)
+    } else {
+        envelope.filter_by(alloc, filter)
+    }
+}
+
+// The text of what is left, or null.
+fn said_left(alloc: Global, left: Result<Option<Envelope>, Envelope>) -> Result<Value, AllocError> {
+    match left {
+        Ok(Some(left)) => said_envelope(alloc, &left),
+        Ok(None) => Ok(Value::Null),
+        Err(_) => Err(AllocError),
+    }
+}
+
 // What is left of an envelope, or null, and the losses of what went, in order.
 fn left_by(
     alloc: Global,
@@ -63,21 +93,8 @@ fn left_by(
     keep: bool,
     words: &str,
 ) -> Result<Value, AllocError> {
-    let mut filter = ByKinds {
-        alloc,
-        words,
-        losses: Vec::new(alloc),
-    };
-    let answer = if keep {
-        envelope.filter_keep_headers(alloc, &mut filter)
-    } else {
-        envelope.filter_by(alloc, &mut filter)
-    };
-    let left = match answer {
-        Ok(Some(left)) => said_envelope(alloc, &left)?,
-        Ok(None) => Value::Null,
-        Err(_) => return Err(AllocError),
-    };
+    let mut filter = ByKinds::new(alloc, words);
+    let left = said_left(alloc, filtered(alloc, envelope, keep, &mut filter))?;
     let ByKinds { losses, .. } = filter;
     list(alloc, [left, Value::from(losses)])
 }
@@ -91,6 +108,92 @@ pub fn of_filter(alloc: Global, words: &str, bytes: &[u8]) -> Result<Value, Allo
     };
     match read(alloc, bytes) {
         Ok(envelope) => left_by(alloc, envelope, keep, words),
+        Err(error) => refused(alloc, &error),
+    }
+}
+
+/// Answers by a list of `y` and `n`, and notes each call.
+#[derive(Drop)]
+struct Scribe<'a> {
+    alloc: Global,
+    answers: &'a [u8],
+    calls: Vec<Value>,
+}
+
+// The name of an attachment, or the word of an item's type.
+fn name_of(item: &EnvelopeItem) -> &str {
+    match item {
+        EnvelopeItem::Attachment(attachment) => attachment.filename.as_str(),
+        _ => word_of(item),
+    }
+}
+
+impl Scribe<'_> {
+    fn note(&mut self, call: &str, item: &EnvelopeItem) -> Result<(), AllocError> {
+        let name = name_of(item);
+        let told = format!(in self.alloc; "{call} {name}")?;
+        self.calls.push(Value::from(told))?;
+        Ok(())
+    }
+}
+
+impl EnvelopeFilter for Scribe<'_> {
+    ghost use Rattle.std.specs.Prelude.{⊤};
+
+    ghost can_filter = { λ scribe. ⊤ };
+
+    ghost ask = { λ scribe item answer next. ⊤ };
+
+    ghost hand = { λ scribe item next. ⊤ };
+
+    ghost ask_keeps = { λ scribe item answer next ready asked. tt };
+
+    ghost hand_keeps = { λ scribe item next ready given. tt };
+
+    fn filter(&mut self, item: &EnvelopeItem) -> bool {
+        let _ = self.note("ask", item);
+        match self.answers.split_first() {
+            Some((answer, rest)) => {
+                self.answers = rest;
+                *answer == b'y'
+            }
+            None => false,
+        }
+    }
+
+    fn on_filtered(&mut self, item: EnvelopeItem) {
+        let _ = self.note("hand", &item);
+    }
+}
+
+// What is left of an envelope by these answers, or null, and the calls in order.
+fn answered_by(
+    alloc: Global,
+    envelope: Envelope,
+    keep: bool,
+    answers: &str,
+) -> Result<Value, AllocError> {
+    let mut filter = Scribe {
+        alloc,
+        answers: answers.as_bytes(),
+        calls: Vec::new(alloc),
+    };
+    let left = said_left(alloc, filtered(alloc, envelope, keep, &mut filter))?;
+    let Scribe { calls, .. } = filter;
+    list(alloc, [left, Value::from(calls)])
+}
+
+/// What is left by some answers of the envelope that bytes spell, or of the raw envelope of bytes if the first word
+/// is `raw`, and the calls. The fields of its header stay if the first word is `-k`.
+pub fn of_answers(alloc: Global, words: &str, bytes: &[u8]) -> Result<Value, AllocError> {
+    let (first, answers) = words.split_once(' ').unwrap_or(("", words));
+    let envelope = if first == "raw" {
+        Envelope::from_bytes_raw(bytes.to_vec(alloc)?)
+    } else {
+        read(alloc, bytes)
+    };
+    match envelope {
+        Ok(envelope) => answered_by(alloc, envelope, first == "-k", answers),
         Err(error) => refused(alloc, &error),
     }
 }

@@ -1,27 +1,28 @@
 //! Values that lines of JSON show, and what is written of them.
 
 use crate::said::{list, refused, text};
-use json::Writer;
 use rand_pcg::Pcg32;
-use sentry_members::{Codec, FromTree, Own, ReadCodec, TreeError, Way, read_tree};
-use sentry_moments::Moment;
-use sentry_rows::FromTreeAt;
-use sentry_rows::timed::ReadCodecAt;
+use sentry_members::read_tree;
 use sentry_trees::{Line, LineError, scratch};
-use serde_json::Value;
+use sentry_types::protocol::v7::value::Writer;
+use sentry_types::protocol::v7::{
+    Codec, FromTree, FromTreeAt, Member, Moment, Own, ReadCodec, ReadCodecAt, TreeError,
+    TreeMember, Value, Values, Way,
+};
 use std::alloc::{AllocError, Global};
+use std::fmt::Debug;
 
-// What is written of a value: the tree in a list, where the value's text, its copy and its normal form agree with it.
-fn written<F: Codec<T>, T: Drop>(alloc: Global, value: &T) -> Result<Value, AllocError> {
+// What a value writes: the tree in a list, where the value's text, its clone and its normal form agree with it.
+fn written<F: Codec<T>, T: Drop>(alloc: Global, value: &T, clone: &T) -> Result<Value, AllocError> {
     let tree = F::to_tree(value, alloc)?;
     let line = tree.to_string(alloc)?;
     let mut out = Writer::new(Vec::new(alloc));
     F::write(value, &mut out)?;
-    let mut same = out.into_inner().as_slice() == line.as_bytes() && F::is_plain(value);
-    for way in [Way::Same, Way::Normal(alloc)] {
-        let remade = F::to_tree(&F::remade(value, way)?, alloc)?;
-        same = same && remade.to_string(alloc)?.as_str() == line.as_str();
-    }
+    let normal = F::remade(value, Way::Normal(alloc))?;
+    let same = out.into_inner().as_slice() == line.as_bytes()
+        && F::is_plain(value)
+        && F::to_tree(clone, alloc)?.to_string(alloc)?.as_str() == line.as_str()
+        && F::to_tree(&normal, alloc)?.to_string(alloc)?.as_str() == line.as_str();
     if same {
         list(alloc, [tree])
     } else {
@@ -29,24 +30,32 @@ fn written<F: Codec<T>, T: Drop>(alloc: Global, value: &T) -> Result<Value, Allo
     }
 }
 
-/// What is written of a value that was read, or why it was not.
+/// What a value that was read writes, or why none was read.
 pub fn answered<F: Codec<T>, T: Drop>(
     alloc: Global,
     read: &Result<T, TreeError>,
 ) -> Result<Value, AllocError> {
     match read {
-        Ok(value) => written::<F, T>(alloc, value),
+        Ok(value) => written::<F, T>(alloc, value, &F::remade(value, Way::Same)?),
         Err(error) => refused(alloc, error),
     }
 }
 
-// The value that a line shows as a tree of values.
-fn by_tree<F: ReadCodec<T>, T: Drop>(alloc: Global, line: &[u8]) -> Result<T, TreeError> {
-    let tree = read_tree(alloc, line)?;
-    F::from_node(alloc, &&tree)
+/// The same, by the type's own call `clone`.
+pub fn answered_by<T: Member, C: FnOnce(&T) -> Result<T, AllocError>>(
+    alloc: Global,
+    read: &Result<T, TreeError>,
+    clone: C,
+) -> Result<Value, AllocError>
+    requires { C.IsAlwaysCallable clone }
+{
+    match read {
+        Ok(value) => written::<Own, T>(alloc, value, &clone(value)?),
+        Err(error) => refused(alloc, error),
+    }
 }
 
-// The answer of both readings of a line, which have to agree.
+// What the tree of values answers, if the tape answers the same.
 fn agreed(alloc: Global, by_tree: Value, by_tape: Value) -> Result<Value, AllocError> {
     if by_tape.to_string(alloc)?.as_str() == by_tree.to_string(alloc)?.as_str() {
         Ok(by_tree)
@@ -55,10 +64,17 @@ fn agreed(alloc: Global, by_tree: Value, by_tape: Value) -> Result<Value, AllocE
     }
 }
 
-/// What is written of the value that a line shows. The line is read as a tree of values and, where it has one, as a
-/// tape, and both have to give the same answer.
-pub fn form<F: ReadCodec<T>, T: Drop>(alloc: Global, line: &[u8]) -> Result<Value, AllocError> {
-    let told = answered::<F, T>(alloc, &by_tree::<F, T>(alloc, line))?;
+/// The value that a line shows as a tree of values.
+pub fn by_tree<T: FromTree>(alloc: Global, line: &[u8]) -> Result<T, TreeError> {
+    T::from_tree(alloc, &read_tree(alloc, line)?)
+}
+
+// What the tree of values answers, if the tape answers the same or the line has none.
+fn beside_tape<F: ReadCodec<T>, T: Drop>(
+    alloc: Global,
+    line: &[u8],
+    told: Value,
+) -> Result<Value, AllocError> {
     let mut scratch = scratch(alloc);
     let by_tape = match Line::parse(line, &mut scratch, Vec::new(alloc)) {
         Ok(read) => F::from_node(alloc, &read.root()),
@@ -69,33 +85,63 @@ pub fn form<F: ReadCodec<T>, T: Drop>(alloc: Global, line: &[u8]) -> Result<Valu
     agreed(alloc, told, answered::<F, T>(alloc, &by_tape)?)
 }
 
+// The value that a line shows in a form, as a tree of values.
+fn by_tree_as<F: ReadCodec<T>, T: Drop>(alloc: Global, line: &[u8]) -> Result<T, TreeError> {
+    F::from_node(alloc, &&read_tree(alloc, line)?)
+}
+
+/// What the value that a line shows in a form writes. The line is read as a tree of values and, where it has one, as
+/// a tape, and both have to give the same answer.
+pub fn form<F: ReadCodec<T>, T: Drop>(alloc: Global, line: &[u8]) -> Result<Value, AllocError> {
+    let told = answered::<F, T>(alloc, &by_tree_as::<F, T>(alloc, line))?;
+    beside_tape::<F, T>(alloc, line, told)
+}
+
 /// The same for a type with one form.
 pub fn own<T: FromTree>(alloc: Global, line: &[u8]) -> Result<Value, AllocError> {
-    form::<Own, T>(alloc, line)
+    let told = answered::<Own, T>(alloc, &by_tree::<T>(alloc, line))?;
+    beside_tape::<Own, T>(alloc, line, told)
 }
 
-// The value that a line shows as a tree of values at a moment.
-fn by_tree_at<F: ReadCodecAt<T>, T: Drop>(
+/// The same for a type with a call `clone` that may fail.
+pub fn cloned<T: FromTree, C: FnOnce(&T) -> Result<T, AllocError>>(
     alloc: Global,
     line: &[u8],
-    now: Moment,
-) -> Result<T, TreeError> {
-    let tree = read_tree(alloc, line)?;
-    F::from_node(alloc, &&tree, now, &mut Pcg32::new(42, 54))
+    clone: C,
+) -> Result<Value, AllocError>
+    requires { C.IsAlwaysCallable clone }
+{
+    let told = answered_by(alloc, &by_tree::<T>(alloc, line), clone)?;
+    beside_tape::<Own, T>(alloc, line, told)
 }
 
-/// What is written of the value that a line shows at 2020-07-20T14:51:14.296Z. The line is read twice, as by `form`.
-pub fn form_at<F: ReadCodecAt<T>, T: Drop>(
+/// The moment at which lines are read: 2020-07-20T14:51:14.296Z.
+pub fn now() -> Result<Moment, TreeError> {
+    Moment::new(1_595_256_674, 296_000_000).ok_or(TreeError::Misfit)
+}
+
+/// The generator of absent ids.
+pub fn ids() -> Pcg32 {
+    Pcg32::new(42, 54)
+}
+
+/// The value that a line shows as a tree of values at the moment of reading.
+pub fn by_tree_at<T: FromTreeAt>(alloc: Global, line: &[u8]) -> Result<T, TreeError> {
+    T::from_tree(alloc, &read_tree(alloc, line)?, now()?, &mut ids())
+}
+
+// As `beside_tape`, at the moment of reading.
+fn beside_tape_at<F: ReadCodecAt<T>, T: Drop>(
     alloc: Global,
     line: &[u8],
+    told: Value,
 ) -> Result<Value, AllocError> {
-    let Some(now) = Moment::new(1_595_256_674, 296_000_000) else {
+    let Ok(now) = now() else {
         return text(alloc, "no moment");
     };
-    let told = answered::<F, T>(alloc, &by_tree_at::<F, T>(alloc, line, now))?;
     let mut scratch = scratch(alloc);
     let by_tape = match Line::parse(line, &mut scratch, Vec::new(alloc)) {
-        Ok(read) => F::from_node(alloc, &read.root(), now, &mut Pcg32::new(42, 54)),
+        Ok(read) => F::from_node(alloc, &read.root(), now, &mut ids()),
         Err(LineError::Misfit) => Err(TreeError::Misfit),
         Err(LineError::Memory) => Err(TreeError::Memory),
         Err(LineError::Unfit) => return Ok(told),
@@ -103,9 +149,79 @@ pub fn form_at<F: ReadCodecAt<T>, T: Drop>(
     agreed(alloc, told, answered::<F, T>(alloc, &by_tape)?)
 }
 
-/// The same for a type with one form.
-pub fn own_at<T: FromTreeAt>(alloc: Global, line: &[u8]) -> Result<Value, AllocError> {
-    form_at::<Own, T>(alloc, line)
+// The value that a line shows in a form at the moment of reading, as a tree of values.
+fn by_tree_as_at<F: ReadCodecAt<T>, T: Drop>(alloc: Global, line: &[u8]) -> Result<T, TreeError> {
+    F::from_node(alloc, &&read_tree(alloc, line)?, now()?, &mut ids())
+}
+
+/// As `form`, at the moment of reading.
+pub fn form_at<F: ReadCodecAt<T>, T: Drop>(
+    alloc: Global,
+    line: &[u8],
+) -> Result<Value, AllocError> {
+    let told = answered::<F, T>(alloc, &by_tree_as_at::<F, T>(alloc, line))?;
+    beside_tape_at::<F, T>(alloc, line, told)
+}
+
+/// As `cloned`, at the moment of reading.
+pub fn cloned_at<T: FromTreeAt, C: FnOnce(&T) -> Result<T, AllocError>>(
+    alloc: Global,
+    line: &[u8],
+    clone: C,
+) -> Result<Value, AllocError>
+    requires { C.IsAlwaysCallable clone }
+{
+    let told = answered_by(alloc, &by_tree_at::<T>(alloc, line), clone)?;
+    beside_tape_at::<Own, T>(alloc, line, told)
+}
+
+// A tree that a clone writes too, in a list.
+fn cloned_member<T: TreeMember>(alloc: Global, value: &T) -> Result<Value, AllocError> {
+    if !value.is_plain() {
+        return text(alloc, "not plain");
+    }
+    let clone = value.clone()?;
+    agreed(alloc, value.to_tree(alloc)?, clone.to_tree(alloc)?)
+}
+
+/// The tree in a list that a value writes that may stand in lists, read at the moment of reading.
+pub fn member<T: TreeMember>(alloc: Global, line: &[u8]) -> Result<Value, AllocError> {
+    match member_of::<T>(alloc, line) {
+        Ok(value) => list(alloc, [cloned_member(alloc, &value)?]),
+        Err(error) => refused(alloc, &error),
+    }
+}
+
+fn member_of<T: TreeMember>(alloc: Global, line: &[u8]) -> Result<T, TreeError> {
+    T::from_tree(alloc, &read_tree(alloc, line)?, now()?, &mut ids())
+}
+
+/// The trees that the values of a list write, read at the moment of reading.
+pub fn members<T: TreeMember>(alloc: Global, line: &[u8]) -> Result<Value, AllocError> {
+    let values = match members_of::<T>(alloc, line) {
+        Ok(values) => values,
+        Err(error) => return refused(alloc, &error),
+    };
+    let mut trees = Vec::new(alloc);
+    for value in values.as_slice() {
+        trees.push(cloned_member(alloc, value)?)?;
+    }
+    Ok(Value::from(trees))
+}
+
+fn members_of<T: TreeMember>(alloc: Global, line: &[u8]) -> Result<Values<T>, TreeError> {
+    T::values_from_tree(alloc, &read_tree(alloc, line)?, now()?, &mut ids())
+}
+
+/// The `Debug` text of a value that was read.
+pub fn debugged<T: Debug + Drop>(
+    alloc: Global,
+    read: &Result<T, TreeError>,
+) -> Result<Value, AllocError> {
+    match read {
+        Ok(value) => Ok(Value::from(format!(in alloc; "{value:?}")?)),
+        Err(error) => refused(alloc, error),
+    }
 }
 
 /// Whether a line has a tape, or why it has none.

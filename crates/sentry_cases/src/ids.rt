@@ -1,9 +1,8 @@
 //! Ids.
 
 use crate::said::{list, refused, shown, text};
-use sentry_identifiers::{CodeId, DebugId, SpanId, TraceId};
-use sentry_numbers::{OrganizationId, ProjectId};
-use serde_json::Value;
+use sentry_types::protocol::v7::{OrganizationId, SpanId, TraceId, Value};
+use sentry_types::{CodeId, DebugId, ProjectId};
 use std::alloc::{AllocError, Global};
 
 fn of_span(alloc: Global, given: &str) -> Result<Value, AllocError> {

@@ -1,8 +1,7 @@
 //! Moments and sampling values.
 
 use crate::said::{list, none, refused, shown};
-use sentry_moments::{Moment, SampleRand, SampleRate};
-use serde_json::Value;
+use sentry_types::protocol::v7::{Moment, SampleRand, SampleRate, Value};
 use std::alloc::{AllocError, Global};
 
 /// The seconds and nanoseconds of a moment and its texts.

@@ -3,10 +3,10 @@
 use crate::moments::{of_moment, of_rand};
 use crate::said::{list, none, refused, shown, unknown};
 use crate::words::of_place;
-use sentry_addresses::{Addr, IpAddress, RegVal};
-use sentry_moments::{Decimal, Moment, SampleRand, SampleRate};
-use sentry_numbers::{LogSeverityNumber, OrganizationId};
-use serde_json::Value;
+use sentry_types::protocol::v7::{
+    Addr, Decimal, IpAddress, LogSeverityNumber, Moment, OrganizationId, RegVal, SampleRand,
+    SampleRate, Value,
+};
 use std::alloc::{AllocError, Global};
 use std::net::IpAddr;
 

@@ -1,64 +1,59 @@
 //! Parts of messages that lines of JSON show.
 
-use crate::form::{form, form_at, own, own_at};
-use sentry_frames::{
-    CError, Exception, Frame, LogEntry, MachException, Mechanism, MechanismMeta, PosixSignal,
-    Stacktrace, TemplateInfo, Thread, ThreadId,
+use crate::form::{cloned, cloned_at};
+use sentry_types::protocol::v7::{
+    AppleDebugImage, Breadcrumb, CError, DebugImage, DebugMeta, Exception, Frame, LogEntry,
+    MachException, Mechanism, MechanismMeta, PosixSignal, ProguardDebugImage, Request, Stacktrace,
+    SymbolicDebugImage, SystemSdkInfo, TemplateInfo, Thread, ThreadId, User, Value, Values,
+    WasmDebugImage,
 };
-use sentry_parts::{
-    AppleDebugImage, Breadcrumb, DebugImage, DebugMeta, ProguardDebugImage, Request,
-    SymbolicDebugImage, SystemSdkInfo, User, WasmDebugImage,
-};
-use sentry_writing::Values;
-use sentry_writing::values::AsValues;
-use serde_json::Value;
 use std::alloc::{AllocError, Global};
 
 fn of_trace(alloc: Global, name: &str, line: &[u8]) -> Result<Option<Value>, AllocError> {
     Ok(Some(match name {
-        "LogEntry" => own::<LogEntry>(alloc, line)?,
-        "Frame" => own::<Frame>(alloc, line)?,
-        "TemplateInfo" => own::<TemplateInfo>(alloc, line)?,
-        "Stacktrace" => own::<Stacktrace>(alloc, line)?,
-        "ThreadId" => own::<ThreadId>(alloc, line)?,
-        "Thread" => own::<Thread>(alloc, line)?,
-        "Values<Thread>" => form::<AsValues, Values<Thread>>(alloc, line)?,
+        "LogEntry" => cloned(alloc, line, LogEntry::clone)?,
+        "Frame" => cloned(alloc, line, Frame::clone)?,
+        "TemplateInfo" => cloned(alloc, line, TemplateInfo::clone)?,
+        "Stacktrace" => cloned(alloc, line, Stacktrace::clone)?,
+        "ThreadId" => cloned(alloc, line, ThreadId::clone)?,
+        "Thread" => cloned(alloc, line, Thread::clone)?,
+        "Values<Thread>" => cloned(alloc, line, Values::<Thread>::clone)?,
         _ => return Ok(None),
     }))
 }
 
 fn of_exception(alloc: Global, name: &str, line: &[u8]) -> Result<Option<Value>, AllocError> {
     Ok(Some(match name {
-        "CError" => own::<CError>(alloc, line)?,
-        "MachException" => own::<MachException>(alloc, line)?,
-        "PosixSignal" => own::<PosixSignal>(alloc, line)?,
-        "MechanismMeta" => own::<MechanismMeta>(alloc, line)?,
-        "Mechanism" => own::<Mechanism>(alloc, line)?,
-        "Exception" => own::<Exception>(alloc, line)?,
-        "Values<Exception>" => form::<AsValues, Values<Exception>>(alloc, line)?,
+        "CError" => cloned(alloc, line, CError::clone)?,
+        "MachException" => cloned(alloc, line, MachException::clone)?,
+        "PosixSignal" => cloned(alloc, line, PosixSignal::clone)?,
+        "MechanismMeta" => cloned(alloc, line, MechanismMeta::clone)?,
+        "Mechanism" => cloned(alloc, line, Mechanism::clone)?,
+        "Exception" => cloned(alloc, line, Exception::clone)?,
+        "Values<Exception>" => cloned(alloc, line, Values::<Exception>::clone)?,
         _ => return Ok(None),
     }))
 }
 
 fn of_user(alloc: Global, name: &str, line: &[u8]) -> Result<Option<Value>, AllocError> {
     Ok(Some(match name {
-        "Breadcrumb" => own_at::<Breadcrumb>(alloc, line)?,
-        "Values<Breadcrumb>" => form_at::<AsValues, Values<Breadcrumb>>(alloc, line)?,
-        "User" => own::<User>(alloc, line)?,
-        "Request" => own::<Request>(alloc, line)?,
+        "Breadcrumb" => cloned_at(alloc, line, Breadcrumb::clone)?,
+        "Values<Breadcrumb>" => cloned_at(alloc, line, Values::<Breadcrumb>::clone)?,
+        "User" => cloned(alloc, line, User::clone)?,
+        "Request" => cloned(alloc, line, Request::clone)?,
         _ => return Ok(None),
     }))
 }
 
 fn of_image(alloc: Global, name: &str, line: &[u8]) -> Result<Option<Value>, AllocError> {
     Ok(Some(match name {
-        "SystemSdkInfo" => own::<SystemSdkInfo>(alloc, line)?,
-        "AppleDebugImage" => own::<AppleDebugImage>(alloc, line)?,
-        "SymbolicDebugImage" => own::<SymbolicDebugImage>(alloc, line)?,
-        "ProguardDebugImage" => own::<ProguardDebugImage>(alloc, line)?,
-        "WasmDebugImage" => own::<WasmDebugImage>(alloc, line)?,
-        "DebugImage" => own::<DebugImage>(alloc, line)?,
-        "DebugMeta" => own::<DebugMeta>(alloc, line)?,
+        "SystemSdkInfo" => cloned(alloc, line, SystemSdkInfo::clone)?,
+        "AppleDebugImage" => cloned(alloc, line, AppleDebugImage::clone)?,
+        "SymbolicDebugImage" => cloned(alloc, line, SymbolicDebugImage::clone)?,
+        "ProguardDebugImage" => cloned(alloc, line, ProguardDebugImage::clone)?,
+        "WasmDebugImage" => cloned(alloc, line, WasmDebugImage::clone)?,
+        "DebugImage" => cloned(alloc, line, DebugImage::clone)?,
+        "DebugMeta" => cloned(alloc, line, DebugMeta::clone)?,
         _ => return Ok(None),
     }))
 }

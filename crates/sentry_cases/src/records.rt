@@ -1,23 +1,21 @@
 //! Sampling contexts, sessions, check-ins, logs, metrics and reports of users and clients that lines of JSON show.
 
-use crate::form::{answered, own, own_at};
-use sentry_members::{Own, read_tree};
-use sentry_records::{
-    DynamicSamplingContext, Log, LogAttribute, Metric, MonitorCheckIn, MonitorConfig,
-    MonitorSchedule, SessionAggregateItem, SessionAggregates, SessionAttributes, SessionUpdate,
-    UserReport,
+use crate::form::{answered_by, cloned, cloned_at, own};
+use sentry_members::read_tree;
+use sentry_types::protocol::v7::{
+    DynamicSamplingContext, Item, Log, LogAttribute, Metric, MonitorCheckIn, MonitorConfig,
+    MonitorSchedule, Report, SessionAggregateItem, SessionAggregates, SessionAttributes,
+    SessionUpdate, UserReport, Value,
 };
-use sentry_reports::{Item, Report};
-use serde_json::Value;
 use std::alloc::{AllocError, Global};
 
 fn of_session(alloc: Global, name: &str, line: &[u8]) -> Result<Option<Value>, AllocError> {
     Ok(Some(match name {
-        "DynamicSamplingContext" => own::<DynamicSamplingContext>(alloc, line)?,
-        "SessionAttributes" => own::<SessionAttributes<'static>>(alloc, line)?,
-        "SessionUpdate" => own_at::<SessionUpdate<'static>>(alloc, line)?,
-        "SessionAggregateItem" => own::<SessionAggregateItem>(alloc, line)?,
-        "SessionAggregates" => own::<SessionAggregates<'static>>(alloc, line)?,
+        "DynamicSamplingContext" => cloned(alloc, line, DynamicSamplingContext::clone)?,
+        "SessionAttributes" => cloned(alloc, line, SessionAttributes::clone)?,
+        "SessionUpdate" => cloned_at(alloc, line, SessionUpdate::clone)?,
+        "SessionAggregateItem" => cloned(alloc, line, SessionAggregateItem::clone)?,
+        "SessionAggregates" => cloned(alloc, line, SessionAggregates::clone)?,
         _ => return Ok(None),
     }))
 }
@@ -25,7 +23,7 @@ fn of_session(alloc: Global, name: &str, line: &[u8]) -> Result<Option<Value>, A
 // What is written of the attribute that is the tree of a line.
 fn of_attribute(alloc: Global, line: &[u8]) -> Result<Value, AllocError> {
     let read = read_tree(alloc, line).map(LogAttribute::from);
-    answered::<Own, LogAttribute>(alloc, &read)
+    answered_by(alloc, &read, LogAttribute::clone)
 }
 
 /// What is written of the record that a line shows.
@@ -34,15 +32,15 @@ pub fn of_record(alloc: Global, name: &str, line: &[u8]) -> Result<Option<Value>
         return Ok(Some(answer));
     }
     Ok(Some(match name {
-        "MonitorSchedule" => own::<MonitorSchedule>(alloc, line)?,
-        "MonitorConfig" => own::<MonitorConfig>(alloc, line)?,
-        "MonitorCheckIn" => own::<MonitorCheckIn>(alloc, line)?,
-        "Log" => own::<Log>(alloc, line)?,
-        "Metric" => own::<Metric>(alloc, line)?,
-        "LogAttribute" => own::<LogAttribute>(alloc, line)?,
+        "MonitorSchedule" => cloned(alloc, line, MonitorSchedule::clone)?,
+        "MonitorConfig" => cloned(alloc, line, MonitorConfig::clone)?,
+        "MonitorCheckIn" => cloned(alloc, line, MonitorCheckIn::clone)?,
+        "Log" => cloned(alloc, line, Log::clone)?,
+        "Metric" => cloned(alloc, line, Metric::clone)?,
+        "LogAttribute" => cloned(alloc, line, LogAttribute::clone)?,
         "LogAttribute::from" => of_attribute(alloc, line)?,
-        "UserReport" => own::<UserReport>(alloc, line)?,
-        "Report" => own_at::<Report>(alloc, line)?,
+        "UserReport" => cloned(alloc, line, UserReport::clone)?,
+        "Report" => cloned_at(alloc, line, Report::clone)?,
         "Item" => own::<Item>(alloc, line)?,
         _ => return Ok(None),
     }))

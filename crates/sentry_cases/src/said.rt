@@ -1,6 +1,6 @@
 //! Answers, as trees of JSON: a list of what was read, or the text of a refusal after `!`.
 
-use serde_json::Value;
+use sentry_types::protocol::v7::Value;
 use std::alloc::{AllocError, Global};
 use std::fmt::Display;
 use std::str::FromStr;

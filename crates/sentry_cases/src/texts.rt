@@ -4,9 +4,10 @@ use crate::ids::of_id;
 use crate::moments::of_moment_text;
 use crate::said::{list, printed, refused, shown};
 use crate::words::of_word;
-use sentry_addresses::{Addr, IpAddress, RegVal};
-use sentry_crontab::{CrontabParseError, validate};
-use serde_json::Value;
+use sentry_types::protocol::v7::{
+    Addr, CrontabParseError, IpAddress, Member, MonitorSchedule, RegVal, ScheduleError, ThreadId,
+    Value, validate,
+};
 use std::alloc::{AllocError, Global};
 
 fn of_address(alloc: Global, given: &str) -> Result<Value, AllocError> {
@@ -26,12 +27,38 @@ fn of_register(alloc: Global, given: &str) -> Result<Value, AllocError> {
     }
 }
 
+// The tree of the schedule of a crontab, or the refusals, outer and inner.
+fn of_crontab(alloc: Global, given: &str) -> Result<Value, AllocError> {
+    match MonitorSchedule::from_crontab(alloc, given) {
+        Ok(schedule) => list(alloc, [schedule.to_tree(alloc)?]),
+        Err(ScheduleError::Invalid(reason)) => list(
+            alloc,
+            [
+                refused(
+                    alloc,
+                    &ScheduleError::Invalid(CrontabParseError::new(alloc, given)?),
+                )?,
+                shown(alloc, &reason)?,
+            ],
+        ),
+        Err(error) => refused(alloc, &error),
+    }
+}
+
+// The tree of the id that is a text, and what it prints.
+fn of_thread_id(alloc: Global, given: &str) -> Result<Value, AllocError> {
+    let id = ThreadId::from_text(alloc, given)?;
+    list(alloc, [id.to_tree(alloc)?, shown(alloc, &id)?])
+}
+
 fn of_other_text(alloc: Global, name: &str, given: &str) -> Result<Option<Value>, AllocError> {
     Ok(Some(match name {
         "Addr" => of_address(alloc, given)?,
         "RegVal" => of_register(alloc, given)?,
         "IpAddress" => printed::<IpAddress>(alloc, given)?,
         "validate" => Value::from(validate(given)),
+        "MonitorSchedule::from_crontab" => of_crontab(alloc, given)?,
+        "ThreadId::from_text" => of_thread_id(alloc, given)?,
         "CrontabParseError" => shown(alloc, &CrontabParseError::new(alloc, given)?)?,
         _ => return Ok(None),
     }))

@@ -2,32 +2,21 @@
 
 use crate::contexts::of_context;
 use crate::events::of_event;
-use crate::form::{form, own};
+use crate::form::{by_tree, by_tree_at, cloned, debugged, form, member, members, own};
 use crate::parts::of_part;
 use crate::records::of_record;
-use sentry_addresses::{Addr, IpAddress, IpText, RegVal};
-use sentry_envelope::EnvelopeHeaders;
-use sentry_identifiers::{CodeId, DebugId, Hyphenated, Simple, SpanId, TraceId};
-use sentry_items::AttachmentType;
-use sentry_keys::{Auth, Dsn};
-use sentry_moments::{Moment, Rfc3339, SampleRand, SampleRate, Seconds};
-use sentry_numbers::{LogSeverityNumber, OrganizationId, OrganizationText, ProjectId};
-use sentry_parts::{ClientSdkInfo, ClientSdkPackage};
-use sentry_reports::{Category, Reason};
-use sentry_writing::Values;
-use sentry_writing::values::AsValues;
-use sentry_units::Unit;
-use sentry_urls::UrlText;
-use sentry_words::{
-    Level, LogLevel, MetricType, MonitorCheckInStatus, MonitorIntervalUnit, Orientation, Sampled,
-    SessionStatus, SpanStatus,
+use sentry_types::protocol::v7::{
+    Addr, AttachmentType, Breadcrumb, CError, Category, ClientSdkInfo, ClientSdkPackage,
+    EnvelopeHeaders, Exception, Hyphenated, IpAddress, IpText, Level, LogLevel, LogSeverityNumber,
+    Map, MetricType, Moment, MonitorCheckInStatus, MonitorIntervalUnit, MonitorSchedule,
+    OrganizationId, OrganizationText, Orientation, OsContext, Reason, RegVal, Rfc3339,
+    RuntimeContext, SampleRand, SampleRate, Sampled, Seconds, SessionStatus, Simple, Span, SpanId,
+    SpanStatus, Thread, TraceId, Unit, Url, UrlText, Value, Values,
 };
-use serde_json::{Map, Value};
+use sentry_types::{Auth, CodeId, DebugId, Dsn, ProjectId, Uuid};
 use std::alloc::{AllocError, Global};
 use std::borrow::CowStr;
 use std::net::IpAddr;
-use url::Url;
-use uuid::Uuid;
 
 fn of_basic(alloc: Global, name: &str, line: &[u8]) -> Result<Option<Value>, AllocError> {
     Ok(Some(match name {
@@ -43,10 +32,8 @@ fn of_basic(alloc: Global, name: &str, line: &[u8]) -> Result<Option<Value>, All
         "Value" => own::<Value>(alloc, line)?,
         "(u64, u64)" => own::<(u64, u64)>(alloc, line)?,
         "Vec<u64>" => own::<Vec<u64>>(alloc, line)?,
-        "Values<u64>" => form::<AsValues, Values<u64>>(alloc, line)?,
-        "Values<Map<String, Value>>" => {
-            form::<AsValues, Values<Map<String, Value>>>(alloc, line)?
-        }
+        "Values<u64>" => cloned(alloc, line, Values::<u64>::clone)?,
+        "Values<Map<String, Value>>" => cloned(alloc, line, Values::<Map<String, Value>>::clone)?,
         "Map<String, u64>" => own::<Map<String, u64>>(alloc, line)?,
         "Map<String, Value>" => own::<Map<String, Value>>(alloc, line)?,
         _ => return Ok(None),
@@ -65,8 +52,8 @@ fn of_word(alloc: Global, name: &str, line: &[u8]) -> Result<Option<Value>, Allo
         "MonitorIntervalUnit" => own::<MonitorIntervalUnit>(alloc, line)?,
         "Category" => own::<Category>(alloc, line)?,
         "Reason" => own::<Reason>(alloc, line)?,
-        "AttachmentType" => own::<AttachmentType>(alloc, line)?,
-        "Unit" => own::<Unit>(alloc, line)?,
+        "AttachmentType" => cloned(alloc, line, AttachmentType::clone)?,
+        "Unit" => cloned(alloc, line, Unit::clone)?,
         _ => return Ok(None),
     }))
 }
@@ -91,31 +78,81 @@ fn of_id(alloc: Global, name: &str, line: &[u8]) -> Result<Option<Value>, AllocE
     Ok(Some(match name {
         "SpanId" => own::<SpanId>(alloc, line)?,
         "TraceId" => own::<TraceId>(alloc, line)?,
-        "ProjectId" => own::<ProjectId>(alloc, line)?,
+        "ProjectId" => cloned(alloc, line, ProjectId::clone)?,
         "IpAddress" => own::<IpAddress>(alloc, line)?,
         "IpText" => form::<IpText, IpAddr>(alloc, line)?,
         "DebugId" => own::<DebugId>(alloc, line)?,
-        "CodeId" => own::<CodeId>(alloc, line)?,
+        "CodeId" => cloned(alloc, line, CodeId::clone)?,
         "Hyphenated" => form::<Hyphenated, Uuid>(alloc, line)?,
         "Simple" => form::<Simple, Uuid>(alloc, line)?,
         "UrlText" => form::<UrlText, Url>(alloc, line)?,
-        "Dsn" => own::<Dsn>(alloc, line)?,
+        "Dsn" => cloned(alloc, line, Dsn::clone)?,
         _ => return Ok(None),
     }))
 }
 
 fn of_table(alloc: Global, name: &str, line: &[u8]) -> Result<Option<Value>, AllocError> {
     Ok(Some(match name {
-        "Auth" => own::<Auth>(alloc, line)?,
-        "ClientSdkInfo" => own::<ClientSdkInfo>(alloc, line)?,
-        "ClientSdkPackage" => own::<ClientSdkPackage>(alloc, line)?,
-        "EnvelopeHeaders" => own::<EnvelopeHeaders>(alloc, line)?,
+        "Auth" => cloned(alloc, line, Auth::clone)?,
+        "ClientSdkInfo" => cloned(alloc, line, ClientSdkInfo::clone)?,
+        "ClientSdkPackage" => cloned(alloc, line, ClientSdkPackage::clone)?,
+        "EnvelopeHeaders" => cloned(alloc, line, EnvelopeHeaders::clone)?,
+        _ => return Ok(None),
+    }))
+}
+
+fn of_member(alloc: Global, name: &str, line: &[u8]) -> Result<Option<Value>, AllocError> {
+    Ok(Some(match name {
+        "Breadcrumb" => member::<Breadcrumb>(alloc, line)?,
+        "Exception" => member::<Exception>(alloc, line)?,
+        "Thread" => member::<Thread>(alloc, line)?,
+        "u64" => member::<u64>(alloc, line)?,
+        _ => return Ok(None),
+    }))
+}
+
+fn of_members(alloc: Global, name: &str, line: &[u8]) -> Result<Option<Value>, AllocError> {
+    Ok(Some(match name {
+        "Breadcrumb" => members::<Breadcrumb>(alloc, line)?,
+        "Exception" => members::<Exception>(alloc, line)?,
+        "Thread" => members::<Thread>(alloc, line)?,
+        "u64" => members::<u64>(alloc, line)?,
+        _ => return Ok(None),
+    }))
+}
+
+fn of_debug(alloc: Global, name: &str, line: &[u8]) -> Result<Option<Value>, AllocError> {
+    Ok(Some(match name {
+        "Addr" => debugged::<Addr>(alloc, &by_tree(alloc, line))?,
+        "AttachmentType" => debugged::<AttachmentType>(alloc, &by_tree(alloc, line))?,
+        "CError" => debugged::<CError>(alloc, &by_tree(alloc, line))?,
+        "Category" => debugged::<Category>(alloc, &by_tree(alloc, line))?,
+        "ClientSdkPackage" => debugged::<ClientSdkPackage>(alloc, &by_tree(alloc, line))?,
+        "Level" => debugged::<Level>(alloc, &by_tree(alloc, line))?,
+        "MonitorSchedule" => debugged::<MonitorSchedule>(alloc, &by_tree(alloc, line))?,
+        "OsContext" => debugged::<OsContext>(alloc, &by_tree(alloc, line))?,
+        "RuntimeContext" => debugged::<RuntimeContext>(alloc, &by_tree(alloc, line))?,
+        "SampleRate" => debugged::<SampleRate>(alloc, &by_tree(alloc, line))?,
+        "SpanId" => debugged::<SpanId>(alloc, &by_tree(alloc, line))?,
+        "TraceId" => debugged::<TraceId>(alloc, &by_tree(alloc, line))?,
+        "Unit" => debugged::<Unit>(alloc, &by_tree(alloc, line))?,
+        "Values<u64>" => debugged::<Values<u64>>(alloc, &by_tree(alloc, line))?,
+        "Span" => debugged::<Span>(alloc, &by_tree_at(alloc, line))?,
         _ => return Ok(None),
     }))
 }
 
 /// What is written of the value of a type that a line shows.
 pub fn of_tree(alloc: Global, name: &str, line: &[u8]) -> Result<Option<Value>, AllocError> {
+    if let Some(name) = name.strip_prefix("member ") {
+        return of_member(alloc, name, line);
+    }
+    if let Some(name) = name.strip_prefix("members ") {
+        return of_members(alloc, name, line);
+    }
+    if let Some(name) = name.strip_prefix("debug ") {
+        return of_debug(alloc, name, line);
+    }
     if let Some(answer) = of_basic(alloc, name, line)? {
         return Ok(Some(answer));
     }

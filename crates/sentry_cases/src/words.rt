@@ -1,14 +1,11 @@
 //! Words and units.
 
 use crate::said::{list, printed, refused, shown, text};
-use sentry_items::AttachmentType;
-use sentry_reports::{Category, Reason};
-use sentry_units::Unit;
-use sentry_words::{
-    Level, LogLevel, MetricType, MonitorCheckInStatus, MonitorIntervalUnit, Orientation,
-    SessionStatus, SpanStatus,
+use sentry_types::IndexedEnum;
+use sentry_types::protocol::v7::{
+    AttachmentType, Category, Level, LogLevel, MetricType, MonitorCheckInStatus,
+    MonitorIntervalUnit, Orientation, Reason, SessionStatus, SpanStatus, Unit, Value,
 };
-use serde_json::Value;
 use std::alloc::{AllocError, Global};
 use std::borrow::CowStr;
 use std::fmt::Display;
@@ -86,7 +83,6 @@ pub fn of_word(alloc: Global, name: &str, given: &str) -> Result<Option<Value>, 
 
 /// The word of a place in a list of variants.
 pub fn of_place(alloc: Global, name: &str, place: usize) -> Result<Option<Value>, AllocError> {
-    use sentry_words::IndexedEnum;
     let found = match name {
         "Category::VARIANTS" => Category::VARIANTS
             .get(place)

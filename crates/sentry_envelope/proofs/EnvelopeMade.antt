@@ -1,10 +1,10 @@
 -- Envelopes made anew.
 use Rattle.std.specs.declared.alloc.Global.{Global}
-use Rattle.std.proofs.Common.{◌≡◌, ℕ, suc, length, ◌<◌, ◌≤◌, ◌+◌, List, [], ◌∷◌, ◌++◌, true, false, Option, Some, None, Result, Ok, Err, map, drop, drop-cons, add-one, get_or, append_assoc, refl, sym, ap, ap₂, ◌∙◌, subst}
+use Rattle.std.proofs.Common.{◌≡◌, ℕ, suc, length, ◌<◌, ◌≤◌, ◌+◌, List, [], ◌∷◌, ◌++◌, Bool, true, false, Option, Some, None, Result, Ok, Err, map, drop, drop-cons, add-one, get_or, append_assoc, refl, sym, ap, ap₂, ◌∙◌, subst}
 use Rattle.std.proofs.Math.ListN.{drop_of_length-le}
 use Rattle.std.proofs.lemmas.List.{append-nil, map-append}
 use Rattle.std.proofs.lemmas.Option.{same_Some}
-use Rattle.std.specs.Prelude.{IfOk, IfSome, IsSome, IsSomeAnd}
+use Rattle.std.specs.Prelude.{◌↔◌, IfOk, IfSome, IsSome, IsSomeAnd, IsTrue}
 use Rattle.sentry_members.specs.Made.{made}
 use Rattle.sentry_members.specs.declared.way.Way.{Way}
 use Rattle.sentry_members.specs.declared.way.Way.TheVariants.{Same, Normal}
@@ -169,19 +169,28 @@ module _ {alloc : Global} {E : Type 0} (e : Envelope) (r : Result Envelope E) (m
   pub answers_raw : IfOk r (λ n. IsSome (raw_bytes e) → IsSame n e)
   answers_raw = answered e _ (λ n is. raw_copied e n is) r made
 
-  pub answers_own : IfOk r (λ n. IfSome (structured e) (λ m. IsEnvelopeStored profile m → IsEnvelopePlain profile m → IsSomeAnd (structured n) (IsNormalForm profile)))
-  answers_own = answered e _ (λ n is. if_some (structured e) (λ m. IsEnvelopeStored profile m → IsEnvelopePlain profile m → IsSomeAnd (structured n) (IsNormalForm profile)) (own_form e n is)) r made
+-- of a plain envelope, as the call tells that asks whether it is plain, more is told: it is stored
+module _ {alloc : Global} {E : Type 0} (e : Envelope) (r : Result Envelope E) (b : Bool) (made : IfOk r (IsMade (Normal alloc) e)) (plain : IsTrue b ↔ IsSomeAnd (structured e) (IsEnvelopePlain profile))
+    (stored : IsTrue b → IsSomeAnd (structured e) (IsEnvelopeStored profile)) where
+  is_stored : (m : Model) → structured e ≡ Some m → IsEnvelopePlain profile m → IsEnvelopeStored profile m
+  is_stored m some p =
+      let told : IsSomeAnd (structured e) (IsEnvelopePlain profile) = subst (λ o. IsSomeAnd o (IsEnvelopePlain profile)) (sym some) p in
+      subst (λ o. IsSomeAnd o (IsEnvelopeStored profile)) some (stored (plain.1 told))
+
+  pub answers_own : IfOk r (λ n. IfSome (structured e) (λ m. IsEnvelopePlain profile m → IsSomeAnd (structured n) (IsNormalForm profile)))
+  answers_own =
+      answered e _ (λ n is. if_some (structured e) (λ m. IsEnvelopePlain profile m → IsSomeAnd (structured n) (IsNormalForm profile)) (λ m some p. own_form e n is m some (is_stored m some p) p)) r made
 
   abbrev Readable : Envelope → Model → Type 0
-  Readable n m = IsEnvelopeStored profile m → IsEnvelopePlain profile m → IsEnvelopeReadable profile m → IsSomeAnd (structured n) (IsEnvelopeReadable profile)
+  Readable n m = IsEnvelopePlain profile m → IsEnvelopeReadable profile m → IsSomeAnd (structured n) (IsEnvelopeReadable profile)
 
   pub answers_readable : IfOk r (λ n. IfSome (structured e) (Readable n))
-  answers_readable = answered e _ (λ n is. if_some (structured e) (Readable n) (readable_form e n is)) r made
+  answers_readable = answered e _ (λ n is. if_some (structured e) (Readable n) (λ m some p. readable_form e n is m some (is_stored m some p) p)) r made
 
   abbrev ReadBack : Envelope → Model → Type 0
   ReadBack n m =
-      IsEnvelopeStored profile m → IsEnvelopePlain profile m → IsEnvelopeReadable profile m → IsEnvelopeSized profile m
+      IsEnvelopePlain profile m → IsEnvelopeReadable profile m → IsEnvelopeSized profile m
       → IsSomeAnd (structured n) (SpellsAlone profile (envelope_text profile m))
 
   pub answers_read_back : IfOk r (λ n. IfSome (structured e) (ReadBack n))
-  answers_read_back = answered e _ (λ n is. if_some (structured e) (ReadBack n) (form_read_back e n is)) r made
+  answers_read_back = answered e _ (λ n is. if_some (structured e) (ReadBack n) (λ m some p. form_read_back e n is m some (is_stored m some p) p)) r made

@@ -5,6 +5,7 @@ use Rattle.serde_json.specs.Written.{has_float}
 use Rattle.sentry_json.proofs.Sound.{sound_without_float}
 use Rattle.sentry_tables.proofs.Laws.{has_laws}
 use Rattle.sentry_tables.specs.Cell.{Cell, fields, no_cells, cell}
+use Rattle.sentry_tables.specs.Laws.{HasLaws}
 use Rattle.sentry_tables.specs.Meets.{IsPlain}
 use Rattle.sentry_tables.specs.Written.{tree}
 use Rattle.uuid.specs.declared.Uuid.{Uuid}
@@ -12,9 +13,12 @@ use Rattle.sentry_envelope.specs.EnvelopeView.{IsReady, no_fields}
 use Rattle.sentry_envelope.specs.HeaderFields.{header_fields, header_kind, put_id}
 use Rattle.sentry_envelope.proofs.SentryProfile.{header_lawful}
 
+pub header_laws : HasLaws header_kind
+header_laws = has_laws header_kind header_lawful
+
 -- the tree of a header that is ready to be written holds no floats
 pub header_whole : (h : Cell) → IsReady header_kind h → has_float (tree header_kind h) ≡ false
-header_whole h ready = sound_without_float (tree header_kind h) ((has_laws header_kind header_lawful).written h ready.0 ready.1)
+header_whole h ready = sound_without_float (tree header_kind h) (header_laws.written h ready.0 ready.1)
 
 -- what holds of a whole tree holds of a header that is ready
 pub with_ready : {E : Type 0} (r : Result (Unit {0}) E) (P Q R : Type 0) → (R → P) → OnOk r (P → Q) → OnOk r (R → Q)

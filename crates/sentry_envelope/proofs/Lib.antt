@@ -23,6 +23,7 @@ pub mod EnvelopeMade
 pub mod EnvelopeForms
 pub mod EnvelopeLaws
 pub mod OneEnvelope
+pub mod RawEnvelopes
 pub mod EnvelopeWriting
 pub mod EnvelopeFill
 pub mod EnvelopeSample

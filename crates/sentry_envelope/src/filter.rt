@@ -2,6 +2,7 @@
 
 use crate::called::{Asked, Given};
 use sentry_items::EnvelopeItem;
+use sentry_words::Sealed;
 
 /// What is asked about each item of an envelope, and given the items that go.
 ///
@@ -10,7 +11,7 @@ use sentry_items::EnvelopeItem;
 ///
 /// The calls are those of Sentry's own crate `sentry-types`:
 /// <https://docs.rs/sentry-types/latest/sentry_types/protocol/v7/trait.EnvelopeFilter.html>
-pub trait EnvelopeFilter: Drop {
+pub trait EnvelopeFilter: Drop + Sealed {
     ghost use Rattle.std.specs.Prelude.{Bool};
     ghost use Rattle.sentry_items.specs.declared.item.EnvelopeItem.{EnvelopeItem};
 

@@ -31,7 +31,14 @@ pub struct EnvelopeHeaders {
 
 #[tactic(auto, unfolding(crate::specs::HeaderFields::header_fields))]
 impl EnvelopeHeaders {
-    ghost use Rattle.std.specs.Prelude.{◌≡◌, Some, IfOk, option_map};
+    ghost use Rattle.std.specs.Prelude.{◌≡◌, Some, IfOk, codes, option_map};
+    ghost use Rattle.sentry_tables.specs.Cell.{octets};
+    ghost use Rattle.sentry_members.specs.Cells.{option_cell};
+    ghost use Rattle.sentry_keys.specs.DsnTree.{dsn_cell};
+    ghost use Rattle.sentry_moments.specs.Moments.{moment_cell};
+    ghost use Rattle.sentry_parts.specs.ClientSdk.{sdk_cell};
+    ghost use Rattle.sentry_records.specs.Sampling.{sampling_cell};
+    ghost use Rattle.sentry_rows.specs.Parts.{part_at};
     ghost use Rattle.sentry_envelope.specs.EnvelopeView.{no_fields};
     ghost use Rattle.sentry_tables.specs.Norm.{norm};
     ghost use Rattle.sentry_envelope.specs.HeaderFields.{fill_id, given_id, headers_cell, put_dsn, put_id, put_sdk, put_sent_at, put_trace};
@@ -130,11 +137,40 @@ impl EnvelopeHeaders {
         }
     }
 
-    /// The event id.
-    pub(crate) fn event_id(&self) -> Option<&Uuid>
-        ensures { option_map (λ id. id.now) result ≡ self.now.event_id }
+    /// Returns the id of the event or transaction that the envelope belongs to.
+    pub fn event_id(&self) -> Option<&Uuid>
+        ensures id { option_map (λ id. id.now) result ≡ self.now.event_id }
+        ensures part { option_cell (λ id. octets id.now) result ≡ part_at (codes "event_id") header_fields self.now }
     {
         self.event_id.as_ref()
+    }
+
+    /// Returns the DSN that the envelope is sent to.
+    pub fn dsn(&self) -> Option<&Dsn>
+        ensures { option_cell (λ dsn. dsn_cell dsn.now) result ≡ part_at (codes "dsn") header_fields self.now }
+    {
+        self.dsn.as_ref()
+    }
+
+    /// Returns the SDK that sends the envelope.
+    pub fn sdk(&self) -> Option<&ClientSdkInfo>
+        ensures { option_cell (λ sdk. sdk_cell sdk.now) result ≡ part_at (codes "sdk") header_fields self.now }
+    {
+        self.sdk.as_ref()
+    }
+
+    /// Returns the time of sending.
+    pub fn sent_at(&self) -> Option<Moment>
+        ensures { option_cell moment_cell result ≡ part_at (codes "sent_at") header_fields self.now }
+    {
+        self.sent_at
+    }
+
+    /// Returns the dynamic sampling context of the trace.
+    pub fn trace(&self) -> Option<&DynamicSamplingContext>
+        ensures { option_cell (λ trace. sampling_cell trace.now) result ≡ part_at (codes "trace") header_fields self.now }
+    {
+        self.trace.as_ref()
     }
 
     /// The same header. It fails where memory is refused.

@@ -1,9 +1,12 @@
 // What holds of the definitions alone.
-ghost use Rattle.std.specs.Prelude.{◌≡◌, ◌↔◌, true};
+ghost use Rattle.std.specs.Prelude.{◌≡◌, ◌↔◌, ℕ, List, [], Some, IsSome, true};
+ghost use Rattle.sentry_tables.specs.Laws.{HasLaws};
 ghost use Rattle.sentry_envelope.specs.declared.envelope.Envelope.{Envelope as Envelopes};
 ghost use Rattle.sentry_envelope.specs.declared.headers.EnvelopeHeaders.{EnvelopeHeaders as Headers};
 ghost use Rattle.sentry_envelope.specs.EnvelopeAlike.{HasNoTree, HasStoredAddresses, AreEnvelopesAlike};
-ghost use Rattle.sentry_envelope.specs.HeaderFields.{headers_cell};
+ghost use Rattle.sentry_envelope.specs.EnvelopeLosses.{losses_of_envelope};
+ghost use Rattle.sentry_envelope.specs.EnvelopeView.{items_of, raw_bytes, text_of};
+ghost use Rattle.sentry_envelope.specs.HeaderFields.{header_kind, headers_cell};
 ghost use Rattle.sentry_envelope.specs.EnvelopeLaws.{HasOneAnswer, EnvelopesReadBack, EnvelopesAreStable, EnvelopesHaveOneForm, EnvelopesAreRewritten, RewritingTwiceIsOnce, ShortTextsAreSized, NormalFormsAreSized, SpelledHaveOneForm};
 ghost use Rattle.sentry_envelope.specs.OneEnvelope.{HasOneEnvelope, TextsDrawNothing};
 ghost use Rattle.sentry_envelope.specs.Accepted.{AcceptedIsReadable};
@@ -74,6 +77,21 @@ pub fn twice()
 pub fn sized()
     ensures short { ShortTextsAreSized profile }
     ensures normal { NormalFormsAreSized profile }
+{}
+
+/// The laws of an envelope's header: what is written of it reads back as its normal form and as nothing else, which is
+/// its own and is written alike.
+#[tactic(auto, using(crate::proofs::HeaderValues::header_laws))]
+pub fn header()
+    ensures { HasLaws header_kind }
+{}
+
+/// A raw envelope is written as its bytes, and has no items and no losses.
+#[tactic(auto, using(crate::proofs::RawEnvelopes::raw_text, crate::proofs::RawEnvelopes::raw_items, crate::proofs::RawEnvelopes::raw_losses))]
+pub fn raw()
+    ensures text { (e : Envelopes) (b : List ℕ) → raw_bytes e ≡ Some b → text_of e ≡ b }
+    ensures items { (e : Envelopes) → IsSome (raw_bytes e) → items_of e ≡ [] }
+    ensures losses { (e : Envelopes) → IsSome (raw_bytes e) → losses_of_envelope e ≡ [] }
 {}
 
 /// Two headers are equal exactly where their fields are the same. Two envelopes without trees are equal exactly where

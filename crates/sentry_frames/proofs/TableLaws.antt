@@ -1,13 +1,14 @@
 -- The tables of messages, frames, stack traces, threads and exceptions are lawful.
-use Rattle.std.proofs.Common.{refl}
+use Rattle.std.proofs.Common.{refl, ◌^◌}
 use Rattle.sentry_tables.proofs.Basic.{text_laws, truth_laws, u64_laws, i32_laws, pair_laws, any_laws}
 use Rattle.sentry_tables.proofs.ByRows.{laws_by_rows, empty_list_stands, empty_map_stands, empty_list_stays, false_stands}
 use Rattle.sentry_tables.proofs.Laws.{has_laws}
 use Rattle.sentry_tables.proofs.Nulls.{table_refuses_null}
 use Rattle.sentry_tables.specs.Fields.{rows_of}
-use Rattle.sentry_tables.specs.Kind.{default, ignored}
+use Rattle.sentry_tables.specs.Kind.{default, ignored, values}
 use Rattle.sentry_tables.specs.Laws.{HasLaws}
 use Rattle.sentry_tables.specs.Lawful.{IsLawful, RuleLaws}
+use Rattle.sentry_members.specs.Kinds.{unsigned_kind}
 use Rattle.sentry_addresses.proofs.AddressTrees.{address_laws}
 use Rattle.sentry_urls.proofs.UrlTrees.{url_lawful}
 use Rattle.sentry_frames.specs.Causes.{c_error_fields, c_error_kind, mach_fields, mach_kind, signal_fields, signal_kind}
@@ -107,3 +108,14 @@ exception_laws = has_laws exception_kind exception_lawful
 
 pub thread_id_laws : HasLaws thread_id_kind
 thread_id_laws = has_laws thread_id_kind thread_id_lawful
+
+-- ---- lists under the key `values`
+
+pub exception_lists : HasLaws (values exception_kind)
+exception_lists = has_laws (values exception_kind) exception_lawful
+
+pub thread_lists : HasLaws (values thread_kind)
+thread_lists = has_laws (values thread_kind) thread_lawful
+
+pub number_lists : HasLaws (values (unsigned_kind (2 ^ 64)))
+number_lists = has_laws (values (unsigned_kind (2 ^ 64))) u64_laws

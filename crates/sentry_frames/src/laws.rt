@@ -1,14 +1,16 @@
 //! Laws over definitions alone: of each type what is written reads back as its normal form and as
 //! nothing else, which is its own and is written alike.
 
-ghost use Rattle.std.specs.Prelude.{◌≡◌, ◌↔◌, ◌<◌, ℕ, true, String, string_bytes};
+ghost use Rattle.std.specs.Prelude.{◌≡◌, ◌↔◌, ◌<◌, ◌^◌, ℕ, true, String, string_bytes};
 ghost use Rattle.std.specs.declared.alloc.Global.{Global};
 ghost use Rattle.std.specs.Cmp.Lexicographic.{slice_cmp};
 ghost use Rattle.std.specs.Ordering.{nat_cmp};
 ghost use Rattle.std.specs.declared.cmp.Ordering.TheVariants.{Less, Greater};
 ghost use Rattle.sentry_tables.specs.Cell.{Cell};
+ghost use Rattle.sentry_tables.specs.Kind.{values};
 ghost use Rattle.sentry_tables.specs.Laws.{HasLaws};
 ghost use Rattle.sentry_tables.specs.Lawful.{IsNormal, RefusesNull};
+ghost use Rattle.sentry_members.specs.Kinds.{unsigned_kind};
 ghost use Rattle.sentry_frames.specs.Causes.{c_error_cell, c_error_kind, mach_cell, mach_kind, signal_cell, signal_kind};
 ghost use Rattle.sentry_frames.specs.Exceptions.{exception_kind};
 ghost use Rattle.sentry_frames.specs.Frames.{frame_kind, stacktrace_kind, template_cell, template_kind};
@@ -40,6 +42,14 @@ pub fn tables()
     ensures causes { HasLaws meta_kind }
     ensures mechanisms { HasLaws mechanism_kind }
     ensures exceptions { HasLaws exception_kind }
+{}
+
+/// The laws of lists under the key `values`.
+#[tactic(auto, using(crate::proofs::TableLaws::exception_lists, crate::proofs::TableLaws::thread_lists, crate::proofs::TableLaws::number_lists))]
+pub fn lists()
+    ensures exceptions { HasLaws (values exception_kind) }
+    ensures threads { HasLaws (values thread_kind) }
+    ensures numbers { HasLaws (values (unsigned_kind (2 ^ 64))) }
 {}
 
 /// Ids of threads in trees; each is its own normal form.

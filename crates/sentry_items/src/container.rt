@@ -7,10 +7,10 @@ ghost use Rattle.sentry_items.specs.Containers.{container_kind, items_cell};
 use crate::listed::Lent;
 use json::Writer;
 use sentry_framing::ItemKind;
-use sentry_writing::plain::rows_are_plain;
-use sentry_writing::table::write_table;
 use sentry_members::{Member, Way};
 use sentry_records::{Log, Metric};
+use sentry_writing::plain::rows_are_plain;
+use sentry_writing::table::write_table;
 use std::alloc::AllocError;
 
 /// An item that holds many values of one type.

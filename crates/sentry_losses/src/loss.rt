@@ -8,6 +8,7 @@ use sentry_event::{Event, Span, Transaction};
 use sentry_items::{Attachment, EnvelopeItem, ItemContainer, ReplayRecording};
 use sentry_records::{Log, Metric, MonitorCheckIn, SessionAggregates, SessionUpdate, UserReport};
 use sentry_reports::{Category, Item, ItemLoss, Report};
+use sentry_words::Sealed;
 
 /// The losses of a source, one after another, and then none.
 ///
@@ -217,7 +218,7 @@ impl Iterator for ItemLossIter<'_> {
 }
 
 /// What can be lost.
-pub trait LossSource {
+pub trait LossSource: Sealed {
     ghost use Rattle.std.specs.Prelude.{◌≡◌, List};
     ghost use Rattle.sentry_reports.specs.declared.item_loss.ItemLoss.{ItemLoss};
     ghost use Rattle.sentry_losses.specs.Losses.{losses_left};

@@ -4,4 +4,5 @@ pub mod DebugMetas
 pub mod Equal
 pub mod EqualImages
 pub mod EqualParts
+pub mod Moments
 pub mod TableLaws

@@ -7,7 +7,7 @@ use Rattle.sentry_tables.proofs.ByRows.{laws_by_rows, empty_map_stands}
 use Rattle.sentry_tables.proofs.Laws.{has_laws}
 use Rattle.sentry_tables.specs.Cell.{text}
 use Rattle.sentry_tables.specs.Fields.{rows_of}
-use Rattle.sentry_tables.specs.Kind.{default}
+use Rattle.sentry_tables.specs.Kind.{default, values}
 use Rattle.sentry_tables.specs.Laws.{HasLaws}
 use Rattle.sentry_tables.specs.Lawful.{RuleLaws, IsLawful}
 use Rattle.sentry_members.specs.Kinds.{text_kind}
@@ -55,3 +55,8 @@ user_laws = has_laws user_kind user_lawful
 
 pub request_laws : HasLaws request_kind
 request_laws = has_laws request_kind request_lawful
+
+-- ---- lists under the key `values`
+
+pub breadcrumb_lists : HasLaws (values breadcrumb_kind)
+breadcrumb_lists = has_laws (values breadcrumb_kind) breadcrumb_lawful

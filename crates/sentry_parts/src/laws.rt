@@ -2,7 +2,7 @@
 //! nothing else, which is its own and is written alike.
 
 ghost use Rattle.std.specs.Prelude.{◌≡◌, ◌↔◌, true};
-ghost use Rattle.sentry_tables.specs.Kind.{default};
+ghost use Rattle.sentry_tables.specs.Kind.{default, values};
 ghost use Rattle.sentry_tables.specs.Laws.{HasLaws};
 ghost use Rattle.sentry_tables.specs.Lawful.{RuleLaws};
 ghost use Rattle.sentry_tables.specs.Meets.{IsReadable};
@@ -43,6 +43,12 @@ pub fn tables()
     ensures wasm_images { HasLaws wasm_kind }
     ensures images { HasLaws image_kind }
     ensures metas { HasLaws meta_kind }
+{}
+
+/// The laws of lists of breadcrumbs under the key `values`.
+#[tactic(auto, using(crate::proofs::TableLaws::breadcrumb_lists))]
+pub fn lists()
+    ensures breadcrumbs { HasLaws (values breadcrumb_kind) }
 {}
 
 /// A row of what debuggers need may leave out what is empty.

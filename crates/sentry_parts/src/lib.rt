@@ -11,6 +11,7 @@ pub mod native_images;
 pub mod other_images;
 pub mod request;
 pub mod system_sdk_info;
+pub mod tree_member;
 pub mod user;
 
 pub use breadcrumb::Breadcrumb;
@@ -26,4 +27,5 @@ pub use sentry_frames::{
     Stacktrace, TemplateInfo, Thread, ThreadId,
 };
 pub use system_sdk_info::SystemSdkInfo;
+pub use tree_member::TreeMember;
 pub use user::User;

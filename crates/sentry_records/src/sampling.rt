@@ -31,7 +31,9 @@ pub struct DynamicSamplingContext {
 impl DynamicSamplingContext {
     ghost use Rattle.std.specs.Prelude.{◌≡◌, IfOk, codes};
     ghost use Rattle.sentry_tables.specs.Defaults.{IsDefault};
-    ghost use Rattle.sentry_members.specs.Cells.{text_cell, natural_cell};
+    ghost use Rattle.sentry_tables.specs.Cell.{text};
+    ghost use Rattle.sentry_members.specs.Cells.{text_cell, natural_cell, option_cell};
+    ghost use Rattle.sentry_rows.specs.Parts.{part_at};
     ghost use Rattle.sentry_identifiers.specs.HexIdTree.{trace_cell};
     ghost use Rattle.sentry_moments.specs.SamplingTexts.{sample_rand_cell};
     ghost use Rattle.sentry_numbers.specs.ProjectTree.{organization_cell};
@@ -150,6 +152,69 @@ impl DynamicSamplingContext {
             org_id: Some(org_id),
             ..self
         }
+    }
+
+    /// Returns the trace id.
+    pub fn trace_id(&self) -> Option<TraceId>
+        ensures { option_cell trace_cell result ≡ part_at (codes "trace_id") sampling_fields self.now }
+    {
+        self.trace_id
+    }
+
+    /// Returns the public key of the DSN that the trace is sent to.
+    pub fn public_key(&self) -> Option<&str>
+        ensures { option_cell (λ key. text key.now) result ≡ part_at (codes "public_key") sampling_fields self.now }
+    {
+        self.public_key.as_deref()
+    }
+
+    /// Returns the sample rate in billionths: 10^9 of them are a rate of 1.
+    pub fn sample_rate(&self) -> Option<u64>
+        ensures { option_cell natural_cell result ≡ part_at (codes "sample_rate") sampling_fields self.now }
+    {
+        self.sample_rate.map(|rate| rate.0)
+    }
+
+    /// Returns the random value that the sample rate is compared with.
+    pub fn sample_rand(&self) -> Option<SampleRand>
+        ensures { option_cell sample_rand_cell result ≡ part_at (codes "sample_rand") sampling_fields self.now }
+    {
+        self.sample_rand
+    }
+
+    /// Returns whether the trace was sampled.
+    pub fn sampled(&self) -> Option<bool>
+        ensures { option_cell sampled_cell result ≡ part_at (codes "sampled") sampling_fields self.now }
+    {
+        self.sampled
+    }
+
+    /// Returns the release.
+    pub fn release(&self) -> Option<&str>
+        ensures { option_cell (λ release. text release.now) result ≡ part_at (codes "release") sampling_fields self.now }
+    {
+        self.release.as_deref()
+    }
+
+    /// Returns the environment.
+    pub fn environment(&self) -> Option<&str>
+        ensures { option_cell (λ name. text name.now) result ≡ part_at (codes "environment") sampling_fields self.now }
+    {
+        self.environment.as_deref()
+    }
+
+    /// Returns the name of the transaction.
+    pub fn transaction(&self) -> Option<&str>
+        ensures { option_cell (λ name. text name.now) result ≡ part_at (codes "transaction") sampling_fields self.now }
+    {
+        self.transaction.as_deref()
+    }
+
+    /// Returns the organization id.
+    pub fn org_id(&self) -> Option<OrganizationId>
+        ensures { option_cell organization_cell result ≡ part_at (codes "org_id") sampling_fields self.now }
+    {
+        self.org_id
     }
 
     /// The same context. It fails where memory is refused.

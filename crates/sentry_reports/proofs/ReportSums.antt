@@ -40,10 +40,10 @@ unfolding report_sum
 capped c r items = omega arith
 
 -- a pair whose place is the item's is that of the item
-same_place : (c d : Category) (r s : Reason) → pair_place c r ≡ pair_place d s → place d (Some s) ≡ place c (Some r)
+pub same_place : (c d : Category) (r s : Reason) → pair_place c r ≡ pair_place d s → place d (Some s) ≡ place c (Some r)
 same_place c d r s e = omega (arith, reason_below r, reason_below s)
 
-other_place : (c d : Category) (r s : Reason) → pair_place c r ≢ pair_place d s → place c (Some r) ≢ place d (Some s)
+pub other_place : (c d : Category) (r s : Reason) → pair_place c r ≢ pair_place d s → place c (Some r) ≢ place d (Some s)
 other_place c d r s ne e = ne (omega (arith, reason_below r, reason_below s))
 
 -- nothing is lost with no items
@@ -121,7 +121,7 @@ reason_at (suc (suc (suc (suc (suc (suc (suc (suc zero)))))))) h = (reason.Sampl
 reason_at (suc (suc (suc (suc (suc (suc (suc (suc (suc i))))))))) h = absurd (omega (arith, h))
 
 -- each place in the row is that of a pair
-pair_at : (i : ℕ) → i < 108 → (c : Category) × (r : Reason) × (pair_place c r ≡ i)
+pub pair_at : (i : ℕ) → i < 108 → (c : Category) × (r : Reason) × (pair_place c r ≡ i)
 pair_at i h =
     let c = category_at (i / 9) (omega arith) in
     let r = reason_at (i % 9) (omega arith) in

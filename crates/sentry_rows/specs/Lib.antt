@@ -2,4 +2,5 @@ pub mod Cased
 pub mod Copied
 pub mod Fields
 pub mod NoRows
+pub mod Parts
 pub mod Taken

@@ -2,17 +2,17 @@
 ghost use Rattle.std.specs.Prelude.{◌+◌, ◌%◌, ◌^◌};
 ghost use Rattle.rand_core.specs.Steps.{stream_of, steps_u32};
 
+use crate::wanted::wanted;
 use rand_core::utils::NextWord;
 use rand_core::{Rng, SeedableRng, utils};
 use rand_pcg::Pcg32;
 use sentry_members::read_tree;
-use sentry_rows::draw::or_drawn_as;
-use sentry_trees::Object;
 use sentry_types::protocol::v7::{
-    Context, Envelope, Hyphenated, Moment, Own, Simple, SpanId, TraceId, TreeError,
+    Breadcrumb, Context, Envelope, Event, FromTreeAt, Level, Member, Moment, SessionUpdate, Span,
+    SpanId, TraceContext, TraceId, Transaction, Value, read_line_at,
 };
 use sentry_types::{Uuid, random_uuid};
-use std::alloc::Global;
+use std::alloc::{AllocError, Global};
 use std::marker::Model;
 use std::test::Fail;
 
@@ -88,46 +88,138 @@ fn first_ids() -> (SpanId, TraceId) {
     (SpanId::from(span), TraceId::from(trace))
 }
 
+fn second(seconds: u64) -> Result<Moment, Fail> {
+    Ok(Moment::new(seconds, 0).ok_or("moment")?)
+}
+
 #[test]
-fn ids_are_the_next_bytes(rt: HostRuntime) {
+fn ids_are_the_next_bytes(rt: HostRuntime) -> Result<(), Fail> {
     let mut ids = Pcg32::seed_from_u64(1);
     let drawn = (SpanId::random(&mut ids), TraceId::random(&mut ids));
     let next = (SpanId::random(&mut ids), TraceId::random(&mut ids));
-    assert!(rt; drawn == first_ids() && next.0 != drawn.0 && next.1 != drawn.1);
+    wanted(drawn == first_ids() && next.0 != drawn.0 && next.1 != drawn.1)
+}
+
+/// The ids of a new span, and whether it begins at this moment and hasn't ended.
+fn new_span(alloc: Global, now: Moment) -> ((SpanId, TraceId), bool) {
+    let span = Span::new(alloc, now, &mut Pcg32::seed_from_u64(1));
+    let begins = span.start_timestamp == now && span.timestamp.is_none();
+    ((span.span_id, span.trace_id), begins)
+}
+
+/// The ids of a new place in a trace.
+fn new_place(alloc: Global) -> (SpanId, TraceId) {
+    let place = TraceContext::new(alloc, &mut Pcg32::seed_from_u64(1));
+    (place.span_id, place.trace_id)
 }
 
 #[test]
-fn absent_ids_are_drawn(rt: HostRuntime) -> Result<(), Fail> {
-    let alloc = rt.alloc();
-    let tree = read_tree(alloc, b"{\"given\":\"d42cee9fc3e74f5c\",\"none\":null}")?;
-    let node = &tree;
-    let given = Object::new(alloc, &node)?.ok_or(TreeError::Misfit)?;
-    let (span, trace) = first_ids();
-    let mut ids = Pcg32::seed_from_u64(1);
-    for (key, wanted) in [
-        ("given", Ok("d42cee9fc3e74f5c".parse::<SpanId>()?)),
-        ("none", Err(TreeError::Misfit)),
-        ("span_id", Ok(span)),
-    ] {
-        let read = or_drawn_as::<Own, SpanId, Pcg32, _>(alloc, &given, key, &mut ids);
-        assert!(rt; read == wanted, "{key}");
+fn a_new_span_draws_its_own_id_first(rt: HostRuntime) -> Result<(), Fail> {
+    let (ids, begins) = new_span(rt.alloc(), second(5)?);
+    wanted(begins && ids == first_ids() && new_place(rt.alloc()) == first_ids())
+}
+
+/// What a generator of zeros makes: an id of version 4.
+fn zero_id() -> Uuid {
+    Uuid::from_u128(0x0000_0000_0000_4000_8000_0000_0000_0000)
+}
+
+/// Whether the level, the platform, the fingerprint, the software, the moment and the id are those of a new event.
+fn is_new(event: &Event<'_>, now: Moment) -> bool {
+    let [fingerprint] = event.fingerprint.as_slice() else {
+        return false;
+    };
+    event.level == Level::Error
+        && event.platform.as_str() == "other"
+        && fingerprint.as_str() == "{{ default }}"
+        && event.sdk.is_none()
+        && event.timestamp == now
+        && event.event_id == zero_id()
+}
+
+/// Whether an event reads back from its tree at another moment, with other ids at hand.
+fn reads_back(alloc: Global, event: &Event<'_>, later: Moment) -> Result<bool, AllocError> {
+    let tree = event.to_tree(alloc)?;
+    let read = Event::from_tree(alloc, &tree, later, &mut Counting(0));
+    Ok(matches!(read, Ok(again) if again == *event))
+}
+
+#[test]
+fn new_events(rt: HostRuntime) -> Result<(), Fail> {
+    let event = Event::new(rt.alloc(), second(5)?, &mut Zeros)?;
+    wanted(is_new(&event, second(5)?) && reads_back(rt.alloc(), &event, second(6)?)?)
+}
+
+/// A new breadcrumb is what an empty object shows at its moment.
+#[test]
+fn new_breadcrumbs(rt: HostRuntime) -> Result<(), Fail> {
+    let breadcrumb = Breadcrumb::new(rt.alloc(), second(5)?)?;
+    let read: Breadcrumb = read_line_at(rt.alloc(), b"{}", second(5)?, &mut Zeros)?;
+    wanted(breadcrumb == read && read.level == Level::Info && read.timestamp == second(5)?)
+}
+
+/// Whether a new transaction has an id of version 4, begins at this moment, and ends at the later one when told to.
+fn ends(alloc: Global, now: Moment, later: Moment) -> bool {
+    let mut transaction = Transaction::new(alloc, now, &mut Zeros);
+    let begun = transaction.timestamp.is_none();
+    transaction.finish_with_timestamp(later);
+    begun
+        && transaction.event_id == zero_id()
+        && transaction.start_timestamp == now
+        && transaction.timestamp == Some(later)
+        && transaction.spans.is_empty()
+}
+
+#[test]
+fn new_transactions(rt: HostRuntime) -> Result<(), Fail> {
+    wanted(random_uuid(&mut Zeros) == zero_id() && ends(rt.alloc(), second(5)?, second(6)?))
+}
+
+/// Whether an id is a random one: of version 4, and of the variant that RFC 9562 names.
+fn is_random(id: &Uuid) -> bool {
+    let bytes = id.as_bytes();
+    bytes[6] >> 4 == 4 && bytes[8] >> 6 == 2
+}
+
+/// Whether a transaction has an id of version 4, and two spans of different ids in different traces.
+fn has_two_spans(transaction: &Transaction<'_>) -> bool {
+    match transaction.spans.as_slice() {
+        [one, other] => {
+            one.span_id != other.span_id
+                && one.trace_id != other.trace_id
+                && is_random(&transaction.event_id)
+        }
+        _ => false,
     }
-    let drawn = or_drawn_as::<Own, TraceId, Pcg32, _>(alloc, &given, "trace_id", &mut ids);
-    assert!(rt; drawn == Ok(trace));
-    Ok(())
+}
+
+fn tree(alloc: Global, text: &str) -> Result<Value, Fail> {
+    Ok(read_tree(alloc, text.as_bytes())?)
 }
 
 #[test]
-fn uuids_are_of_version_4(rt: HostRuntime) -> Result<(), Fail> {
+fn each_span_draws_its_ids(rt: HostRuntime) -> Result<(), Fail> {
     let alloc = rt.alloc();
-    let zeros = Uuid::parse_str("00000000-0000-4000-8000-000000000000")?;
-    let tree = read_tree(alloc, b"{}")?;
-    let node = &tree;
-    let empty = Object::new(alloc, &node)?.ok_or(TreeError::Misfit)?;
-    let simple = or_drawn_as::<Simple, Uuid, Zeros, _>(alloc, &empty, "id", &mut Zeros)?;
-    let hyphenated = or_drawn_as::<Hyphenated, Uuid, Zeros, _>(alloc, &empty, "id", &mut Zeros)?;
-    assert!(rt; [random_uuid(&mut Zeros), simple, hyphenated] == [zeros, zeros, zeros]);
-    Ok(())
+    let two = tree(alloc, "{\"spans\":[{},{}]}")?;
+    let mut ids = Counting(0);
+    let read = Transaction::from_tree(alloc, &two, second(5)?, &mut ids)?;
+    wanted(has_two_spans(&read))
+}
+
+/// The id of the session that a tree shows.
+fn session_id(alloc: Global, tree: &Value, now: Moment, ids: &mut Counting) -> Result<Uuid, Fail> {
+    let session = SessionUpdate::from_tree(alloc, tree, now, ids)?;
+    Ok(session.session_id)
+}
+
+#[test]
+fn each_session_draws_its_id(rt: HostRuntime) -> Result<(), Fail> {
+    let alloc = rt.alloc();
+    let session = tree(alloc, "{\"attrs\":{\"release\":\"r\"}}")?;
+    let mut ids = Counting(0);
+    let one = session_id(alloc, &session, second(5)?, &mut ids)?;
+    let other = session_id(alloc, &session, second(5)?, &mut ids)?;
+    wanted(one != other && is_random(&one) && is_random(&other))
 }
 
 /// The id of an envelope of an event, and those of its trace.
@@ -141,18 +233,14 @@ fn ids_of(envelope: &Envelope) -> Option<(Uuid, SpanId, TraceId)> {
     }
 }
 
-fn read(alloc: Global, bytes: &[u8], ids: &mut Counting) -> Result<Envelope, Fail> {
-    let now = Moment::new(0, 0).ok_or("moment")?;
-    Ok(Envelope::from_slice(alloc, bytes, now, ids)?)
-}
-
-/// The text of the envelope that bytes spell, and its ids.
+/// The text of the envelope that bytes spell at second 0, and its ids.
 fn rewritten(
     alloc: Global,
     bytes: &[u8],
     ids: &mut Counting,
 ) -> Result<(Vec<u8>, Option<(Uuid, SpanId, TraceId)>), Fail> {
-    let envelope = read(alloc, bytes, ids)?;
+    let now = second(0)?;
+    let envelope = Envelope::from_slice(alloc, bytes, now, ids)?;
     let mut text = Vec::new(alloc);
     envelope.to_writer(alloc, &mut text)?;
     let found = ids_of(&envelope);
@@ -175,7 +263,6 @@ fn two_reads_draw_different_ids(rt: HostRuntime) -> Result<(), Fail> {
     let (_, other) = rewritten(alloc, bytes, &mut ids)?;
     let (_, again) = rewritten(alloc, &text, &mut ids)?;
     let (first, second) = (next_ids(&mut alike), next_ids(&mut alike));
-    assert!(rt; first.0 != second.0 && first.1 != second.1 && first.2 != second.2);
-    assert!(rt; [one, other, again] == [Some(first), Some(second), Some(first)]);
-    Ok(())
+    let apart = first.0 != second.0 && first.1 != second.1 && first.2 != second.2;
+    wanted(apart && [one, other, again] == [Some(first), Some(second), Some(first)])
 }

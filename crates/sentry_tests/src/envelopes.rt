@@ -1,5 +1,6 @@
 // Envelopes: their memory, their files, and writers that fail.
 mod files;
+mod headers;
 mod memory;
 mod values;
 mod writing;
@@ -10,10 +11,6 @@ use sentry_types::protocol::v7::{
 };
 use std::alloc::{AllocError, Global};
 
-/// An envelope of an attachment of `helloworld`.
-const BYTES: &[u8] =
-    b"{\"event_id\":\"9ec79c33ec9942ab8353589fcb2e04dc\"}\n{\"type\":\"attachment\"}\nhelloworld";
-
 /// A header line with an id, as it is written.
 const ID_LINE: &str = "{\"event_id\":\"9ec79c33-ec99-42ab-8353-589fcb2e04dc\"}\n";
 
@@ -21,7 +18,8 @@ const ID_LINE: &str = "{\"event_id\":\"9ec79c33-ec99-42ab-8353-589fcb2e04dc\"}\n
 const HELLO: &str =
     "{\"attachment_type\":\"event.attachment\",\"content_type\":\"application/octet-stream\",\"filename\":\"\",\"length\":10,\"type\":\"attachment\"}\nhelloworld\n";
 
-fn read(alloc: Global, bytes: &[u8]) -> Result<Envelope, EnvelopeError> {
+/// The envelope that bytes spell at second 0.
+pub(crate) fn read(alloc: Global, bytes: &[u8]) -> Result<Envelope, EnvelopeError> {
     let Some(now) = Moment::new(0, 0) else {
         return Err(EnvelopeError::InvalidItemPayload);
     };
@@ -42,12 +40,12 @@ fn hello(alloc: Global) -> Result<EnvelopeItem, AllocError> {
 }
 
 /// A recording without bytes.
-pub(crate) fn recording(alloc: Global) -> EnvelopeItem {
+fn recording(alloc: Global) -> EnvelopeItem {
     EnvelopeItem::ReplayRecording(ReplayRecording::default_in(alloc))
 }
 
 /// Filters, and keeps the other fields of the header or drops them.
-pub(crate) fn filtered<F: EnvelopeFilter>(
+fn filtered<F: EnvelopeFilter>(
     alloc: Global,
     envelope: Envelope,
     filter: &mut F,

@@ -1,57 +1,73 @@
-// Errors that no line of text brings about, as they are printed.
+// Errors that no line of text brings about, as they are printed, and `Debug` texts of what no line of text shows.
+use crate::wanted::wanted;
+use sentry_types::protocol::v7::client_report::LossSlice;
 use sentry_types::protocol::v7::{
-    AttachmentWriteError, EnvelopeError, EnvelopeWriteError, TreeError,
+    AddRefused, AttachmentWriteError, CrontabParseError, EnvelopeError, EnvelopeItem,
+    EnvelopeWriteError, OrganizationId, ScheduleError, TreeError,
 };
-use sentry_types::{ApiUrlError, ParseAuthError, ParseDsnError};
+use sentry_types::{ApiUrlError, ParseAuthError, ParseDsnError, ParseProjectIdError, Scheme};
 use std::alloc::{AllocError, Global};
-use std::fmt::Display;
+use std::fmt::{Debug, Display};
+use std::test::Fail;
 
-fn prints<E: Display>(alloc: Global, error: &E, text: &str) -> Result<bool, AllocError> {
-    Ok(error.to_string(alloc)?.as_str() == text)
+fn prints<E: Display>(alloc: Global, error: &E, text: &str) -> bool {
+    matches!(error.to_string(alloc), Ok(found) if found.as_str() == text)
 }
 
 #[test]
-fn want_of_memory_is_printed(rt: HostRuntime) -> Result<(), AllocError> {
+fn want_of_memory_is_printed(rt: HostRuntime) -> Result<(), Fail> {
     let (alloc, text) = (rt.alloc(), "out of memory");
-    for same in [
-        prints(alloc, &TreeError::Memory, text)?,
-        prints(alloc, &ParseAuthError::Memory, text)?,
-        prints(alloc, &ParseDsnError::Memory, text)?,
-        prints(alloc, &ApiUrlError::Memory, text)?,
-        prints(alloc, &AttachmentWriteError::Memory, text)?,
-        prints(alloc, &EnvelopeWriteError::Memory, text)?,
-        prints(alloc, &EnvelopeError::OutOfMemory, text)?,
-    ] {
-        assert!(rt; same);
-    }
-    Ok(())
+    wanted(
+        prints(alloc, &TreeError::Memory, text)
+            && prints(alloc, &ParseAuthError::Memory, text)
+            && prints(alloc, &ParseDsnError::Memory, text)
+            && prints(alloc, &ParseProjectIdError::Memory, text)
+            && prints(alloc, &ApiUrlError::Memory, text)
+            && prints(alloc, &ScheduleError::Memory, text)
+            && prints(alloc, &AttachmentWriteError::Memory, text)
+            && prints(alloc, &EnvelopeWriteError::Memory, text)
+            && prints(alloc, &EnvelopeError::OutOfMemory, text)
+            && prints(alloc, &AddRefused::Memory(EnvelopeItem::Raw), text),
+    )
 }
 
 #[test]
-fn others_are_printed(rt: HostRuntime) -> Result<(), AllocError> {
+fn others_are_printed(rt: HostRuntime) -> Result<(), Fail> {
     let alloc = rt.alloc();
-    for same in [
-        prints(alloc, &ApiUrlError::NotAUrl, "NotAUrl")?,
-        prints(alloc, &AttachmentWriteError::Io, "Io")?,
-        prints(alloc, &EnvelopeWriteError::Io, "Io")?,
-        prints(alloc, &EnvelopeWriteError::NotPlain, "NotPlain")?,
-        prints(
-            alloc,
-            &EnvelopeError::MissingHeader,
-            "missing envelope header",
-        )?,
-        prints(
-            alloc,
-            &EnvelopeError::MissingItemHeader,
-            "missing item header",
-        )?,
-        prints(
-            alloc,
-            &EnvelopeError::InvalidItemPayload,
-            "invalid item payload",
-        )?,
-    ] {
-        assert!(rt; same);
-    }
-    Ok(())
+    let header = "missing envelope header";
+    wanted(
+        prints(alloc, &ApiUrlError::NotAUrl, "NotAUrl")
+            && prints(alloc, &AttachmentWriteError::Io, "Io")
+            && prints(alloc, &EnvelopeWriteError::Io, "Io")
+            && prints(alloc, &EnvelopeWriteError::NotPlain, "NotPlain")
+            && prints(
+                alloc,
+                &AddRefused::RawEnvelope(EnvelopeItem::Raw),
+                "RawEnvelope",
+            )
+            && prints(alloc, &EnvelopeError::MissingHeader, header)
+            && prints(
+                alloc,
+                &EnvelopeError::MissingItemHeader,
+                "missing item header",
+            ),
+    )
+}
+
+/// The `Debug` text of a value begins with this text.
+fn debugs<T: Debug>(alloc: Global, value: &T, text: &str) -> Result<bool, AllocError> {
+    Ok(format!(in alloc; "{value:?}")?.as_str().starts_with(text))
+}
+
+#[test]
+fn debug_texts(rt: HostRuntime) -> Result<(), Fail> {
+    let alloc = rt.alloc();
+    let crontab = CrontabParseError::new(alloc, "x")?;
+    wanted(debugs(alloc, &TreeError::Misfit, "Misfit")?)?;
+    wanted(debugs(alloc, &EnvelopeError::InvalidHeader, "InvalidHeader")?)?;
+    wanted(debugs(alloc, &EnvelopeWriteError::NotPlain, "NotPlain")?)?;
+    wanted(debugs(alloc, &Scheme::Https, "Https")?)?;
+    wanted(debugs(alloc, &OrganizationId::from(5), "OrganizationId(5)")?)?;
+    wanted(debugs(alloc, &LossSlice(&[]), "LossSlice([])")?)?;
+    wanted(debugs(alloc, &crontab, "CrontabParseError")?)
 }

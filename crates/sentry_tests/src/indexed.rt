@@ -1,7 +1,9 @@
 // An enum of the tests as an `IndexedEnum`.
 ghost use Rattle.std.specs.Prelude.{[], ◌∷◌, refl};
 
+use crate::wanted::wanted;
 use sentry_types::IndexedEnum;
+use std::test::Fail;
 
 /// A direction of a road.
 #[derive(Clone, Copy, Debug, PartialEq)]
@@ -32,8 +34,9 @@ fn place_of<T: IndexedEnum>(variant: &T) -> usize {
 }
 
 #[test]
-fn variants_stand_at_their_index(rt: HostRuntime) {
+fn variants_stand_at_their_index(_rt: HostRuntime) -> Result<(), Fail> {
     let places = [place_of(&Direction::Forth), place_of(&Direction::Back)];
-    assert!(rt; places == [0, 1]);
-    assert!(rt; Direction::VARIANTS == [Direction::Forth, Direction::Back].as_slice());
+    wanted(
+        places == [0, 1] && Direction::VARIANTS == [Direction::Forth, Direction::Back].as_slice(),
+    )
 }

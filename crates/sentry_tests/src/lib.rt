@@ -1,5 +1,8 @@
 //! Tests of what no line of text can ask, by public names: drawn ids, orders, memory and writers that fail, filters
 //! with a state. This crate has no code of its own.
+//!
+//! A test makes its values and asks them in small calls that answer yes or no, and fails once, by `wanted`: each value
+//! of a large type is walked, and dropped, on every way out of a function.
 #![tactic(auto)]
 
 #[cfg(test)]
@@ -21,18 +24,18 @@ mod frames;
 #[cfg(test)]
 mod indexed;
 #[cfg(test)]
+mod ledgers;
+#[cfg(test)]
 mod losses;
 #[cfg(test)]
 mod main_path;
-#[cfg(test)]
-mod parts;
-#[cfg(test)]
-mod reports;
 #[cfg(test)]
 mod rows;
 #[cfg(test)]
 mod urls;
 #[cfg(test)]
 mod values;
+#[cfg(test)]
+mod wanted;
 #[cfg(test)]
 mod writers;

@@ -10,8 +10,8 @@
 
 pub mod protocol;
 
-pub use sentry_identifiers::{CodeId, DebugId, FromHexError, ParseDebugIdError, random_uuid};
+pub use sentry_identifiers::{CodeId, DebugId, ParseDebugIdError, random_uuid};
 pub use sentry_keys::{ApiUrlError, Auth, Dsn, ParseAuthError, ParseDsnError, Scheme};
-pub use sentry_numbers::{ParseNumberError, ParseProjectIdError, ProjectId};
-pub use sentry_words::{IndexedEnum, ParseWordError};
+pub use sentry_numbers::{ParseProjectIdError, ProjectId};
+pub use sentry_words::IndexedEnum;
 pub use uuid::Uuid;

@@ -2,8 +2,13 @@
 
 ghost use Rattle.std.specs.Prelude.{◌≡◌, ◌<◌, ℕ, List, Some, length, slice_get};
 
+/// Marks the traits that the Rust crate seals. Sealing is not enforced here: every type has the mark.
+pub trait Sealed {}
+
+impl<T> Sealed for T {}
+
 /// An enum whose variants stand in an order, each at an index of its own.
-pub trait IndexedEnum: Sized + 'static {
+pub trait IndexedEnum: Sealed + Sized + 'static {
     ghost variants: { List Self };
 
     ghost index_of: { Self → ℕ };

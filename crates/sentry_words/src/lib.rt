@@ -14,7 +14,7 @@ pub mod sampled;
 pub mod session_status;
 pub mod span_status;
 
-pub use indexed::IndexedEnum;
+pub use indexed::{IndexedEnum, Sealed};
 pub use level::{Level, ParseLevelError};
 pub use log_level::LogLevel;
 pub use metric_type::MetricType;

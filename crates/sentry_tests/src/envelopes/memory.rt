@@ -3,26 +3,40 @@
 // Without a refusal these tests call each function and want its answer. With one request refused, whichever it
 // is (`rt try --test --fail-alloc N`), they pass too: the answer is then want of memory, nothing was done, and
 // the next call is answered.
-use super::{BYTES, HELLO, ID_LINE, filtered, read, recording};
+use super::{HELLO, ID_LINE, filtered, read};
+use crate::wanted::wanted;
 use sentry_types::protocol::v7::{
     CountedWriter, Envelope, EnvelopeError, EnvelopeFilter, EnvelopeItem, EnvelopeWriteError,
 };
-use std::alloc::Global;
+use std::alloc::{AllocError, Global};
 use std::io;
 use std::io::Write;
 use std::test::Fail;
 
+/// The header line and the event of an envelope, as they are written.
+const EVENT: &str = concat!(
+    "{\"event_id\":\"22d00b3f-d1b1-4b5d-8d20-49d138cd8a9c\"}\n{\"length\":86,\"type\":\"event\"}\n",
+    "{\"event_id\":\"22d00b3fd1b14b5d8d2049d138cd8a9c\",\"timestamp\":\"2020-07-20T14:51:14.296Z\"}\n"
+);
+
+/// The envelope of that event and an attachment of `helloworld`.
+const TWO: &str = concat!(
+    "{\"event_id\":\"22d00b3f-d1b1-4b5d-8d20-49d138cd8a9c\"}\n{\"length\":86,\"type\":\"event\"}\n",
+    "{\"event_id\":\"22d00b3fd1b14b5d8d2049d138cd8a9c\",\"timestamp\":\"2020-07-20T14:51:14.296Z\"}\n",
+    "{\"type\":\"attachment\"}\nhelloworld"
+);
+
 /// Holds what is written, and takes no memory.
 #[derive(Drop)]
 struct Page {
-    bytes: [u8; 256],
+    bytes: [u8; 512],
     taken: usize,
 }
 
 impl Page {
     fn new() -> Page {
         Page {
-            bytes: [0; 256],
+            bytes: [0; 512],
             taken: 0,
         }
     }
@@ -31,10 +45,10 @@ impl Page {
         self.bytes.get(..self.taken).unwrap_or(&[])
     }
 
-    /// Whether it holds the text of the envelope that `BYTES` spell.
+    /// Whether it holds the text of the envelope that `TWO` spells.
     fn holds_all(&self) -> bool {
-        match self.text().split_at_checked(ID_LINE.len()) {
-            Some((line, item)) => line == ID_LINE.as_bytes() && item == HELLO.as_bytes(),
+        match self.text().split_at_checked(EVENT.len()) {
+            Some((event, item)) => event == EVENT.as_bytes() && item == HELLO.as_bytes(),
             None => false,
         }
     }
@@ -100,40 +114,40 @@ impl EnvelopeFilter for Calls {
     }
 }
 
-/// The envelope that `BYTES` spell. After a refusal they are read once more.
+/// The envelope that `TWO` spells. After a refusal it is read once more.
 fn read_at_last(alloc: Global) -> Result<Envelope, EnvelopeError> {
-    match read(alloc, BYTES) {
-        Err(EnvelopeError::OutOfMemory) => read(alloc, BYTES),
+    match read(alloc, TWO.as_bytes()) {
+        Err(EnvelopeError::OutOfMemory) => read(alloc, TWO.as_bytes()),
         answer => answer,
     }
 }
 
-#[test]
-fn refused_when_reading(rt: HostRuntime) -> Result<(), Fail> {
-    let envelope = read_at_last(rt.alloc())?;
-    assert!(rt; envelope.uuid().is_some());
-    assert_eq!(rt; envelope.items().count(), 1);
-    Ok(())
+/// Whether an envelope has an id, an event and another item.
+fn is_read(envelope: &Envelope) -> bool {
+    envelope.uuid().is_some() && envelope.event().is_some() && envelope.items().count() == 2
 }
 
-/// Whether the page gets the whole text, after a refusal that wrote nothing at the second try.
-fn is_written_at_last(alloc: Global, envelope: &Envelope, page: &mut Page) -> bool {
-    match envelope.to_writer(alloc, page) {
+#[test]
+fn refused_when_reading(rt: HostRuntime) -> Result<(), Fail> {
+    wanted(is_read(&read_at_last(rt.alloc())?))
+}
+
+/// Whether a page gets the whole text, after a refusal that wrote nothing at the second try.
+fn is_written_at_last(alloc: Global, envelope: &Envelope) -> bool {
+    let mut page = Page::new();
+    let written = match envelope.to_writer(alloc, &mut page) {
         Ok(()) => true,
         Err(EnvelopeWriteError::Memory) => {
-            page.taken == 0 && envelope.to_writer(alloc, page).is_ok()
+            page.taken == 0 && envelope.to_writer(alloc, &mut page).is_ok()
         }
         Err(_) => false,
-    }
+    };
+    written && page.holds_all()
 }
 
 #[test]
 fn refused_when_writing(rt: HostRuntime) -> Result<(), Fail> {
-    let envelope = read_at_last(rt.alloc())?;
-    let mut page = Page::new();
-    assert!(rt; is_written_at_last(rt.alloc(), &envelope, &mut page));
-    assert!(rt; page.holds_all());
-    Ok(())
+    wanted(is_written_at_last(rt.alloc(), &read_at_last(rt.alloc())?))
 }
 
 /// As `is_written_at_last`, at first by a writer that counts failures, and counts none.
@@ -154,92 +168,116 @@ fn is_counted_at_last(alloc: Global, envelope: &Envelope) -> bool {
 
 #[test]
 fn refused_when_writing_counted(rt: HostRuntime) -> Result<(), Fail> {
-    let envelope = read_at_last(rt.alloc())?;
-    assert!(rt; is_counted_at_last(rt.alloc(), &envelope));
-    Ok(())
+    wanted(is_counted_at_last(rt.alloc(), &read_at_last(rt.alloc())?))
 }
 
-/// Whether all goes, after a refusal that called nothing and left the envelope as it was at the second try.
-fn goes_at_last(alloc: Global, envelope: Envelope) -> Result<bool, Fail> {
+/// The normal form of an envelope. After a refusal it is asked for once more.
+fn normalized_at_last(envelope: &Envelope) -> Result<Envelope, AllocError> {
+    match envelope.normalized() {
+        Ok(normal) => Ok(normal),
+        Err(_) => envelope.normalized(),
+    }
+}
+
+#[test]
+fn refused_when_normalizing(rt: HostRuntime) -> Result<(), Fail> {
+    let normal = normalized_at_last(&read_at_last(rt.alloc())?)?;
+    wanted(is_written_at_last(rt.alloc(), &normal))
+}
+
+/// Whether an envelope is the one that `TWO` spells.
+fn is_unchanged(alloc: Global, envelope: &Envelope) -> bool {
+    matches!(read(alloc, TWO.as_bytes()), Ok(same) if same == *envelope)
+}
+
+/// Whether all stays, after a refusal that called nothing and left the envelope as it was at the second try.
+fn stays_at_last(alloc: Global, envelope: Envelope) -> bool {
     match envelope.filter(alloc, Calls::none()) {
-        Ok(left) => Ok(left.is_none()),
+        Ok(left) => left.is_some(),
         Err((envelope, calls)) => {
-            let unchanged = calls.are(0, 0) && envelope == read(alloc, BYTES)?;
-            Ok(unchanged && matches!(envelope.filter(alloc, calls), Ok(None)))
+            calls.are(0, 0)
+                && is_unchanged(alloc, &envelope)
+                && matches!(envelope.filter(alloc, calls), Ok(Some(_)))
         }
     }
 }
 
 #[test]
 fn refused_when_filtering(rt: HostRuntime) -> Result<(), Fail> {
-    let envelope = read_at_last(rt.alloc())?;
-    assert!(rt; goes_at_last(rt.alloc(), envelope)?);
-    Ok(())
+    wanted(stays_at_last(rt.alloc(), read_at_last(rt.alloc())?))
 }
 
-/// As `goes_at_last`, by a filter that is borrowed, which gets one item.
-fn goes_by_at_last(alloc: Global, envelope: Envelope, keep: bool) -> Result<bool, Fail> {
+/// Whether all stays of an envelope that is as it was, by a filter that was not called.
+fn stays_again(alloc: Global, envelope: Envelope, calls: &mut Calls, keep: bool) -> bool {
+    calls.are(0, 0)
+        && is_unchanged(alloc, &envelope)
+        && matches!(filtered(alloc, envelope, calls, keep), Ok(Some(_)))
+}
+
+/// As `stays_at_last`, by a filter that is borrowed, which is asked about both items.
+fn stays_by_at_last(alloc: Global, envelope: Envelope, keep: bool) -> bool {
     let mut calls = Calls::none();
-    let left = match filtered(alloc, envelope, &mut calls, keep) {
-        Ok(left) => left,
-        Err(envelope) => {
-            if !calls.are(0, 0) || envelope != read(alloc, BYTES)? {
-                return Ok(false);
-            }
-            match filtered(alloc, envelope, &mut calls, keep) {
-                Ok(left) => left,
-                Err(_) => return Ok(false),
-            }
-        }
+    let stays = match filtered(alloc, envelope, &mut calls, keep) {
+        Ok(left) => left.is_some(),
+        Err(envelope) => stays_again(alloc, envelope, &mut calls, keep),
     };
-    Ok(left.is_none() && calls.are(1, 1))
+    stays && calls.are(2, 0)
 }
 
 #[test]
 fn refused_when_filtering_by(rt: HostRuntime) -> Result<(), Fail> {
     for keep in [false, true] {
-        let envelope = read_at_last(rt.alloc())?;
-        assert!(rt; goes_by_at_last(rt.alloc(), envelope, keep)?);
+        wanted(stays_by_at_last(rt.alloc(), read_at_last(rt.alloc())?, keep))?;
     }
     Ok(())
 }
 
-/// An envelope of an attachment of so many bytes and a recording.
-fn large(alloc: Global, length: usize) -> Result<Envelope, Fail> {
-    let header = format!(in alloc; "{ID_LINE}{{\"type\":\"attachment\",\"length\":{length}}}\n")?;
+/// The bytes of an envelope of an event, an attachment of so many bytes and a recording.
+fn bytes_of(alloc: Global, length: usize) -> Result<Vec<u8>, AllocError> {
+    let event =
+        "{\"type\":\"event\"}\n{\"event_id\":\"22d00b3fd1b14b5d8d2049d138cd8a9c\",\"timestamp\":\"2020-07-20T14:51:14.296Z\"}\n";
+    let header = format!(in alloc;
+        "{ID_LINE}{event}{{\"type\":\"attachment\",\"length\":{length}}}\n"
+    )?;
     let mut bytes = header.as_bytes().to_vec(alloc)?;
     bytes.extend_from_slice(&vec![in alloc; b'x'; length]?)?;
-    let mut envelope = read(alloc, &bytes)?;
-    envelope.add_item(recording(alloc))?;
-    Ok(envelope)
+    bytes.extend_from_slice(b"\n{\"type\":\"replay_recording\"}\n")?;
+    Ok(bytes)
 }
 
 /// Whether an envelope is written as more bytes than these, and the same by a writer that counts.
-fn is_longer(alloc: Global, envelope: &Envelope, length: usize) -> Result<bool, Fail> {
+fn is_longer(alloc: Global, envelope: &Envelope, length: usize) -> bool {
     let mut out = Vec::new(alloc);
-    envelope.to_writer(alloc, &mut out)?;
     let mut counted = CountedWriter::new(Vec::new(alloc));
-    envelope.write_counted(alloc, &mut counted)?;
-    Ok(out.len() > length && counted.into_inner() == out)
+    envelope.to_writer(alloc, &mut out).is_ok()
+        && envelope.write_counted(alloc, &mut counted).is_ok()
+        && out.len() > length
+        && counted.into_inner() == out
 }
 
-/// Whether an item is left of an envelope of two.
-fn keeps_an_item(alloc: Global, envelope: Envelope, keep: bool) -> bool {
+/// Whether all three items of an envelope stay.
+fn keeps_all(alloc: Global, envelope: Envelope, keep: bool) -> bool {
     let mut calls = Calls::none();
     let left = filtered(alloc, envelope, &mut calls, keep);
-    matches!(left, Ok(Some(_))) && calls.are(2, 1)
+    matches!(left, Ok(Some(_))) && calls.are(3, 0)
 }
 
-/// Wants no memory answered by any call.
+/// Whether no call wants memory for the envelope of an event, an attachment of so many bytes and a recording.
+fn none_is_refused(alloc: Global, envelope: Envelope, length: usize) -> Result<bool, AllocError> {
+    let written = is_longer(alloc, &envelope, length);
+    let normal = is_longer(alloc, &envelope.normalized()?, length);
+    let filtered = keeps_all(alloc, envelope.clone()?, false);
+    let kept = keeps_all(alloc, envelope.clone()?, true);
+    let alone = matches!(envelope.filter(alloc, Calls::none()), Ok(Some(_)));
+    Ok(written && normal && filtered && kept && alone)
+}
+
 #[test]
 fn none_refused(rt: HostRuntime) -> Result<(), Fail> {
     let alloc = rt.alloc();
     for length in [10, 1_000_000] {
-        let envelope = large(alloc, length)?;
-        assert!(rt; is_longer(alloc, &envelope, length)?);
-        assert!(rt; keeps_an_item(alloc, envelope.clone()?, false));
-        assert!(rt; keeps_an_item(alloc, envelope.clone()?, true));
-        assert!(rt; matches!(envelope.filter(alloc, Calls::none()), Ok(Some(_))));
+        let bytes = bytes_of(alloc, length)?;
+        wanted(none_is_refused(alloc, read(alloc, &bytes)?, length)?)?;
     }
     Ok(())
 }

@@ -1,56 +1,48 @@
 // Envelopes that are put together.
 use super::{HELLO, ID_LINE, hello, is_written, recording};
-use sentry_types::protocol::v7::{
-    AddRefused, Attachment, AttachmentType, ClientSdkInfo, Envelope, EnvelopeHeaders, EnvelopeItem,
-    Moment,
-};
-use sentry_types::{Dsn, Uuid};
+use crate::wanted::wanted;
+use sentry_types::Uuid;
+use sentry_types::protocol::v7::{AddRefused, Envelope, EnvelopeHeaders, EnvelopeItem};
 use std::alloc::{AllocError, Global};
 use std::test::Fail;
 
-#[test]
-fn empty(rt: HostRuntime) {
-    let alloc = rt.alloc();
-    let envelope = Envelope::new(alloc);
-    assert!(rt; is_written(alloc, &envelope, "{}\n") && envelope.is_plain());
-    assert!(rt; envelope == Envelope::default_in(alloc) && envelope.uuid().is_none());
-}
-
-fn software(alloc: Global) -> Result<ClientSdkInfo, AllocError> {
-    Ok(ClientSdkInfo {
-        name: String::from_str(alloc, "a")?,
-        version: String::from_str(alloc, "1")?,
-        integrations: Vec::new(alloc),
-        packages: Vec::new(alloc),
-    })
+/// Whether an envelope is written as a header line without fields, and is plain.
+fn is_bare(alloc: Global, envelope: &Envelope) -> bool {
+    is_written(alloc, envelope, "{}\n") && envelope.is_plain() && envelope.uuid().is_none()
 }
 
 #[test]
-fn headers(rt: HostRuntime) -> Result<(), Fail> {
+fn empty(rt: HostRuntime) -> Result<(), Fail> {
     let alloc = rt.alloc();
-    let headers = EnvelopeHeaders::new()
-        .with_dsn(Dsn::from_str(alloc, "https://username@domain/42")?)
-        .with_sdk(software(alloc)?)
-        .with_sent_at(Moment::new(1_581_084_960, 0).ok_or("no moment")?);
-    let envelope = Envelope::new(alloc).with_headers(headers);
-    let text =
-        "{\"dsn\":\"https://username:@domain/42\",\"sdk\":{\"name\":\"a\",\"version\":\"1\"},\"sent_at\":\"2020-02-07T14:16:00Z\"}\n";
-    assert!(rt; is_written(alloc, &envelope, text) && is_written(alloc, &envelope.clone()?, text));
-    Ok(())
+    wanted(is_bare(alloc, &Envelope::new(alloc)) && is_bare(alloc, &Envelope::default_in(alloc)))
+}
+
+/// The id in `ID_LINE`.
+fn id() -> Uuid {
+    Uuid::from_u128(0x9ec7_9c33_ec99_42ab_8353_589f_cb2e_04dc)
+}
+
+/// An envelope of the attachment of `helloworld`.
+fn one_item(alloc: Global) -> Result<Envelope, AddRefused> {
+    match hello(alloc) {
+        Ok(item) => Envelope::from_item(alloc, item),
+        Err(_) => Err(AddRefused::Memory(EnvelopeItem::Raw)),
+    }
+}
+
+fn and_item(mut envelope: Envelope, item: EnvelopeItem) -> Result<Envelope, AddRefused> {
+    envelope.add_item(item)?;
+    Ok(envelope)
 }
 
 /// An envelope of the attachment of `helloworld`, raw bytes and a recording, with an id in its header.
-fn three_items(alloc: Global, id: Uuid) -> Result<Envelope, AddRefused> {
-    let Ok(first) = hello(alloc) else {
-        return Err(AddRefused::Memory(EnvelopeItem::Raw));
-    };
-    let mut envelope = Envelope::from_item(alloc, first)?;
-    envelope.add_item(EnvelopeItem::Raw)?;
-    envelope.add_item(recording(alloc))?;
-    Ok(envelope.with_headers(EnvelopeHeaders::new().with_event_id(id)))
+fn three_items(alloc: Global) -> Result<Envelope, AddRefused> {
+    let two = and_item(one_item(alloc)?, EnvelopeItem::Raw)?;
+    let three = and_item(two, recording(alloc))?;
+    Ok(three.with_headers(EnvelopeHeaders::new().with_event_id(id())))
 }
 
-fn is_of_three_items(envelope: &Envelope) -> bool {
+fn are_three(envelope: &Envelope) -> bool {
     let mut items = envelope.items();
     matches!(items.next(), Some(EnvelopeItem::Attachment(_)))
         && matches!(items.next(), Some(EnvelopeItem::Raw))
@@ -58,69 +50,49 @@ fn is_of_three_items(envelope: &Envelope) -> bool {
         && items.next().is_none()
 }
 
-#[test]
-fn items(rt: HostRuntime) -> Result<(), Fail> {
-    let id = Uuid::parse_str("9ec79c33ec9942ab8353589fcb2e04dc")?;
-    let envelope = three_items(rt.alloc(), id)?;
-    let same = *envelope.headers() == EnvelopeHeaders::new().with_event_id(id);
-    assert!(rt; same && envelope.uuid().copied() == Some(id) && is_of_three_items(&envelope));
-    Ok(())
+/// The header and the text: raw items are not written.
+fn is_text(alloc: Global, envelope: &Envelope) -> Result<bool, AllocError> {
+    let recording = "{\"length\":0,\"type\":\"replay_recording\"}\n\n";
+    let text = format!(in alloc; "{ID_LINE}{HELLO}{recording}")?;
+    let same = *envelope.headers() == EnvelopeHeaders::new().with_event_id(id());
+    Ok(same && is_written(alloc, envelope, text.as_str()))
 }
 
 #[test]
-fn raw_items_are_not_written(rt: HostRuntime) -> Result<(), Fail> {
-    let alloc = rt.alloc();
-    let text = format!(in alloc;
-        "{ID_LINE}{HELLO}{{\"length\":0,\"type\":\"replay_recording\"}}\n\n"
-    )?;
-    let envelope = three_items(alloc, Uuid::parse_str("9ec79c33ec9942ab8353589fcb2e04dc")?)?;
-    assert!(rt; is_written(alloc, &envelope, text.as_str()));
-    Ok(())
+fn items(rt: HostRuntime) -> Result<(), Fail> {
+    let envelope = three_items(rt.alloc())?;
+    wanted(are_three(&envelope) && is_text(rt.alloc(), &envelope)?)
+}
+
+/// Whether two envelopes are the same, of three items each.
+fn are_alike(one: &Envelope, other: Envelope) -> Result<bool, AllocError> {
+    let alike = *one == other && are_three(&other) && other.items().clone()?.count() == 3;
+    Ok(alike && other.into_items().count() == 3)
 }
 
 #[test]
 fn copies(rt: HostRuntime) -> Result<(), Fail> {
-    let envelope = three_items(rt.alloc(), Uuid::nil())?;
-    let copy = envelope.clone()?;
-    assert!(rt; copy == envelope && is_of_three_items(&copy));
-    assert!(rt; copy.items().clone()?.count() == 3 && copy.into_items().count() == 3);
-    Ok(())
+    let envelope = three_items(rt.alloc())?;
+    wanted(are_alike(&envelope, envelope.clone()?)?)
 }
 
-/// Whether an item is an attachment of this type and content type.
-fn is_attachment(item: Option<&EnvelopeItem>, ty: &AttachmentType, content_type: &str) -> bool {
-    match item {
-        Some(
-            EnvelopeItem::Attachment(
-                Attachment {
-                    ty: Some(found),
-                    content_type: Some(text),
-                    ..
-                },
-            ),
-        ) => found == ty && text.as_str() == content_type,
-        _ => false,
-    }
+/// Whether the one envelope lost its raw item, and the two have one text.
+fn is_normal_form(alloc: Global, normal: &Envelope) -> Result<bool, AllocError> {
+    Ok(normal.items().count() == 2 && is_text(alloc, normal)?)
 }
 
 #[test]
 fn normal_forms(rt: HostRuntime) -> Result<(), Fail> {
-    let alloc = rt.alloc();
-    let id = Uuid::parse_str("9ec79c33ec9942ab8353589fcb2e04dc")?;
-    let normal = three_items(alloc, id)?.normalized()?;
-    let mut items = normal.items();
-    let filled = is_attachment(
-        items.next(),
-        &AttachmentType::Attachment,
-        "application/octet-stream",
-    );
-    let recorded = matches!(items.next(), Some(EnvelopeItem::ReplayRecording(_)));
-    assert!(rt; filled && recorded && items.next().is_none() && normal.uuid().copied() == Some(id));
-    Ok(())
+    let envelope = three_items(rt.alloc())?;
+    wanted(is_normal_form(rt.alloc(), &envelope.normalized()?)?)
+}
+
+fn raw(alloc: Global) -> Result<Envelope, Fail> {
+    Ok(Envelope::from_bytes_raw(b"oh stahp!\0\x01\x02".to_vec(alloc)?)?)
 }
 
 /// Whether a raw envelope refuses an attachment, and hands it back.
-fn is_refused(alloc: Global, envelope: &mut Envelope) -> Result<bool, Fail> {
+fn is_refused(alloc: Global, envelope: &mut Envelope) -> Result<bool, AllocError> {
     match envelope.add_item(hello(alloc)?) {
         Err(AddRefused::RawEnvelope(item)) => Ok(item == hello(alloc)?),
         _ => Ok(false),
@@ -129,8 +101,9 @@ fn is_refused(alloc: Global, envelope: &mut Envelope) -> Result<bool, Fail> {
 
 #[test]
 fn raw_envelopes_take_no_items(rt: HostRuntime) -> Result<(), Fail> {
-    let mut envelope = Envelope::from_bytes_raw(b"oh stahp!\0\x01\x02".to_vec(rt.alloc())?)?;
-    assert!(rt; envelope.add_item(EnvelopeItem::Raw).is_ok());
-    assert!(rt; is_refused(rt.alloc(), &mut envelope)? && envelope.into_items().count() == 0);
-    Ok(())
+    let mut envelope = raw(rt.alloc())?;
+    let refused = is_refused(rt.alloc(), &mut envelope)?;
+    let taken = envelope.add_item(EnvelopeItem::Raw).is_ok();
+    wanted(refused && taken && envelope.normalized()? == envelope)?;
+    wanted(envelope.into_items().count() == 0)
 }

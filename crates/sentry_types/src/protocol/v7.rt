@@ -5,13 +5,14 @@ pub use sentry_contexts::{
     AppContext, BrowserContext, Context, DeviceContext, GpuContext, OsContext, OtelContext,
     ResponseContext, RuntimeContext, TraceContext,
 };
+pub use sentry_envelope::called::{Asked, Given};
 pub use sentry_envelope::timed::read_line_at;
 pub use sentry_envelope::{
     AddRefused, CountedReader, CountedWriter, Envelope, EnvelopeError, EnvelopeFilter,
     EnvelopeFilterCallbacks, EnvelopeHeaders, EnvelopeItemIter, EnvelopeWriteError, Frames,
-    IntoItems, ItemFrame,
+    IntoItems, ItemFrame, laws,
 };
-pub use sentry_event::{Event, Span, Transaction};
+pub use sentry_event::{AsFingerprint, Event, Span, Transaction};
 pub use sentry_framing::{ItemHeader, ItemKind, read_item_header};
 pub use sentry_items::{
     Attachment, AttachmentType, AttachmentWriteError, EnvelopeItem, ItemContainer, ReplayRecording,
@@ -21,7 +22,7 @@ pub use sentry_parts::{
     AppleDebugImage, Breadcrumb, CError, ClientSdkInfo, ClientSdkPackage, DebugImage, DebugMeta,
     Exception, Frame, LogEntry, MachException, Mechanism, MechanismMeta, PosixSignal,
     ProguardDebugImage, Request, Stacktrace, SymbolicDebugImage, SystemSdkInfo, TemplateInfo,
-    Thread, ThreadId, User, WasmDebugImage,
+    Thread, ThreadId, TreeMember, User, WasmDebugImage,
 };
 pub use sentry_records::{
     DynamicSamplingContext, Log, LogAttribute, Metric, MonitorCheckIn, MonitorConfig,
@@ -42,8 +43,8 @@ pub use sentry_numbers::{LogSeverityNumber, OrganizationId, ParseNumberError, Se
 pub use sentry_units::Unit;
 pub use sentry_words::{
     Level, LogLevel, MetricType, MonitorCheckInStatus, MonitorIntervalUnit, Orientation,
-    ParseLevelError, ParseSessionStatusError, ParseStatusError, ParseWordError, SessionStatus,
-    SpanStatus,
+    ParseLevelError, ParseSessionStatusError, ParseStatusError, ParseWordError, Sealed,
+    SessionStatus, SpanStatus,
 };
 pub use url::Url;
 pub use uuid::Uuid;
@@ -51,24 +52,30 @@ pub use uuid::Uuid;
 // Types as trees of JSON: the traits of their calls, and the forms of those that have several.
 pub use sentry_addresses::IpText;
 pub use sentry_identifiers::{Hyphenated, Simple};
-pub use sentry_members::{Codec, FromTree, Member, Own, ReadCodec, TreeError, read_line, whole};
+pub use sentry_members::{
+    Codec, Drawn, Formed, FromTree, Member, Own, ReadCodec, TreeError, Way, read_line, whole,
+};
 pub use sentry_moments::{Rfc3339, Seconds};
 pub use sentry_numbers::OrganizationText;
-pub use sentry_rows::{Drawn, FromTreeAt};
+pub use sentry_rows::{FromTreeAt, ReadCodecAt};
+pub use sentry_trees::Node;
+pub use sentry_urls::UrlText;
 pub use sentry_words::Sampled;
 
 // Trees of JSON, and maps.
 pub use self::map::Map;
 pub use self::value::Value;
 
-/// What is lost with items that are taken out.
+/// Losses, client reports, and the ledger that holds losses until they are reported.
 pub mod client_report {
+    pub use sentry_ledger::{Ledger, LedgerFull, Step, StepAnswer, filter_recorded, run_steps};
     pub use sentry_losses::{ItemLossIter, LossSlice, LossSource};
     pub use sentry_reports::{Category, Item, ItemLoss, Reason, Report};
 }
 
 /// Trees of JSON.
 pub mod value {
+    pub use json::Writer;
     pub use serde_json::{Map, Number, Value};
 }
 

@@ -5,10 +5,10 @@ pub returns-clause-normal : goal.returns-clause-normal
 returns-clause-normal c = answers_normal c.args.self.now c.remade.result c.remade.ensures
 
 pub returns-clause-own : goal.returns-clause-own
-returns-clause-own c = answers_own c.args.self.now c.remade.result c.remade.ensures
+returns-clause-own c = answers_own c.args.self.now c.remade.result c.is_plain-is_plain.result c.remade.ensures c.is_plain-is_plain.ensures.plain c.is_plain-is_plain.ensures.stored
 
 pub returns-clause-readable : goal.returns-clause-readable
-returns-clause-readable c = answers_readable c.args.self.now c.remade.result c.remade.ensures
+returns-clause-readable c = answers_readable c.args.self.now c.remade.result c.is_plain-is_plain.result c.remade.ensures c.is_plain-is_plain.ensures.plain c.is_plain-is_plain.ensures.stored
 
 pub returns-clause-read_back : goal.returns-clause-read_back
-returns-clause-read_back c = answers_read_back c.args.self.now c.remade.result c.remade.ensures
+returns-clause-read_back c = answers_read_back c.args.self.now c.remade.result c.is_plain-is_plain.result c.remade.ensures c.is_plain-is_plain.ensures.plain c.is_plain-is_plain.ensures.stored

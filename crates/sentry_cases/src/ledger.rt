@@ -1,0 +1,140 @@
+//! Histories of a ledger, and envelopes whose losses a ledger records.
+
+use crate::envelopes::{read, said_envelope, said_loss};
+use crate::filters::ByKinds;
+use crate::said::{list, refused, text};
+use sentry_types::IndexedEnum;
+use sentry_types::protocol::v7::client_report::{
+    Category, ItemLoss, Ledger, Reason, Step, StepAnswer, filter_recorded, run_steps,
+};
+use sentry_types::protocol::v7::{Member, Moment};
+use serde_json::Value;
+use std::alloc::{AllocError, Global};
+
+fn category_of(word: &str) -> Option<Category> {
+    for category in Category::VARIANTS {
+        if category.as_str() == word {
+            return Some(*category);
+        }
+    }
+    None
+}
+
+fn reason_of(word: &str) -> Option<Reason> {
+    for reason in Reason::VARIANTS {
+        if reason.as_str() == word {
+            return Some(*reason);
+        }
+    }
+    None
+}
+
+// `flush SECONDS`, or `add CATEGORY QUANTITY REASON`, after which the loss's own reason may stand.
+fn step_of(given: &str) -> Option<Step> {
+    let mut words = given.split(' ');
+    if words.next()? == "flush" {
+        let secs = words.next()?.parse::<u64>().ok()?;
+        return Some(Step::Flush(Moment::new(secs, 0)?));
+    }
+    let category = category_of(words.next()?)?;
+    let quantity = words.next()?.parse::<u64>().ok()?;
+    let given = reason_of(words.next()?)?;
+    let reason = match words.next() {
+        Some(word) => Some(reason_of(word)?),
+        None => None,
+    };
+    let loss = ItemLoss {
+        category,
+        quantity,
+        reason,
+    };
+    Some(Step::Add(loss, given))
+}
+
+// Steps with `; ` between them.
+fn steps_of(alloc: Global, given: &str) -> Result<Option<Vec<Step>>, AllocError> {
+    let mut steps = Vec::new(alloc);
+    for part in given.split("; ") {
+        if part.is_empty() {
+            continue;
+        }
+        let Some(step) = step_of(part) else {
+            return Ok(None);
+        };
+        steps.push(step)?;
+    }
+    Ok(Some(steps))
+}
+
+fn said_answer(alloc: Global, answer: &StepAnswer) -> Result<Value, AllocError> {
+    match answer {
+        StepAnswer::Accepted => text(alloc, "accepted"),
+        StepAnswer::Refused => text(alloc, "refused"),
+        StepAnswer::Flushed(report) => report.to_tree(alloc),
+        StepAnswer::Nothing => text(alloc, "nothing"),
+        StepAnswer::NoMemory => text(alloc, "no memory"),
+    }
+}
+
+// What is held of each category and reason above 0, in order, or `empty`.
+fn said_held(alloc: Global, ledger: &Ledger) -> Result<Value, AllocError> {
+    if ledger.is_empty() {
+        return text(alloc, "empty");
+    }
+    let mut told = Vec::new(alloc);
+    for category in Category::VARIANTS {
+        for reason in Reason::VARIANTS {
+            let quantity = ledger.held(*category, *reason);
+            if quantity != 0 {
+                let loss = ItemLoss {
+                    category: *category,
+                    quantity,
+                    reason: Some(*reason),
+                };
+                told.push(said_loss(alloc, &loss)?)?;
+            }
+        }
+    }
+    Ok(Value::from(told))
+}
+
+/// The answers to steps on an empty ledger, and what is held afterwards.
+pub fn of_history(alloc: Global, given: &str) -> Result<Value, AllocError> {
+    let Some(steps) = steps_of(alloc, given)? else {
+        return text(alloc, "no steps");
+    };
+    let mut ledger = Ledger::default();
+    let mut told = Vec::new(alloc);
+    for answer in &run_steps(alloc, &mut ledger, steps.as_slice())? {
+        told.push(said_answer(alloc, answer)?)?;
+    }
+    list(alloc, [Value::from(told), said_held(alloc, &ledger)?])
+}
+
+/// What is left of the envelope that bytes spell without the items of some kinds, how many of their losses are refused,
+/// and what is held afterwards. The first word is the reason; steps may stand after `; `, and come first.
+pub fn of_recorded(alloc: Global, words: &str, bytes: &[u8]) -> Result<Value, AllocError> {
+    let (words, before) = words.split_once("; ").unwrap_or((words, ""));
+    let (reason, kinds) = words.split_once(' ').unwrap_or((words, ""));
+    let (Some(reason), Some(steps)) = (reason_of(reason), steps_of(alloc, before)?) else {
+        return text(alloc, "no steps");
+    };
+    let envelope = match read(alloc, bytes) {
+        Ok(envelope) => envelope,
+        Err(error) => return refused(alloc, &error),
+    };
+    let mut ledger = Ledger::new();
+    drop(run_steps(alloc, &mut ledger, steps.as_slice())?);
+    let filter = ByKinds::new(alloc, kinds);
+    let Ok((left, number)) = filter_recorded(alloc, envelope, filter, reason, &mut ledger) else {
+        return Err(AllocError);
+    };
+    let left = match left {
+        Some(left) => said_envelope(alloc, &left)?,
+        None => Value::Null,
+    };
+    list(
+        alloc,
+        [left, Value::from(number), said_held(alloc, &ledger)?],
+    )
+}

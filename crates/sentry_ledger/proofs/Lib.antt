@@ -1,0 +1,5 @@
+pub mod HeldLemmas
+pub mod HistoryLemmas
+pub mod StepLemmas
+pub mod RecordLemmas
+pub mod Conserved

@@ -1,0 +1,240 @@
+// A ledger of losses: what comes back, what a filter loses, a client that reports, and memory that is refused.
+ghost use Rattle.std.specs.Prelude.{◌≡◌, IfErr, IfOk, IfSome, OnErr};
+ghost use Rattle.sentry_reports.specs.ReportSums.{report_sum};
+ghost use Rattle.sentry_reports.specs.declared.category.Category.{Category as Categories};
+ghost use Rattle.sentry_reports.specs.declared.reason.Reason.{Reason as Reasons};
+ghost use Rattle.sentry_ledger.specs.Held.{quantity_held};
+
+use crate::envelopes::read;
+use sentry_members::text_of;
+use sentry_types::IndexedEnum;
+use sentry_types::protocol::v7::client_report::{
+    Category, ItemLoss, Ledger, LedgerFull, Reason, Report, Step, StepAnswer, filter_recorded,
+    run_steps,
+};
+use sentry_types::protocol::v7::{
+    Envelope, EnvelopeError, EnvelopeFilterCallbacks, EnvelopeItem, Moment,
+};
+use std::alloc::{AllocError, Global};
+use std::test::Fail;
+
+const MOST: u64 = 18_446_744_073_709_551_615;
+
+/// An event, and an attachment of twelve bytes.
+const EVENT_AND_ATTACHMENT: &[u8] =
+    b"{}\n{\"type\":\"event\"}\n{\"event_id\":\"22d00b3fd1b14b5d8d2049d138cd8a9c\",\"timestamp\":1}\n{\"type\":\"attachment\"}\ntwelve bytes";
+
+fn errors(quantity: u64, reason: Option<Reason>) -> ItemLoss {
+    ItemLoss {
+        category: Category::Error,
+        quantity,
+        reason,
+    }
+}
+
+/// How much is held of all pairs together, cut at 2^64-1.
+fn all_held(ledger: &Ledger) -> u64 {
+    let mut all: u64 = 0;
+    for category in Category::VARIANTS {
+        for reason in Reason::VARIANTS {
+            all = all.saturating_add(ledger.held(*category, *reason));
+        }
+    }
+    all
+}
+
+/// A ledger with one error for each reason, whose report takes memory several times.
+fn nine_errors() -> Result<Ledger, LedgerFull> {
+    let mut ledger = Ledger::new();
+    for reason in Reason::VARIANTS {
+        ledger.record(errors(1, Some(*reason)), Reason::SampleRate)?;
+    }
+    Ok(ledger)
+}
+
+#[test]
+fn a_refused_loss_comes_back(rt: HostRuntime) -> Result<(), Fail> {
+    let mut ledger = Ledger::new();
+    let first = ledger.record(errors(MOST, None), Reason::BeforeSend);
+    let refused = errors(2, Some(Reason::BeforeSend));
+    let Err(LedgerFull(back)) = ledger.record(refused, Reason::SampleRate) else {
+        return Err("accepted".into());
+    };
+    let held = ledger.held(Category::Error, Reason::BeforeSend);
+    let same = back.quantity == 2 && matches!(back.reason, Some(Reason::BeforeSend));
+    assert!(rt; first.is_ok() && same && held == MOST && all_held(&ledger) == MOST);
+    Ok(())
+}
+
+/// Takes events out of an envelope, records the losses, and counts the items that go. Gives whether nothing is left,
+/// how many losses are refused, and the count.
+fn counted(alloc: Global, envelope: Envelope, ledger: &mut Ledger) -> Option<(bool, u64, u64)> {
+    let mut gone = 0_u64;
+    let callbacks = EnvelopeFilterCallbacks::new(
+        |item: &EnvelopeItem| !matches!(item, EnvelopeItem::Event(_)),
+        |_item: EnvelopeItem| gone = gone.saturating_add(1),
+    );
+    match filter_recorded(alloc, envelope, callbacks, Reason::SampleRate, ledger) {
+        Ok((left, refused)) => Some((left.is_none(), refused, gone)),
+        Err(_) => None,
+    }
+}
+
+#[test]
+fn losses_of_what_a_filter_takes_out(rt: HostRuntime) -> Result<(), Fail> {
+    let alloc = rt.alloc();
+    for (before, refused, held) in [(0, 0, 13), (MOST, 1, MOST)] {
+        let mut ledger = Ledger::new();
+        ledger.record(errors(before, None), Reason::SampleRate)?;
+        let told = counted(alloc, read(alloc, EVENT_AND_ATTACHMENT)?, &mut ledger);
+        let bytes = ledger.held(Category::Attachment, Reason::SampleRate);
+        let right = told == Some((true, refused, 2)) && bytes == 12;
+        assert!(rt; right && all_held(&ledger) == held);
+    }
+    Ok(())
+}
+
+/// The losses of a client, which reports them once a minute.
+#[derive(Drop)]
+struct Losses {
+    ledger: Ledger,
+    /// The second from which on a report is due.
+    due: u64,
+}
+
+impl Losses {
+    /// Takes attachments out of an envelope and records the losses. Returns what is left, and how many losses are
+    /// refused.
+    fn without_attachments(
+        &mut self,
+        alloc: Global,
+        envelope: Envelope,
+    ) -> Result<(Option<Envelope>, u64), Envelope>
+        ensures { IfErr result (λ back. (back ≡ envelope) × (self.new ≡ self.old)) }
+    {
+        let keeps = |item: &EnvelopeItem| !matches!(item, EnvelopeItem::Attachment(_));
+        filter_recorded(alloc, envelope, keeps, Reason::BeforeSend, &mut self.ledger)
+    }
+
+    /// Returns a report of all losses, if one is due.
+    fn report(&mut self, alloc: Global, now: Moment) -> Result<Option<Report>, AllocError>
+        ensures reported { IfOk result (λ given. IfSome given (λ report.
+            (category : Categories) (reason : Reasons) →
+            report_sum category reason report.items
+            ≡ quantity_held self.old.ledger category reason)) }
+        ensures refused { OnErr result (self.new ≡ self.old) }
+    {
+        if now.secs() < self.due {
+            return Ok(None);
+        }
+        let report = self.ledger.flush(alloc, now)?;
+        self.due = now.secs().saturating_add(60);
+        Ok(report)
+    }
+}
+
+/// The texts of the reports that are due at these seconds.
+fn reported(alloc: Global, losses: &mut Losses, seconds: &[u64]) -> Result<String, Fail> {
+    let mut texts = Vec::new(alloc);
+    for secs in seconds {
+        let now = Moment::new(*secs, 0).ok_or("moment")?;
+        if let Some(report) = losses.report(alloc, now)? {
+            texts.extend_from_slice(&text_of(alloc, &report)?)?;
+        }
+    }
+    Ok(String::from_utf8(texts).map_err(|_| "text")?)
+}
+
+const REPORT: &str =
+    "{\"discarded_events\":[{\"category\":\"attachment\",\"quantity\":12,\"reason\":\"before_send\"}],\"timestamp\":60}";
+
+#[test]
+fn a_client_reports_what_it_drops(rt: HostRuntime) -> Result<(), Fail> {
+    let alloc = rt.alloc();
+    let mut losses = Losses {
+        ledger: Ledger::default(),
+        due: 60,
+    };
+    let envelope = read(alloc, EVENT_AND_ATTACHMENT)?;
+    let Ok((left, refused)) = losses.without_attachments(alloc, envelope) else {
+        return Err("memory".into());
+    };
+    let texts = reported(alloc, &mut losses, &[59, 60, 61, 120])?;
+    let sent = texts.as_str() == REPORT && losses.ledger.is_empty() && losses.due == 180;
+    assert!(rt; left.is_some() && refused == 0 && sent);
+    Ok(())
+}
+
+// Where memory is refused, the answer says so and all is held as before; the next call is answered. These tests pass
+// with none refused, and with each request refused in turn (`rt try --test --fail-alloc N`).
+
+/// How many items the report of a ledger has, at the second try after a refusal that changed nothing.
+fn flushed_at_last(alloc: Global, ledger: &mut Ledger, now: Moment) -> Result<usize, Fail> {
+    let held = all_held(ledger);
+    let report = match ledger.flush(alloc, now) {
+        Ok(report) => report,
+        Err(_) if all_held(ledger) == held => ledger.flush(alloc, now)?,
+        Err(_) => return Err("lost".into()),
+    };
+    Ok(report.map_or(0, |report| report.discarded_events().len()))
+}
+
+#[test]
+fn refused_when_flushing(rt: HostRuntime) -> Result<(), Fail> {
+    let mut ledger = nine_errors()?;
+    let now = Moment::new(1, 0).ok_or("moment")?;
+    let items = flushed_at_last(rt.alloc(), &mut ledger, now)?;
+    assert!(rt; items == 9 && ledger.is_empty());
+    Ok(())
+}
+
+/// How many losses are held after a flush and a loss, and whether the flush was answered by a report.
+fn run_at_last(alloc: Global, ledger: &mut Ledger, now: Moment) -> Result<(bool, u64), Fail> {
+    let held = all_held(ledger);
+    let steps = [
+        Step::Flush(now),
+        Step::Add(errors(1, None), Reason::SampleRate),
+    ];
+    let answers = match run_steps(alloc, ledger, &steps) {
+        Ok(answers) => answers,
+        Err(_) if all_held(ledger) == held => run_steps(alloc, ledger, &steps)?,
+        Err(_) => return Err("lost".into()),
+    };
+    match answers.as_slice() {
+        [StepAnswer::Flushed(_), StepAnswer::Accepted] => Ok((true, all_held(ledger))),
+        [StepAnswer::NoMemory, StepAnswer::Accepted] => Ok((false, all_held(ledger))),
+        _ => Err("other answers".into()),
+    }
+}
+
+#[test]
+fn refused_when_running_steps(rt: HostRuntime) -> Result<(), Fail> {
+    let mut ledger = nine_errors()?;
+    let now = Moment::new(1, 0).ok_or("moment")?;
+    let (flushed, held) = run_at_last(rt.alloc(), &mut ledger, now)?;
+    assert!(rt; held == if flushed { 1 } else { 10 });
+    Ok(())
+}
+
+/// The envelope that bytes spell. After a refusal they are read once more.
+fn read_at_last(alloc: Global) -> Result<Envelope, EnvelopeError> {
+    match read(alloc, EVENT_AND_ATTACHMENT) {
+        Err(EnvelopeError::OutOfMemory) => read(alloc, EVENT_AND_ATTACHMENT),
+        answer => answer,
+    }
+}
+
+#[test]
+fn refused_when_recording_a_filter(rt: HostRuntime) -> Result<(), Fail> {
+    let alloc = rt.alloc();
+    let mut ledger = Ledger::new();
+    let none = |_item: &EnvelopeItem| false;
+    let envelope = read_at_last(alloc)?;
+    let told = match filter_recorded(alloc, envelope, none, Reason::SampleRate, &mut ledger) {
+        Err(envelope) if ledger.is_empty() => counted(alloc, envelope, &mut ledger),
+        Err(_) => None,
+        Ok((left, refused)) => Some((left.is_none(), refused, 2)),
+    };
+    assert!(rt; told == Some((true, 0, 2)) && all_held(&ledger) == 13);
+    Ok(())
+}
