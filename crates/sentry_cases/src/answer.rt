@@ -87,8 +87,8 @@ fn of_hex(alloc: Global, name: &str, given: &str) -> Result<Value, AllocError> {
     }
 }
 
-/// The answer to a name and what is given: a line of JSON itself after `tree` and `tape`, bytes in hex after `hex`,
-/// else JSON whose texts and numbers are handed over.
+/// The answer to a name and what is given: a line of JSON itself after `tree` and `tape`, bytes in
+/// hex after `hex`, else JSON whose texts and numbers are handed over.
 pub fn answer(alloc: Global, name: &str, given: &str) -> Result<Value, AllocError> {
     if let Some(name) = name.strip_prefix("hex ") {
         return of_hex(alloc, name, given);

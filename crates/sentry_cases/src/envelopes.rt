@@ -45,7 +45,8 @@ fn spells(alloc: Global, text: &[u8], envelope: &Envelope) -> bool {
     }
 }
 
-// Whether the text of an envelope spells its normal form, which has the same text, and a clone is the envelope.
+// Whether the text of an envelope spells its normal form, which has the same text, and a clone is
+// the envelope.
 fn is_steady(alloc: Global, envelope: &Envelope) -> Result<bool, AllocError> {
     let mut text = Vec::new(alloc);
     if envelope.to_writer(alloc, &mut text).is_err() || !envelope.is_plain() {
@@ -73,8 +74,8 @@ pub fn of_rewritten(alloc: Global, bytes: &[u8]) -> Result<Value, AllocError> {
     }
 }
 
-/// What is written of the raw envelope of bytes, whether it is plain, how many items it shows, and what is lost with
-/// them.
+/// What is written of the raw envelope of bytes, whether it is plain, how many items it shows, and
+/// what is lost with them.
 pub fn of_raw(alloc: Global, bytes: &[u8]) -> Result<Value, AllocError> {
     let envelope = match Envelope::from_bytes_raw(bytes.to_vec(alloc)?) {
         Ok(envelope) => envelope,

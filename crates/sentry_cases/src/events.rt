@@ -26,6 +26,38 @@ fn said_item(alloc: Global, item: EnvelopeItem) -> Result<Value, AllocError> {
     }
 }
 
+/// The text of the envelope of an event.
+pub fn said_event(alloc: Global, event: Event<'static>) -> Result<Value, AllocError> {
+    match EnvelopeItem::event(alloc, event) {
+        Ok(item) => said_item(alloc, item),
+        Err(_) => text(alloc, "handed back"),
+    }
+}
+
+// The text of the envelope of the event that a line shows.
+fn envelope_of_event(alloc: Global, line: &[u8]) -> Result<Value, AllocError> {
+    match by_tree_at::<Event<'static>>(alloc, line) {
+        Ok(event) => said_event(alloc, event),
+        Err(error) => refused(alloc, &error),
+    }
+}
+
+// The text of the envelope of a transaction.
+fn said_transaction(alloc: Global, transaction: Transaction<'static>) -> Result<Value, AllocError> {
+    match EnvelopeItem::transaction(alloc, transaction) {
+        Ok(item) => said_item(alloc, item),
+        Err(_) => text(alloc, "handed back"),
+    }
+}
+
+// The text of the envelope of the transaction that a line shows.
+fn envelope_of_transaction(alloc: Global, line: &[u8]) -> Result<Value, AllocError> {
+    match by_tree_at::<Transaction<'static>>(alloc, line) {
+        Ok(transaction) => said_transaction(alloc, transaction),
+        Err(error) => refused(alloc, &error),
+    }
+}
+
 // Lends a text to an event, for each of its texts that may be lent.
 fn lend<'a>(event: &mut Event<'a>, lent: &'a str) {
     event.platform = CowStr::Borrowed(lent);
@@ -72,7 +104,8 @@ fn owned_transaction(alloc: Global, line: &[u8], lent: &str) -> Result<Value, Al
     }
 }
 
-/// What is written of the event, or the span or the transaction, that a line shows, or what a call makes of it.
+/// What is written of the event, or the span or the transaction, that a line shows, or what a call
+/// makes of it.
 pub fn of_event(alloc: Global, name: &str, line: &[u8]) -> Result<Option<Value>, AllocError> {
     Ok(Some(match name {
         "Event" => cloned_at(alloc, line, Event::clone)?,
@@ -81,6 +114,8 @@ pub fn of_event(alloc: Global, name: &str, line: &[u8]) -> Result<Option<Value>,
         "Event::fmt" => printed::<Event<'static>>(alloc, line)?,
         "Span::fmt" => printed::<Span>(alloc, line)?,
         "Transaction::fmt" => printed::<Transaction<'static>>(alloc, line)?,
+        "EnvelopeItem::event" => envelope_of_event(alloc, line)?,
+        "EnvelopeItem::transaction" => envelope_of_transaction(alloc, line)?,
         "Event::into_owned" => owned_event(alloc, line, "lent")?,
         "Transaction::into_owned" => owned_transaction(alloc, line, "lent")?,
         _ => return Ok(None),

@@ -16,7 +16,7 @@ pub struct ByKinds<'a> {
 // The word of an item's type.
 fn word_of(item: &EnvelopeItem) -> &'static str {
     match item.kind() {
-        Some(kind) => kind.word(),
+        Some(kind) => kind.as_str(),
         None => "raw",
     }
 }
@@ -99,8 +99,8 @@ fn left_by(
     list(alloc, [left, Value::from(losses)])
 }
 
-/// What is left of the envelope that bytes spell without the items of some kinds. The fields of its header stay if
-/// the first word is `-k`.
+/// What is left of the envelope that bytes spell without the items of some kinds. The fields of its
+/// header stay if the first word is `-k`.
 pub fn of_filter(alloc: Global, words: &str, bytes: &[u8]) -> Result<Value, AllocError> {
     let (keep, words) = match words.strip_prefix("-k ") {
         Some(words) => (true, words),
@@ -183,8 +183,9 @@ fn answered_by(
     list(alloc, [left, Value::from(calls)])
 }
 
-/// What is left by some answers of the envelope that bytes spell, or of the raw envelope of bytes if the first word
-/// is `raw`, and the calls. The fields of its header stay if the first word is `-k`.
+/// What is left by some answers of the envelope that bytes spell, or of the raw envelope of bytes
+/// if the first word is `raw`, and the calls. The fields of its header stay if the first word is
+/// `-k`.
 pub fn of_answers(alloc: Global, words: &str, bytes: &[u8]) -> Result<Value, AllocError> {
     let (first, answers) = words.split_once(' ').unwrap_or(("", words));
     let envelope = if first == "raw" {

@@ -2,8 +2,8 @@
 
 use crate::said::{list, refused, text};
 use rand_pcg::Pcg32;
+use sentry_json::{Line, LineError, scratch};
 use sentry_members::read_tree;
-use sentry_trees::{Line, LineError, scratch};
 use sentry_types::protocol::v7::value::Writer;
 use sentry_types::protocol::v7::{
     Codec, FromTree, FromTreeAt, Member, Moment, Own, ReadCodec, ReadCodecAt, TreeError,
@@ -12,13 +12,14 @@ use sentry_types::protocol::v7::{
 use std::alloc::{AllocError, Global};
 use std::fmt::Debug;
 
-// What a value writes: the tree in a list, where the value's text, its clone and its normal form agree with it.
+// What a value writes: the tree in a list, where the value's text, its clone and its normal form
+// agree with it.
 fn written<F: Codec<T>, T: Drop>(alloc: Global, value: &T, clone: &T) -> Result<Value, AllocError> {
     let tree = F::to_tree(value, alloc)?;
     let line = tree.to_string(alloc)?;
     let mut out = Writer::new(Vec::new(alloc));
     F::write(value, &mut out)?;
-    let normal = F::remade(value, Way::Normal(alloc))?;
+    let normal = F::remake(value, Way::Normal(alloc))?;
     let same = out.into_inner().as_slice() == line.as_bytes()
         && F::is_plain(value)
         && F::to_tree(clone, alloc)?.to_string(alloc)?.as_str() == line.as_str()
@@ -36,7 +37,7 @@ pub fn answered<F: Codec<T>, T: Drop>(
     read: &Result<T, TreeError>,
 ) -> Result<Value, AllocError> {
     match read {
-        Ok(value) => written::<F, T>(alloc, value, &F::remade(value, Way::Same)?),
+        Ok(value) => written::<F, T>(alloc, value, &F::remake(value, Way::Same)?),
         Err(error) => refused(alloc, error),
     }
 }
@@ -90,8 +91,8 @@ fn by_tree_as<F: ReadCodec<T>, T: Drop>(alloc: Global, line: &[u8]) -> Result<T,
     F::from_node(alloc, &&read_tree(alloc, line)?)
 }
 
-/// What the value that a line shows in a form writes. The line is read as a tree of values and, where it has one, as
-/// a tape, and both have to give the same answer.
+/// What the value that a line shows in a form writes. The line is read as a tree of values and,
+/// where it has one, as a tape, and both have to give the same answer.
 pub fn form<F: ReadCodec<T>, T: Drop>(alloc: Global, line: &[u8]) -> Result<Value, AllocError> {
     let told = answered::<F, T>(alloc, &by_tree_as::<F, T>(alloc, line))?;
     beside_tape::<F, T>(alloc, line, told)

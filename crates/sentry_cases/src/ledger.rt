@@ -111,8 +111,9 @@ pub fn of_history(alloc: Global, given: &str) -> Result<Value, AllocError> {
     list(alloc, [Value::from(told), said_held(alloc, &ledger)?])
 }
 
-/// What is left of the envelope that bytes spell without the items of some kinds, how many of their losses are refused,
-/// and what is held afterwards. The first word is the reason; steps may stand after `; `, and come first.
+/// What is left of the envelope that bytes spell without the items of some kinds, how many of their
+/// losses are refused, and what is held afterwards. The first word is the reason; steps may stand
+/// after `; `, and come first.
 pub fn of_recorded(alloc: Global, words: &str, bytes: &[u8]) -> Result<Value, AllocError> {
     let (words, before) = words.split_once("; ").unwrap_or((words, ""));
     let (reason, kinds) = words.split_once(' ').unwrap_or((words, ""));

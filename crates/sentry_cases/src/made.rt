@@ -1,21 +1,22 @@
 //! Values that no line of JSON shows: they are made of parts.
 
 use crate::bytes::said_bytes;
-use crate::envelopes::{said_envelope, said_losses};
+use crate::envelopes::said_losses;
+use crate::events::said_event;
 use crate::form::{ids, now};
-use crate::said::{list, refused, text, unknown};
+use crate::said::{list, refused, text};
 use sentry_members::text_of;
+use sentry_types::IndexedEnum;
 use sentry_types::protocol::v7::{
-    Attachment, AttachmentType, Category, Context, Envelope, EnvelopeItem, Event, FromTree,
-    GpuContext, Item, Log, LogAttribute, LogLevel, Map, Member, Metric, MetricType, OsContext,
-    Reason, Report, TraceId, TreeError, Unit, User, Value, read_line,
+    Attachment, AttachmentType, Category, Context, Event, FromTree, GpuContext, Item, Log,
+    LogAttribute, LogLevel, Map, Member, Metric, MetricType, OsContext, Reason, Report, TraceId,
+    TreeError, Unit, User, Value, read_line,
 };
-use sentry_types::{IndexedEnum, Uuid};
 use std::alloc::{AllocError, Global};
 use std::borrow::CowStr;
 
-// The text of an attachment behind what the writer had, its `Debug` text, whether it is plain, and the text of its
-// normal form.
+// The text of an attachment behind what the writer had, its `Debug` text, whether it is plain, and
+// the text of its normal form.
 fn said_attachment(alloc: Global, attachment: &Attachment) -> Result<Value, AllocError> {
     let mut out = Vec::from_slice(alloc, b"before ")?;
     let mut normal = Vec::new(alloc);
@@ -168,13 +169,16 @@ pub fn of_parts(alloc: Global, name: &str, parts: &[Value]) -> Result<Option<Val
         ("Log", [Value::String(body), Value::Object(members)]) => {
             of_log(alloc, body.as_str(), members)?
         }
+        ("Event with another member", [Value::String(name), Value::String(key)]) => {
+            of_other_member(alloc, name.as_str(), key.as_str())?
+        }
         ("Report::new", items) => of_report(alloc, items)?,
         _ => return Ok(None),
     }))
 }
 
-/// A metric whose unit is `Other` of a text: the unit that is written, and the one that is written of what that is
-/// read as.
+/// A metric whose unit is `Other` of a text: the unit that is written, and the one that is written
+/// of what that is read as.
 pub fn of_other_unit(alloc: Global, unit: &str) -> Result<Value, AllocError> {
     let Ok(timestamp) = now() else {
         return text(alloc, "no moment");
@@ -227,4 +231,30 @@ fn context(alloc: Global, name: &str, key: &str) -> Result<Context, AllocError> 
         }
         _ => Ok(Context::Other(other)),
     }
+}
+
+// An event whose user, or whose context of this name, has another member of this key.
+fn event_of(alloc: Global, name: &str, key: &str) -> Result<Event<'static>, AllocError> {
+    let Ok(now) = now() else {
+        return Err(AllocError);
+    };
+    let mut event = Event::new(alloc, now, &mut ids())?;
+    if name == "user" {
+        let mut user = User::default_in(alloc);
+        user.other = members(alloc, key)?;
+        event.user = Some(user);
+    } else {
+        let context = context(alloc, name, key)?;
+        drop(
+            event
+                .contexts
+                .insert(String::from_str(alloc, name)?, context)?,
+        );
+    }
+    Ok(event)
+}
+
+// What is written of an event whose user or context has another member.
+fn of_other_member(alloc: Global, name: &str, key: &str) -> Result<Value, AllocError> {
+    said_event(alloc, event_of(alloc, name, key)?)
 }

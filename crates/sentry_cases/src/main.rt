@@ -1,8 +1,10 @@
-//! Checks the libraries by cases: lines of standard input, each a name, what is given, and the wanted answer, with
-//! tabs between them. A line that begins with `#` names the group of the cases after it.
+//! Checks the libraries by cases: lines of standard input, each a name, what is given, and the
+//! wanted answer, with tabs between them. A line that begins with `#` names the group of the cases
+//! after it.
 //!
-//! Each wrong case is printed with its group and with what was answered, and at the end how many cases there were.
-//! The exit status is 0 where all answers are as wanted, 1 where some aren't, and 2 where the cases can't be read.
+//! Each wrong case is printed with its group and with what was answered, and at the end how many
+//! cases there were. The exit status is 0 where all answers are as wanted, 1 where some aren't, and
+//! 2 where the cases can't be read.
 #![tactic(auto)]
 
 mod answer;

@@ -1,4 +1,5 @@
-//! Sampling contexts, sessions, check-ins, logs, metrics and reports of users and clients that lines of JSON show.
+//! Sampling contexts, sessions, check-ins, logs, metrics and reports of users and clients that
+//! lines of JSON show.
 
 use crate::form::{answered_by, cloned, cloned_at, own};
 use sentry_members::read_tree;

@@ -17,14 +17,14 @@ use Rattle.sentry_words.specs.SpanStatus.{span_status_kind, span_status_spelling
 use Rattle.sentry_words.proofs.Enumerations.{orientation_laws, span_status_laws}
 use Rattle.sentry_moments.specs.MomentForms.{rfc3339_kind}
 use Rattle.sentry_moments.proofs.MomentSpellings.{rfc3339_scalar_laws, rfc3339_refuses_null}
-use Rattle.sentry_identifiers.specs.HexIdTree.{IsOctets, hex_id_spelling, span_kind, trace_kind}
+use Rattle.sentry_identifiers.specs.HexIdTree.{IsOctets, hex_id_spelling, span_id_kind, trace_id_kind}
 use Rattle.sentry_identifiers.proofs.HexIdTrees.{hex_id_laws, drawn_id_laws}
 use Rattle.sentry_contexts.specs.Contexts.{context_kind, contexts_kind}
 use Rattle.sentry_contexts.specs.Devices.{device_fields, device_kind, gpu_fields, gpu_kind}
 use Rattle.sentry_contexts.specs.Programs.{app_fields, app_kind, browser_fields, browser_kind}
 use Rattle.sentry_contexts.specs.Responses.{response_fields, response_kind, response_with}
 use Rattle.sentry_contexts.specs.Systems.{os_fields, os_kind, runtime_fields, runtime_kind}
-use Rattle.sentry_contexts.specs.Telemetry.{otel_fields, otel_kind, tracing_fields, tracing_kind}
+use Rattle.sentry_contexts.specs.Telemetry.{otel_fields, otel_kind, trace_context_fields, trace_context_kind}
 
 -- ---- scalars and defaults
 
@@ -40,16 +40,16 @@ moment_lawful = rfc3339_scalar_laws
 moment_stands : RuleLaws may_strict rfc3339_kind
 moment_stands = rfc3339_refuses_null
 
-span_lawful : IsLawful span_kind
+span_lawful : IsLawful span_id_kind
 span_lawful = spelled_laws (hex_id_spelling 8) (hex_id_laws 8)
 
-trace_lawful : IsLawful trace_kind
+trace_lawful : IsLawful trace_id_kind
 trace_lawful = spelled_laws (hex_id_spelling 16) (hex_id_laws 16)
 
-span_drawn : RuleLaws (draw (IsOctets 8)) span_kind
+span_drawn : RuleLaws (draw (IsOctets 8)) span_id_kind
 span_drawn = drawn_id_laws 8
 
-trace_drawn : RuleLaws (draw (IsOctets 16)) trace_kind
+trace_drawn : RuleLaws (draw (IsOctets 16)) trace_id_kind
 trace_drawn = drawn_id_laws 16
 
 -- ---- tables
@@ -74,9 +74,9 @@ browser_lawful : IsLawful browser_kind
 unfolding browser_fields
 browser_lawful = laws_by_rows (rows_of browser_fields) refl (search text_laws)
 
-tracing_lawful : IsLawful tracing_kind
-unfolding tracing_fields
-tracing_lawful = laws_by_rows (rows_of tracing_fields) refl (search (text_laws, any_laws, span_lawful, trace_lawful, span_drawn, trace_drawn, status_lawful, empty_map_stands))
+trace_context_lawful : IsLawful trace_context_kind
+unfolding trace_context_fields
+trace_context_lawful = laws_by_rows (rows_of trace_context_fields) refl (search (text_laws, any_laws, span_lawful, trace_lawful, span_drawn, trace_drawn, status_lawful, empty_map_stands))
 
 gpu_lawful : IsLawful gpu_kind
 unfolding gpu_fields
@@ -93,8 +93,8 @@ response_lawful = laws_by_rows (rows_of response_fields) refl (search (text_laws
 -- ---- by the tag
 
 pub context_lawful : IsLawful context_kind
-unfolding device_fields os_fields runtime_fields app_fields browser_fields tracing_fields gpu_fields otel_fields response_fields
-context_lawful = (refl, refl, refl, device_lawful, (refl, refl, refl, os_lawful, (refl, refl, refl, runtime_lawful, (refl, refl, refl, app_lawful, (refl, refl, refl, browser_lawful, (refl, refl, tt, tracing_lawful, (refl, refl, refl, gpu_lawful, (refl, refl, refl, otel_lawful, (refl, refl, tt, response_lawful, (refl, refl, refl, tt, tt, refl), refl), refl), refl), refl), refl), refl), refl), refl), refl)
+unfolding device_fields os_fields runtime_fields app_fields browser_fields trace_context_fields gpu_fields otel_fields response_fields
+context_lawful = (refl, refl, refl, device_lawful, (refl, refl, refl, os_lawful, (refl, refl, refl, runtime_lawful, (refl, refl, refl, app_lawful, (refl, refl, refl, browser_lawful, (refl, refl, tt, trace_context_lawful, (refl, refl, refl, gpu_lawful, (refl, refl, refl, otel_lawful, (refl, refl, tt, response_lawful, (refl, refl, refl, tt, tt, refl), refl), refl), refl), refl), refl), refl), refl), refl), refl)
 
 pub contexts_lawful : IsLawful contexts_kind
 contexts_lawful = context_lawful
@@ -120,8 +120,8 @@ app_laws = has_laws app_kind app_lawful
 pub browser_laws : HasLaws browser_kind
 browser_laws = has_laws browser_kind browser_lawful
 
-pub tracing_laws : HasLaws tracing_kind
-tracing_laws = has_laws tracing_kind tracing_lawful
+pub trace_context_laws : HasLaws trace_context_kind
+trace_context_laws = has_laws trace_context_kind trace_context_lawful
 
 pub gpu_laws : HasLaws gpu_kind
 gpu_laws = has_laws gpu_kind gpu_lawful

@@ -8,7 +8,7 @@ use Rattle.sentry_rows.specs.Cased.{but_tag}
 use Rattle.sentry_contexts.specs.Devices.{device_cell, device_fields, gpu_cell, gpu_fields}
 use Rattle.sentry_contexts.specs.Systems.{os_cell, os_fields, runtime_cell, runtime_fields}
 use Rattle.sentry_contexts.specs.Programs.{app_cell, app_fields, browser_cell, browser_fields}
-use Rattle.sentry_contexts.specs.Telemetry.{otel_cell, otel_fields, tracing_cell, tracing_fields}
+use Rattle.sentry_contexts.specs.Telemetry.{otel_cell, otel_fields, trace_context_cell, trace_context_fields}
 use Rattle.sentry_contexts.specs.Responses.{response_cell, response_fields}
 use Rattle.sentry_contexts.specs.declared.context.Context.{Context}
 use Rattle.sentry_contexts.specs.declared.context.Context.TheVariants as Variant
@@ -30,7 +30,7 @@ context_cases =
     (case (codes "runtime") (rows_of runtime_fields) but_tag
     (case (codes "app") (rows_of app_fields) but_tag
     (case (codes "browser") (rows_of browser_fields) but_tag
-    (case (codes "trace") (rows_of tracing_fields) ignored
+    (case (codes "trace") (rows_of trace_context_fields) ignored
     (case (codes "gpu") (rows_of gpu_fields) but_tag
     (case (codes "otel") (rows_of otel_fields) but_tag
     (case (codes "response") (rows_of response_fields) ignored
@@ -49,7 +49,7 @@ context_cell (Variant.Os b) = choice 1 (os_cell b.value)
 context_cell (Variant.Runtime b) = choice 2 (runtime_cell b.value)
 context_cell (Variant.App b) = choice 3 (app_cell b.value)
 context_cell (Variant.Browser b) = choice 4 (browser_cell b.value)
-context_cell (Variant.Trace b) = choice 5 (tracing_cell b.value)
+context_cell (Variant.Trace b) = choice 5 (trace_context_cell b.value)
 context_cell (Variant.Gpu b) = choice 6 (gpu_cell b.value)
 context_cell (Variant.Otel b) = choice 7 (otel_cell b.value)
 context_cell (Variant.Response b) = choice 8 (response_cell b.value)

@@ -10,7 +10,7 @@ use Rattle.sentry_members.specs.Cells.{text_cell, tree_cell, option_cell, map_ce
 use Rattle.sentry_members.specs.Kinds.{text_kind, any_kind}
 use Rattle.sentry_members.specs.Spelling.{word_cell}
 use Rattle.sentry_identifiers.specs.HexId.{span_bytes, trace_bytes}
-use Rattle.sentry_identifiers.specs.HexIdTree.{IsOctets, span_cell, span_kind, trace_cell, trace_kind}
+use Rattle.sentry_identifiers.specs.HexIdTree.{IsOctets, span_id_cell, span_id_kind, trace_id_cell, trace_id_kind}
 use Rattle.sentry_words.specs.SpanStatus.{span_status_kind, span_status_word}
 use Rattle.sentry_rows.specs.Cased.{but_tag}
 use Rattle.sentry_contexts.specs.declared.otel.OtelContext.{OtelContext}
@@ -36,27 +36,27 @@ otel_in_order = refl
 
 -- ---- a place in a trace
 
-unfoldable pub tracing_fields : List (Field TraceContext)
-tracing_fields =
+unfoldable pub trace_context_fields : List (Field TraceContext)
+trace_context_fields =
     field (codes "data") (default empty_map) (map any_kind) (λ t. map_cell tree_cell t.data_.entries)
     ∷ field (codes "description") may text_kind (λ t. option_cell text_cell t.description)
     ∷ field (codes "op") may text_kind (λ t. option_cell text_cell t.op)
     ∷ field (codes "origin") may text_kind (λ t. option_cell text_cell t.origin)
-    ∷ field (codes "parent_span_id") may span_kind (λ t. option_cell span_cell t.parent_span_id)
-    ∷ field (codes "span_id") (draw (IsOctets 8)) span_kind (λ t. span_cell t.span_id)
+    ∷ field (codes "parent_span_id") may span_id_kind (λ t. option_cell span_id_cell t.parent_span_id)
+    ∷ field (codes "span_id") (draw (IsOctets 8)) span_id_kind (λ t. span_id_cell t.span_id)
     ∷ field (codes "status") may span_status_kind (λ t. option_cell (word_cell span_status_word) t.status)
-    ∷ field (codes "trace_id") (draw (IsOctets 16)) trace_kind (λ t. trace_cell t.trace_id)
+    ∷ field (codes "trace_id") (draw (IsOctets 16)) trace_id_kind (λ t. trace_id_cell t.trace_id)
     ∷ []
 
-abbrev pub tracing_kind : Kind
-tracing_kind = table_of tracing_fields
+abbrev pub trace_context_kind : Kind
+trace_context_kind = table_of trace_context_fields
 
-abbrev pub tracing_cell : TraceContext → Cell
-tracing_cell t = fields_by tracing_fields t
+abbrev pub trace_context_cell : TraceContext → Cell
+trace_context_cell t = fields_by trace_context_fields t
 
-pub tracing_in_order : in_order (keys (rows_of tracing_fields)) ≡ true
-unfolding tracing_fields
-tracing_in_order = refl
+pub trace_context_in_order : in_order (keys (rows_of trace_context_fields)) ≡ true
+unfolding trace_context_fields
+trace_context_in_order = refl
 
 -- from one state of a generator to a later one the id of the span was drawn, and then that of the trace
 abbrev pub DrawsIds : TraceContext → Stream → Stream → Type 0

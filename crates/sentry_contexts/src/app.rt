@@ -1,38 +1,38 @@
-//! Applications.
+//! App contexts: the application in which an event occurred.
 
 ghost use Rattle.std.specs.Prelude.{[], ◌∷◌};
 ghost use Rattle.serde_json.specs.View.{members_view};
 ghost use Rattle.sentry_tables.specs.Kind.{tag};
 ghost use Rattle.sentry_contexts.specs.Programs.{app_fields, app_in_order};
 
+use sentry_json::Node;
 use sentry_members::{Formed, Member};
 use sentry_moments::{Moment, Rfc3339};
 use sentry_rows::{AsKept, Copier, CopyKept, KeptTable, ReadKept, Reader, Sink, Table};
-use sentry_trees::Node;
 use serde_json::{Map, Value};
 use std::alloc::{AllocError, Global};
 
-/// The application itself.
+/// The application in which an event occurred.
 ///
 /// <https://develop.sentry.dev/sdk/data-model/event-payloads/contexts/#app-context>
 #[derive(Debug, Drop, PartialEq)]
 pub struct AppContext {
-    /// When the application was started, as RFC 3339 text.
+    /// Start time of the application: RFC 3339; null is rejected.
     pub app_start_time: Option<Moment>,
-    /// An id of the device, made by the application.
+    /// App-specific device identifier.
     pub device_app_hash: Option<String>,
-    /// What kind of build it is.
+    /// Kind of build, such as `testflight`.
     pub build_type: Option<String>,
-    /// The id of the application, with points.
+    /// Application identifier: a dotted bundle id.
     pub app_identifier: Option<String>,
-    /// The name of the application.
+    /// Application name, as shown on the platform.
     pub app_name: Option<String>,
-    /// The version of the application.
+    /// Application version, as shown on the platform.
     pub app_version: Option<String>,
-    /// The build of the application.
+    /// Internal build id, as shown on the platform.
     pub app_build: Option<String>,
-    /// What else is known, under other keys. Where one of the keys above or `type` is among these, the
-    /// context isn't plain, and can't be written.
+    /// Additional members. The key of a field above, or `type`, makes the context unwritable
+    /// (`NotPlain`).
     pub other: Map<String, Value>,
 }
 
@@ -43,7 +43,7 @@ impl AppContext {
     ghost use Rattle.sentry_tables.specs.Defaults.{IsDefault};
     ghost use Rattle.sentry_contexts.specs.Programs.{app_cell};
 
-    /// An application of which nothing is known.
+    /// Creates an app context with no fields set.
     pub fn default_in(alloc: Global) -> AppContext
         ensures rows { IsDefault app_fields result }
         ensures other { members_view result.other.entries ≡ no_members }
@@ -60,7 +60,7 @@ impl AppContext {
         }
     }
 
-    /// The same application. It fails where memory is refused.
+    /// Clones the app context. `AllocError` if an allocation fails.
     pub fn clone(&self) -> Result<AppContext, AllocError>
         ensures { IfOk result (λ copy. app_cell copy ≡ app_cell self.now) }
     {
@@ -131,7 +131,7 @@ impl ReadKept for AppContext {
 
 #[tactic(auto, unfolding(crate::specs::Programs::app_fields))]
 impl CopyKept for AppContext {
-    fn copied(&self, copies: &mut Copier) -> Result<AppContext, AllocError> {
+    fn copy_rows(&self, copies: &mut Copier) -> Result<AppContext, AllocError> {
         Ok(AppContext {
             app_build: copies.optional(&self.app_build),
             app_identifier: copies.optional(&self.app_identifier),

@@ -1,27 +1,27 @@
-//! Browsers.
+//! Browser contexts: the web browser in which an event occurred.
 
 ghost use Rattle.std.specs.Prelude.{[], ◌∷◌};
 ghost use Rattle.serde_json.specs.View.{members_view};
 ghost use Rattle.sentry_tables.specs.Kind.{tag};
 ghost use Rattle.sentry_contexts.specs.Programs.{browser_fields, browser_in_order};
 
+use sentry_json::Node;
 use sentry_members::{Formed, Member};
 use sentry_rows::{AsKept, Copier, CopyKept, KeptTable, ReadKept, Reader, Sink, Table};
-use sentry_trees::Node;
 use serde_json::{Map, Value};
 use std::alloc::{AllocError, Global};
 
-/// The browser that a program ran in.
+/// The web browser in which an event occurred.
 ///
 /// <https://develop.sentry.dev/sdk/data-model/event-payloads/contexts/#browser-context>
 #[derive(Debug, Drop, PartialEq)]
 pub struct BrowserContext {
-    /// The name of the browser.
+    /// Browser name, such as `Chrome`.
     pub name: Option<String>,
-    /// The version of the browser.
+    /// Browser version.
     pub version: Option<String>,
-    /// What else is known, under other keys. Where one of the keys above or `type` is among these, the
-    /// context isn't plain, and can't be written.
+    /// Additional members. The key of a field above, or `type`, makes the context unwritable
+    /// (`NotPlain`).
     pub other: Map<String, Value>,
 }
 
@@ -32,7 +32,7 @@ impl BrowserContext {
     ghost use Rattle.sentry_tables.specs.Defaults.{IsDefault};
     ghost use Rattle.sentry_contexts.specs.Programs.{browser_cell};
 
-    /// A browser of which nothing is known.
+    /// Creates a browser context with no fields set.
     pub fn default_in(alloc: Global) -> BrowserContext
         ensures rows { IsDefault browser_fields result }
         ensures other { members_view result.other.entries ≡ no_members }
@@ -44,7 +44,7 @@ impl BrowserContext {
         }
     }
 
-    /// The same browser. It fails where memory is refused.
+    /// Clones the browser context. `AllocError` if an allocation fails.
     pub fn clone(&self) -> Result<BrowserContext, AllocError>
         ensures { IfOk result (λ copy. browser_cell copy ≡ browser_cell self.now) }
     {
@@ -96,7 +96,7 @@ impl ReadKept for BrowserContext {
 
 #[tactic(auto, unfolding(crate::specs::Programs::browser_fields))]
 impl CopyKept for BrowserContext {
-    fn copied(&self, copies: &mut Copier) -> Result<BrowserContext, AllocError> {
+    fn copy_rows(&self, copies: &mut Copier) -> Result<BrowserContext, AllocError> {
         Ok(BrowserContext {
             name: copies.optional(&self.name),
             version: copies.optional(&self.version),

@@ -1,4 +1,4 @@
-//! Contexts by their tag.
+//! `Context`: one of the context types, selected by the member `type`.
 
 ghost use Rattle.std.specs.Prelude.{◌≡◌, IfErr, IfOk, codes, refl};
 ghost use Rattle.sentry_members.specs.Made.{made};
@@ -16,47 +16,48 @@ use crate::response::ResponseContext;
 use crate::runtime::RuntimeContext;
 use crate::trace::TraceContext;
 use rand_core::Rng;
+use sentry_json::Node;
 use sentry_members::{Formed, FromTree, Member, TreeError, Way};
 use sentry_moments::Moment;
 use sentry_rows::cased::{made_members, read_members};
 use sentry_rows::{AsCase, CaseSink, Cased, CasedByKey, FromTreeAt, ReadCasedAt};
-use sentry_trees::Node;
 use serde_json::{Map, Value};
 use std::alloc::{AllocError, Global};
 
-/// What was around a program when an event was made: by the word at the key `type`.
+/// A context: data about the environment in which an event occurred, selected by the member `type`.
 ///
-/// A tree without `type`, or with another word there, is a misfit. In a map of contexts one without `type`
-/// takes its key instead, where that is one of the first nine words, and else is of the type `unknown`.
-/// A context is always written with its `type`; the structs by themselves ignore it and leave it out.
+/// An object without `type`, or with a `type` that no variant has, is a `TreeError::Misfit`. In a
+/// map of contexts, an object without `type` takes its key as the type if the key is the type of a
+/// variant, and `unknown` otherwise. A `Context` is always written with its `type`; the structs on
+/// their own ignore `type` on reading and omit `type` on writing.
 ///
 /// <https://develop.sentry.dev/sdk/data-model/event-payloads/contexts/>
 #[derive(Debug, Drop, PartialEq)]
 pub enum Context {
-    /// The device: `device`.
+    /// Device context (`device`).
     Device(Box<DeviceContext>),
-    /// The operating system: `os`.
+    /// Operating system context (`os`).
     Os(Box<OsContext>),
-    /// What runs the code: `runtime`.
+    /// Runtime context (`runtime`).
     Runtime(Box<RuntimeContext>),
-    /// The application: `app`.
+    /// App context (`app`).
     App(Box<AppContext>),
-    /// The browser: `browser`.
+    /// Browser context (`browser`).
     Browser(Box<BrowserContext>),
-    /// The place in a trace: `trace`.
+    /// Trace context (`trace`).
     Trace(Box<TraceContext>),
-    /// The graphics processor: `gpu`.
+    /// GPU context (`gpu`).
     Gpu(Box<GpuContext>),
-    /// What OpenTelemetry tells: `otel`.
+    /// OpenTelemetry context (`otel`).
     Otel(Box<OtelContext>),
-    /// The response by HTTP: `response`.
+    /// HTTP response context (`response`).
     Response(Box<ResponseContext>),
-    /// Anything else: `unknown`. A map with the key `type` isn't plain, and can't be written.
+    /// Any other context (`unknown`). The key `type` makes the context unwritable (`NotPlain`).
     Other(Map<String, Value>),
 }
 
 impl Context {
-    /// The device as a context, in a box. Where memory is refused it is handed back.
+    /// Boxes a device context; returns it unchanged if the allocation fails.
     pub fn device(alloc: Global, device: DeviceContext) -> Result<Context, DeviceContext>
         ensures boxed { IfOk result (IsDevice device) }
         ensures handed_back { IfErr result (λ back. back ≡ device) }
@@ -67,7 +68,7 @@ impl Context {
         }
     }
 
-    /// The operating system as a context, in a box. Where memory is refused it is handed back.
+    /// Boxes an operating system context; returns it unchanged if the allocation fails.
     pub fn os(alloc: Global, os: OsContext) -> Result<Context, OsContext>
         ensures boxed { IfOk result (IsOs os) }
         ensures handed_back { IfErr result (λ back. back ≡ os) }
@@ -78,7 +79,7 @@ impl Context {
         }
     }
 
-    /// What runs the code as a context, in a box. Where memory is refused it is handed back.
+    /// Boxes a runtime context; returns it unchanged if the allocation fails.
     pub fn runtime(alloc: Global, runtime: RuntimeContext) -> Result<Context, RuntimeContext>
         ensures boxed { IfOk result (IsRuntime runtime) }
         ensures handed_back { IfErr result (λ back. back ≡ runtime) }
@@ -89,7 +90,7 @@ impl Context {
         }
     }
 
-    /// The application as a context, in a box. Where memory is refused it is handed back.
+    /// Boxes an app context; returns it unchanged if the allocation fails.
     pub fn app(alloc: Global, app: AppContext) -> Result<Context, AppContext>
         ensures boxed { IfOk result (IsApp app) }
         ensures handed_back { IfErr result (λ back. back ≡ app) }
@@ -100,7 +101,7 @@ impl Context {
         }
     }
 
-    /// The browser as a context, in a box. Where memory is refused it is handed back.
+    /// Boxes a browser context; returns it unchanged if the allocation fails.
     pub fn browser(alloc: Global, browser: BrowserContext) -> Result<Context, BrowserContext>
         ensures boxed { IfOk result (IsBrowser browser) }
         ensures handed_back { IfErr result (λ back. back ≡ browser) }
@@ -111,7 +112,7 @@ impl Context {
         }
     }
 
-    /// The place in a trace as a context, in a box. Where memory is refused it is handed back.
+    /// Boxes a trace context; returns it unchanged if the allocation fails.
     pub fn trace(alloc: Global, trace: TraceContext) -> Result<Context, TraceContext>
         ensures boxed { IfOk result (IsTrace trace) }
         ensures handed_back { IfErr result (λ back. back ≡ trace) }
@@ -122,7 +123,7 @@ impl Context {
         }
     }
 
-    /// The graphics processor as a context, in a box. Where memory is refused it is handed back.
+    /// Boxes a GPU context; returns it unchanged if the allocation fails.
     pub fn gpu(alloc: Global, gpu: GpuContext) -> Result<Context, GpuContext>
         ensures boxed { IfOk result (IsGpu gpu) }
         ensures handed_back { IfErr result (λ back. back ≡ gpu) }
@@ -133,7 +134,7 @@ impl Context {
         }
     }
 
-    /// What OpenTelemetry tells as a context, in a box. Where memory is refused it is handed back.
+    /// Boxes an OpenTelemetry context; returns it unchanged if the allocation fails.
     pub fn otel(alloc: Global, otel: OtelContext) -> Result<Context, OtelContext>
         ensures boxed { IfOk result (IsOtel otel) }
         ensures handed_back { IfErr result (λ back. back ≡ otel) }
@@ -144,7 +145,7 @@ impl Context {
         }
     }
 
-    /// The response by HTTP as a context, in a box. Where memory is refused it is handed back.
+    /// Boxes a response context; returns it unchanged if the allocation fails.
     pub fn response(alloc: Global, response: ResponseContext) -> Result<Context, ResponseContext>
         ensures boxed { IfOk result (IsResponse response) }
         ensures handed_back { IfErr result (λ back. back ≡ response) }
@@ -155,7 +156,7 @@ impl Context {
         }
     }
 
-    /// The word at the key `type`; that of `Other` is `unknown`.
+    /// Returns the value of the member `type`; `unknown` for `Other`.
     pub fn type_name(&self) -> &'static str
         ensures { result.now ≡ context_word self.now }
     {
@@ -173,7 +174,7 @@ impl Context {
         }
     }
 
-    /// The same context. It fails where memory is refused.
+    /// Clones the context. `AllocError` if an allocation fails.
     pub fn clone(&self) -> Result<Context, AllocError>
         ensures { IfOk result (λ copy. context_cell copy ≡ context_cell self.now) }
     {
@@ -185,28 +186,26 @@ impl Formed for Context {
     type Form = AsCase;
 }
 
-// The value in a box made anew, in a box of its own.
-fn remade_box<T: Member>(boxed: &Box<T>, way: Way) -> Result<Box<T>, AllocError>
+fn remake_box<T: Member>(boxed: &Box<T>, way: Way) -> Result<Box<T>, AllocError>
     ensures { IfOk result (λ b. T.cell_of b.value ≡ made way T.kind (T.cell_of boxed.now.value)) }
 {
-    Ok(Box::new(*Box::allocator(boxed), boxed.as_ref().remade(way)?)?)
+    Ok(Box::new(*Box::allocator(boxed), boxed.as_ref().remake(way)?)?)
 }
 
-// The value that a tree shows, in a box.
 fn read_box<T: FromTree, N: Node>(alloc: Global, node: &N) -> Result<Box<T>, TreeError>
     ensures { Reads T.kind (λ b. T.cell_of b.value) (N.data_of node.now) result }
 {
     Ok(Box::new(alloc, T::from_node(alloc, node)?)?)
 }
 
-// The value that a tree shows at a moment, in a box.
 fn read_box_at<T: FromTreeAt, N: Node, R: Rng>(
     alloc: Global,
     node: &N,
     now: Moment,
     ids: &mut R,
 ) -> Result<Box<T>, TreeError>
-    ensures { ReadsAt (moment_cell now) T.kind (λ b. T.cell_of b.value) (N.data_of node.now) result }
+    ensures { ReadsAt (moment_cell now) T.kind (λ b.
+        T.cell_of b.value) (N.data_of node.now) result }
 {
     Ok(Box::new(alloc, T::from_node(alloc, node, now, ids)?)?)
 }
@@ -225,30 +224,30 @@ impl Cased for Context {
 
     fn give<S: CaseSink>(&self, to: &mut S) {
         match self {
-            Context::Device(boxed) => to.kept("device", boxed.as_ref()),
-            Context::Os(boxed) => to.kept("os", boxed.as_ref()),
-            Context::Runtime(boxed) => to.kept("runtime", boxed.as_ref()),
-            Context::App(boxed) => to.kept("app", boxed.as_ref()),
-            Context::Browser(boxed) => to.kept("browser", boxed.as_ref()),
+            Context::Device(boxed) => to.keep("device", boxed.as_ref()),
+            Context::Os(boxed) => to.keep("os", boxed.as_ref()),
+            Context::Runtime(boxed) => to.keep("runtime", boxed.as_ref()),
+            Context::App(boxed) => to.keep("app", boxed.as_ref()),
+            Context::Browser(boxed) => to.keep("browser", boxed.as_ref()),
             Context::Trace(boxed) => to.table("trace", boxed.as_ref()),
-            Context::Gpu(boxed) => to.kept("gpu", boxed.as_ref()),
-            Context::Otel(boxed) => to.kept("otel", boxed.as_ref()),
+            Context::Gpu(boxed) => to.keep("gpu", boxed.as_ref()),
+            Context::Otel(boxed) => to.keep("otel", boxed.as_ref()),
             Context::Response(boxed) => to.table("response", boxed.as_ref()),
             Context::Other(members) => to.members("unknown", members),
         }
     }
 
-    fn made(&self, way: Way) -> Result<Context, AllocError> {
+    fn remake_case(&self, way: Way) -> Result<Context, AllocError> {
         Ok(match self {
-            Context::Device(boxed) => Context::Device(remade_box(boxed, way)?),
-            Context::Os(boxed) => Context::Os(remade_box(boxed, way)?),
-            Context::Runtime(boxed) => Context::Runtime(remade_box(boxed, way)?),
-            Context::App(boxed) => Context::App(remade_box(boxed, way)?),
-            Context::Browser(boxed) => Context::Browser(remade_box(boxed, way)?),
-            Context::Trace(boxed) => Context::Trace(remade_box(boxed, way)?),
-            Context::Gpu(boxed) => Context::Gpu(remade_box(boxed, way)?),
-            Context::Otel(boxed) => Context::Otel(remade_box(boxed, way)?),
-            Context::Response(boxed) => Context::Response(remade_box(boxed, way)?),
+            Context::Device(boxed) => Context::Device(remake_box(boxed, way)?),
+            Context::Os(boxed) => Context::Os(remake_box(boxed, way)?),
+            Context::Runtime(boxed) => Context::Runtime(remake_box(boxed, way)?),
+            Context::App(boxed) => Context::App(remake_box(boxed, way)?),
+            Context::Browser(boxed) => Context::Browser(remake_box(boxed, way)?),
+            Context::Trace(boxed) => Context::Trace(remake_box(boxed, way)?),
+            Context::Gpu(boxed) => Context::Gpu(remake_box(boxed, way)?),
+            Context::Otel(boxed) => Context::Otel(remake_box(boxed, way)?),
+            Context::Response(boxed) => Context::Response(remake_box(boxed, way)?),
             Context::Other(members) => Context::Other(made_members(members, way)?),
         })
     }

@@ -1,59 +1,59 @@
-//! Devices.
+//! Device contexts: the device on which an event occurred.
 
 ghost use Rattle.std.specs.Prelude.{[], ◌∷◌};
 ghost use Rattle.serde_json.specs.View.{members_view};
 ghost use Rattle.sentry_tables.specs.Kind.{tag};
 ghost use Rattle.sentry_contexts.specs.Devices.{device_fields, device_in_order};
 
+use sentry_json::Node;
 use sentry_members::{Formed, Member};
 use sentry_moments::{Moment, Rfc3339};
 use sentry_rows::{AsKept, Copier, CopyKept, KeptTable, ReadKept, Reader, Sink, Table};
-use sentry_trees::Node;
 use sentry_words::Orientation;
 use serde_json::{Map, Value};
 use std::alloc::{AllocError, Global};
 
-/// The device that a program ran on.
+/// The device on which an event occurred.
 ///
 /// <https://develop.sentry.dev/sdk/data-model/event-payloads/contexts/#device-context>
 #[derive(Debug, Drop, PartialEq)]
 pub struct DeviceContext {
-    /// The name of the device, mostly that of its host.
+    /// Device name, usually the host name.
     pub name: Option<String>,
-    /// What family of devices it is of.
+    /// Device family: the common part of model names, such as `iPhone`.
     pub family: Option<String>,
-    /// The name of the model, for people.
+    /// Model name, human-readable.
     pub model: Option<String>,
-    /// The name of the model within the maker.
+    /// Model identifier, internal to the manufacturer.
     pub model_id: Option<String>,
-    /// The architecture of the processor.
+    /// CPU architecture.
     pub arch: Option<String>,
-    /// How full the battery is, in percent.
+    /// Battery level in whole percent.
     pub battery_level: Option<u32>,
-    /// How the device is held.
+    /// Screen orientation: `portrait` or `landscape`.
     pub orientation: Option<Orientation>,
-    /// Whether it is a simulator.
+    /// Whether the device is a simulator.
     pub simulator: Option<bool>,
-    /// The memory, in bytes.
+    /// Total memory in bytes.
     pub memory_size: Option<u64>,
-    /// The memory that is free, in bytes.
+    /// Free memory in bytes.
     pub free_memory: Option<u64>,
-    /// The memory that the program can use, in bytes.
+    /// Memory usable by the application, in bytes.
     pub usable_memory: Option<u64>,
-    /// The storage, in bytes.
+    /// Total storage in bytes.
     pub storage_size: Option<u64>,
-    /// The storage that is free, in bytes.
+    /// Free storage in bytes.
     pub free_storage: Option<u64>,
-    /// The storage that is plugged in, in bytes.
+    /// Total attached external storage in bytes.
     pub external_storage_size: Option<u64>,
-    /// What is free of that, in bytes.
+    /// Free attached external storage in bytes.
     pub external_free_storage: Option<u64>,
-    /// When the device was started, as RFC 3339 text.
+    /// Boot time: RFC 3339; null is rejected.
     pub boot_time: Option<Moment>,
-    /// The time zone of the device, as `Europe/Vienna`.
+    /// Time zone, such as `Europe/Vienna`.
     pub timezone: Option<String>,
-    /// What else is known, under other keys. Where one of the keys above or `type` is among these, the
-    /// context isn't plain, and can't be written.
+    /// Additional members. The key of a field above, or `type`, makes the context unwritable
+    /// (`NotPlain`).
     pub other: Map<String, Value>,
 }
 
@@ -64,7 +64,7 @@ impl DeviceContext {
     ghost use Rattle.sentry_tables.specs.Defaults.{IsDefault};
     ghost use Rattle.sentry_contexts.specs.Devices.{device_cell};
 
-    /// A device of which nothing is known.
+    /// Creates a device context with no fields set.
     pub fn default_in(alloc: Global) -> DeviceContext
         ensures rows { IsDefault device_fields result }
         ensures other { members_view result.other.entries ≡ no_members }
@@ -91,7 +91,7 @@ impl DeviceContext {
         }
     }
 
-    /// The same device. It fails where memory is refused.
+    /// Clones the device context. `AllocError` if an allocation fails.
     pub fn clone(&self) -> Result<DeviceContext, AllocError>
         ensures { IfOk result (λ copy. device_cell copy ≡ device_cell self.now) }
     {
@@ -192,7 +192,7 @@ impl ReadKept for DeviceContext {
 
 #[tactic(auto, unfolding(crate::specs::Devices::device_fields))]
 impl CopyKept for DeviceContext {
-    fn copied(&self, copies: &mut Copier) -> Result<DeviceContext, AllocError> {
+    fn copy_rows(&self, copies: &mut Copier) -> Result<DeviceContext, AllocError> {
         Ok(DeviceContext {
             arch: copies.optional(&self.arch),
             battery_level: copies.optional(&self.battery_level),

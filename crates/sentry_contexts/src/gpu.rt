@@ -1,55 +1,55 @@
-//! Graphics processors.
+//! GPU contexts: graphics processors.
 
 ghost use Rattle.std.specs.Prelude.{[], ◌∷◌};
 ghost use Rattle.serde_json.specs.View.{members_view};
 ghost use Rattle.sentry_tables.specs.Kind.{tag};
 ghost use Rattle.sentry_contexts.specs.Devices.{gpu_fields, gpu_in_order};
 
+use sentry_json::Node;
 use sentry_members::{Formed, Member};
 use sentry_rows::{AsKept, Copier, CopyKept, KeptTable, ReadKept, Reader, Sink, Table};
-use sentry_trees::Node;
 use serde_json::{Map, Value};
 use std::alloc::{AllocError, Global};
 
-/// The graphics processor of a device.
+/// The graphics processor (GPU) of the device on which an event occurred.
 ///
 /// <https://develop.sentry.dev/sdk/data-model/event-payloads/contexts/#gpu-context>
 #[derive(Debug, Drop, PartialEq)]
 pub struct GpuContext {
-    /// The name of the processor.
+    /// Name of the graphics device; required.
     pub name: String,
-    /// The version of the processor.
+    /// Version of the graphics device.
     pub version: Option<String>,
-    /// The version of its driver.
+    /// Version of the graphics driver.
     pub driver_version: Option<String>,
-    /// The id of the processor on its bus.
+    /// PCI identifier of the graphics device.
     pub id: Option<String>,
-    /// The id of the maker on the bus.
+    /// PCI vendor identifier of the graphics device.
     pub vendor_id: Option<String>,
-    /// The name of the maker, as the processor tells it.
+    /// Vendor name, as reported by the graphics device.
     pub vendor_name: Option<String>,
-    /// The memory of the processor, in megabytes.
+    /// Total GPU memory in megabytes.
     pub memory_size: Option<u32>,
-    /// The interface of the device, as `Direct3D11`.
+    /// Low-level API type, such as `Direct3D11`.
     pub api_type: Option<String>,
-    /// Whether several threads may draw.
+    /// Whether multi-threaded rendering is supported.
     pub multi_threaded_rendering: Option<bool>,
-    /// Whether the sides of a texture need be no powers of two.
+    /// Whether textures may have sides that are not powers of two (NPOT).
     pub npot_support: Option<bool>,
-    /// The longest side of a texture.
+    /// Maximum texture size: the longest supported side.
     pub max_texture_size: Option<u32>,
-    /// What its shaders can do, by a name.
+    /// Approximate shader capability level, by name.
     pub graphics_shader_level: Option<String>,
-    /// Whether one call may draw many instances.
+    /// Whether draw call instancing is supported.
     pub supports_draw_call_instancing: Option<bool>,
-    /// Whether it can trace rays.
+    /// Whether ray tracing is supported.
     pub supports_ray_tracing: Option<bool>,
-    /// Whether it has shaders that compute.
+    /// Whether compute shaders are supported.
     pub supports_compute_shaders: Option<bool>,
-    /// Whether it has shaders of geometry.
+    /// Whether geometry shaders are supported.
     pub supports_geometry_shaders: Option<bool>,
-    /// What else is known, under other keys. Where one of the keys above or `type` is among these, the
-    /// context isn't plain, and can't be written.
+    /// Additional members. The key of a field above, or `type`, makes the context unwritable
+    /// (`NotPlain`).
     pub other: Map<String, Value>,
 }
 
@@ -60,7 +60,7 @@ impl GpuContext {
     ghost use Rattle.sentry_tables.specs.Defaults.{IsDefault};
     ghost use Rattle.sentry_contexts.specs.Devices.{gpu_cell};
 
-    /// A processor with an empty name, of which nothing else is known.
+    /// Creates a GPU context with an empty `name` and no other fields set.
     pub fn default_in(alloc: Global) -> GpuContext
         ensures rows { IsDefault gpu_fields result }
         ensures other { members_view result.other.entries ≡ no_members }
@@ -86,7 +86,7 @@ impl GpuContext {
         }
     }
 
-    /// The same processor. It fails where memory is refused.
+    /// Clones the GPU context. `AllocError` if an allocation fails.
     pub fn clone(&self) -> Result<GpuContext, AllocError>
         ensures { IfOk result (λ copy. gpu_cell copy ≡ gpu_cell self.now) }
     {
@@ -187,7 +187,7 @@ impl ReadKept for GpuContext {
 
 #[tactic(auto, unfolding(crate::specs::Devices::gpu_fields))]
 impl CopyKept for GpuContext {
-    fn copied(&self, copies: &mut Copier) -> Result<GpuContext, AllocError> {
+    fn copy_rows(&self, copies: &mut Copier) -> Result<GpuContext, AllocError> {
         Ok(GpuContext {
             api_type: copies.optional(&self.api_type),
             driver_version: copies.optional(&self.driver_version),

@@ -1,4 +1,4 @@
-//! Contexts: what was around a program when an event was made.
+//! Contexts: data about the environment in which an event occurred, such as its device or runtime.
 #![tactic(auto)]
 
 pub mod app;

@@ -1,33 +1,33 @@
-//! Operating systems.
+//! Operating system contexts: the operating system on which an event occurred.
 
 ghost use Rattle.std.specs.Prelude.{[], ◌∷◌};
 ghost use Rattle.serde_json.specs.View.{members_view};
 ghost use Rattle.sentry_tables.specs.Kind.{tag};
 ghost use Rattle.sentry_contexts.specs.Systems.{os_fields, os_in_order};
 
+use sentry_json::Node;
 use sentry_members::{Formed, Member};
 use sentry_rows::{AsKept, Copier, CopyKept, KeptTable, ReadKept, Reader, Sink, Table};
-use sentry_trees::Node;
 use serde_json::{Map, Value};
 use std::alloc::{AllocError, Global};
 
-/// The operating system of a device.
+/// The operating system on which an event occurred.
 ///
 /// <https://develop.sentry.dev/sdk/data-model/event-payloads/contexts/#os-context>
 #[derive(Debug, Drop, PartialEq)]
 pub struct OsContext {
-    /// The name of the system.
+    /// Name of the operating system.
     pub name: Option<String>,
-    /// The version of the system.
+    /// Version of the operating system.
     pub version: Option<String>,
-    /// The build of the system.
+    /// Internal build identifier of the operating system.
     pub build: Option<String>,
-    /// The version of the kernel.
+    /// Kernel version.
     pub kernel_version: Option<String>,
-    /// Whether programs may take all rights.
+    /// Whether the operating system is rooted or jailbroken.
     pub rooted: Option<bool>,
-    /// What else is known, under other keys. Where one of the keys above or `type` is among these, the
-    /// context isn't plain, and can't be written.
+    /// Additional members. The key of a field above, or `type`, makes the context unwritable
+    /// (`NotPlain`).
     pub other: Map<String, Value>,
 }
 
@@ -38,7 +38,7 @@ impl OsContext {
     ghost use Rattle.sentry_tables.specs.Defaults.{IsDefault};
     ghost use Rattle.sentry_contexts.specs.Systems.{os_cell};
 
-    /// A system of which nothing is known.
+    /// Creates an operating system context with no fields set.
     pub fn default_in(alloc: Global) -> OsContext
         ensures rows { IsDefault os_fields result }
         ensures other { members_view result.other.entries ≡ no_members }
@@ -53,7 +53,7 @@ impl OsContext {
         }
     }
 
-    /// The same system. It fails where memory is refused.
+    /// Clones the operating system context. `AllocError` if an allocation fails.
     pub fn clone(&self) -> Result<OsContext, AllocError>
         ensures { IfOk result (λ copy. os_cell copy ≡ os_cell self.now) }
     {
@@ -118,7 +118,7 @@ impl ReadKept for OsContext {
 
 #[tactic(auto, unfolding(crate::specs::Systems::os_fields))]
 impl CopyKept for OsContext {
-    fn copied(&self, copies: &mut Copier) -> Result<OsContext, AllocError> {
+    fn copy_rows(&self, copies: &mut Copier) -> Result<OsContext, AllocError> {
         Ok(OsContext {
             build: copies.optional(&self.build),
             kernel_version: copies.optional(&self.kernel_version),

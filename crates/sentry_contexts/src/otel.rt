@@ -1,27 +1,28 @@
-//! What OpenTelemetry tells.
+//! OpenTelemetry contexts.
 
 ghost use Rattle.std.specs.Prelude.{[], ◌∷◌};
 ghost use Rattle.serde_json.specs.View.{members_view};
 ghost use Rattle.sentry_tables.specs.Kind.{tag};
 ghost use Rattle.sentry_contexts.specs.Telemetry.{otel_fields, otel_in_order};
 
+use sentry_json::Node;
 use sentry_members::{Formed, Member};
 use sentry_rows::{AsKept, Copier, CopyKept, KeptTable, ReadKept, Reader, Sink, Table};
-use sentry_trees::Node;
 use serde_json::{Map, Value};
 use std::alloc::{AllocError, Global};
 
-/// What OpenTelemetry tells of a program.
+/// The OpenTelemetry context of an event: general and resource attributes.
 ///
 /// <https://develop.sentry.dev/sdk/data-model/event-payloads/contexts/>
 #[derive(Debug, Drop, PartialEq)]
 pub struct OtelContext {
-    /// The general attributes: <https://opentelemetry.io/docs/specs/semconv/general/attributes/>.
+    /// General attributes: <https://opentelemetry.io/docs/specs/semconv/general/attributes/>.
     pub attributes: Map<String, Value>,
-    /// The attributes of what makes the telemetry: <https://opentelemetry.io/docs/specs/semconv/resource/>.
+    /// Resource attributes, which describe the entity that produces the telemetry:
+    /// <https://opentelemetry.io/docs/specs/semconv/resource/>.
     pub resource: Map<String, Value>,
-    /// What else is known, under other keys. Where one of the keys above or `type` is among these, the
-    /// context isn't plain, and can't be written.
+    /// Additional members. The key of a field above, or `type`, makes the context unwritable
+    /// (`NotPlain`).
     pub other: Map<String, Value>,
 }
 
@@ -32,7 +33,7 @@ impl OtelContext {
     ghost use Rattle.sentry_tables.specs.Defaults.{IsDefault};
     ghost use Rattle.sentry_contexts.specs.Telemetry.{otel_cell};
 
-    /// No attributes.
+    /// Creates an OpenTelemetry context with no attributes.
     pub fn default_in(alloc: Global) -> OtelContext
         ensures rows { IsDefault otel_fields result }
         ensures other { members_view result.other.entries ≡ no_members }
@@ -44,7 +45,7 @@ impl OtelContext {
         }
     }
 
-    /// The same attributes. It fails where memory is refused.
+    /// Clones the OpenTelemetry context. `AllocError` if an allocation fails.
     pub fn clone(&self) -> Result<OtelContext, AllocError>
         ensures { IfOk result (λ copy. otel_cell copy ≡ otel_cell self.now) }
     {
@@ -96,7 +97,7 @@ impl ReadKept for OtelContext {
 
 #[tactic(auto, unfolding(crate::specs::Telemetry::otel_fields))]
 impl CopyKept for OtelContext {
-    fn copied(&self, copies: &mut Copier) -> Result<OtelContext, AllocError> {
+    fn copy_rows(&self, copies: &mut Copier) -> Result<OtelContext, AllocError> {
         Ok(OtelContext {
             attributes: copies.map(&self.attributes)?,
             resource: copies.map(&self.resource)?,

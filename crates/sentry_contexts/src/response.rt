@@ -1,27 +1,28 @@
-//! Responses by HTTP.
+//! Response contexts: HTTP responses.
 
 ghost use Rattle.sentry_contexts.specs.Responses.{response_fields, response_in_order};
 
+use sentry_json::Node;
 use sentry_members::{Formed, Member};
 use sentry_rows::{AsTable, Copier, CopyTable, ReadTable, Reader, Sink, Table};
-use sentry_trees::Node;
 use serde_json::{Map, Value};
 use std::alloc::{AllocError, Global};
 
-/// A response to a request by HTTP.
+/// An HTTP response.
 ///
 /// <https://develop.sentry.dev/sdk/data-model/event-payloads/contexts/#response-context>
 #[derive(Debug, Drop, PartialEq)]
 pub struct ResponseContext {
-    /// The cookies, as they were sent.
+    /// Cookies, unparsed.
     pub cookies: Option<String>,
-    /// The headers, by name; those of one name joined, as HTTP joins them.
+    /// Headers, by name; a repeated header is merged as HTTP merges headers.
     pub headers: Map<String, String>,
-    /// The status.
+    /// HTTP status code.
     pub status_code: Option<u64>,
-    /// The size of the body, in bytes.
+    /// Body size in bytes.
     pub body_size: Option<u64>,
-    /// The body, in any form. Its key is `data`. The tree null is written as null, and is read as no body.
+    /// Body, in any JSON form (member `data`). A null body is written as null and reads back as
+    /// `None`.
     pub data_: Option<Value>,
 }
 
@@ -31,7 +32,7 @@ impl ResponseContext {
     ghost use Rattle.sentry_tables.specs.Defaults.{IsDefault};
     ghost use Rattle.sentry_contexts.specs.Responses.{response_cell};
 
-    /// A response of which nothing is known.
+    /// Creates a response context with no fields set.
     pub fn default_in(alloc: Global) -> ResponseContext
         ensures { IsDefault response_fields result }
     {
@@ -44,7 +45,7 @@ impl ResponseContext {
         }
     }
 
-    /// The same response. It fails where memory is refused.
+    /// Clones the response context. `AllocError` if an allocation fails.
     pub fn clone(&self) -> Result<ResponseContext, AllocError>
         ensures { IfOk result (λ copy. response_cell copy ≡ response_cell self.now) }
     {
@@ -86,7 +87,7 @@ impl ReadTable for ResponseContext {
 
 #[tactic(auto, unfolding(crate::specs::Responses::response_fields))]
 impl CopyTable for ResponseContext {
-    fn copied(&self, copies: &mut Copier) -> Result<ResponseContext, AllocError> {
+    fn copy_rows(&self, copies: &mut Copier) -> Result<ResponseContext, AllocError> {
         Ok(ResponseContext {
             body_size: copies.optional(&self.body_size),
             cookies: copies.optional(&self.cookies),

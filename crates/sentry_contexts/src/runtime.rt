@@ -1,27 +1,27 @@
-//! What runs the code of programs.
+//! Runtime contexts: the runtime in which an event occurred.
 
 ghost use Rattle.std.specs.Prelude.{[], ◌∷◌};
 ghost use Rattle.serde_json.specs.View.{members_view};
 ghost use Rattle.sentry_tables.specs.Kind.{tag};
 ghost use Rattle.sentry_contexts.specs.Systems.{runtime_fields, runtime_in_order};
 
+use sentry_json::Node;
 use sentry_members::{Formed, Member};
 use sentry_rows::{AsKept, Copier, CopyKept, KeptTable, ReadKept, Reader, Sink, Table};
-use sentry_trees::Node;
 use serde_json::{Map, Value};
 use std::alloc::{AllocError, Global};
 
-/// What runs the code of a program, as a virtual machine or an interpreter.
+/// The runtime in which an event occurred, such as a virtual machine or an interpreter.
 ///
 /// <https://develop.sentry.dev/sdk/data-model/event-payloads/contexts/#runtime-context>
 #[derive(Debug, Drop, PartialEq)]
 pub struct RuntimeContext {
-    /// The name of the runtime.
+    /// Runtime name, such as `JVM`.
     pub name: Option<String>,
-    /// The version of the runtime.
+    /// Runtime version.
     pub version: Option<String>,
-    /// What else is known, under other keys. Where one of the keys above or `type` is among these, the
-    /// context isn't plain, and can't be written.
+    /// Additional members. The key of a field above, or `type`, makes the context unwritable
+    /// (`NotPlain`).
     pub other: Map<String, Value>,
 }
 
@@ -32,7 +32,7 @@ impl RuntimeContext {
     ghost use Rattle.sentry_tables.specs.Defaults.{IsDefault};
     ghost use Rattle.sentry_contexts.specs.Systems.{runtime_cell};
 
-    /// A runtime of which nothing is known.
+    /// Creates a runtime context with no fields set.
     pub fn default_in(alloc: Global) -> RuntimeContext
         ensures rows { IsDefault runtime_fields result }
         ensures other { members_view result.other.entries ≡ no_members }
@@ -44,7 +44,7 @@ impl RuntimeContext {
         }
     }
 
-    /// The same runtime. It fails where memory is refused.
+    /// Clones the runtime context. `AllocError` if an allocation fails.
     pub fn clone(&self) -> Result<RuntimeContext, AllocError>
         ensures { IfOk result (λ copy. runtime_cell copy ≡ runtime_cell self.now) }
     {
@@ -96,7 +96,7 @@ impl ReadKept for RuntimeContext {
 
 #[tactic(auto, unfolding(crate::specs::Systems::runtime_fields))]
 impl CopyKept for RuntimeContext {
-    fn copied(&self, copies: &mut Copier) -> Result<RuntimeContext, AllocError> {
+    fn copy_rows(&self, copies: &mut Copier) -> Result<RuntimeContext, AllocError> {
         Ok(RuntimeContext {
             name: copies.optional(&self.name),
             version: copies.optional(&self.version),

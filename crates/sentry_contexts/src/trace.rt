@@ -1,53 +1,54 @@
-//! Places in traces.
+//! Trace contexts: the span and trace of an event.
 
-ghost use Rattle.sentry_contexts.specs.Telemetry.{tracing_fields, tracing_in_order};
+ghost use Rattle.sentry_contexts.specs.Telemetry.{trace_context_fields, trace_context_in_order};
 
 use rand_core::Rng;
 use sentry_identifiers::{SpanId, TraceId};
+use sentry_json::Node;
 use sentry_members::{Drawn, Formed, Member, Own};
 use sentry_moments::Moment;
 use sentry_rows::{AsTable, Copier, CopyTable, ReadTableAt, Reader, Sink, Table};
-use sentry_trees::Node;
 use sentry_words::SpanStatus;
 use serde_json::{Map, Value};
 use std::alloc::{AllocError, Global};
 
-/// Where an event stands in a trace.
+/// The trace context of an event: its span and its trace.
 ///
-/// A context that is read without `span_id` or `trace_id` takes an id from the generator.
+/// On reading, an absent `span_id` or `trace_id` is drawn from the generator.
 ///
 /// <https://develop.sentry.dev/sdk/data-model/event-payloads/contexts/#trace-context>
 #[derive(Debug, Drop, PartialEq)]
 pub struct TraceContext {
-    /// The id of the span.
+    /// Span id: 16 hex digits.
     pub span_id: SpanId,
-    /// The id of the trace.
+    /// Trace id: 32 hex digits.
     pub trace_id: TraceId,
-    /// The id of the span that this one is in.
+    /// Id of the parent span.
     pub parent_span_id: Option<SpanId>,
-    /// What is done, as a short code.
+    /// Operation, as a short code.
     pub op: Option<String>,
-    /// What is done, in words for people.
+    /// Description of the operation, human-readable.
     pub description: Option<String>,
-    /// How it ended.
+    /// Status of the span.
     pub status: Option<SpanStatus>,
-    /// What made it: <https://develop.sentry.dev/sdk/telemetry/traces/trace-origin/>.
+    /// Origin, which names the creator of the span:
+    /// <https://develop.sentry.dev/sdk/telemetry/traces/trace-origin/>.
     pub origin: Option<String>,
-    /// What else is known of it. Its key is `data`.
+    /// Additional data, by name (member `data`).
     pub data_: Map<String, Value>,
 }
 
-#[tactic(auto, unfolding(crate::specs::Telemetry::tracing_fields))]
+#[tactic(auto, unfolding(crate::specs::Telemetry::trace_context_fields))]
 impl TraceContext {
     ghost use Rattle.std.specs.Prelude.{◌≡◌, IfOk};
     ghost use Rattle.sentry_tables.specs.Defaults.{IsDefault};
-    ghost use Rattle.sentry_contexts.specs.Telemetry.{DrawsIds, tracing_cell};
+    ghost use Rattle.sentry_contexts.specs.Telemetry.{DrawsIds, trace_context_cell};
 
-    /// A place with a new span and a new trace, of which nothing else is known.
+    /// Creates a trace context with a new span id and a new trace id, and no other fields set.
     ///
-    /// The ids are drawn from the generator: that of the span first, then that of the trace.
+    /// The span id is drawn from `ids` first, then the trace id.
     pub fn new<R: Rng>(alloc: Global, ids: &mut R) -> TraceContext
-        ensures rows { IsDefault tracing_fields result }
+        ensures rows { IsDefault trace_context_fields result }
         ensures ids { DrawsIds result (R.stream ids.old) (R.stream ids.new) }
     {
         let span_id = <Own as Drawn<SpanId>>::random(ids);
@@ -64,9 +65,9 @@ impl TraceContext {
         }
     }
 
-    /// The same place. It fails where memory is refused.
+    /// Clones the trace context. `AllocError` if an allocation fails.
     pub fn clone(&self) -> Result<TraceContext, AllocError>
-        ensures { IfOk result (λ copy. tracing_cell copy ≡ tracing_cell self.now) }
+        ensures { IfOk result (λ copy. trace_context_cell copy ≡ trace_context_cell self.now) }
     {
         self.copy()
     }
@@ -76,9 +77,9 @@ impl Formed for TraceContext {
     type Form = AsTable;
 }
 
-#[tactic(auto, unfolding(crate::specs::Telemetry::tracing_fields))]
+#[tactic(auto, unfolding(crate::specs::Telemetry::trace_context_fields))]
 impl Table for TraceContext {
-    ghost lines = { tracing_fields };
+    ghost lines = { trace_context_fields };
 
     fn rows<S: Sink>(&self, to: &mut S) {
         to.map("data", &self.data_);
@@ -91,10 +92,10 @@ impl Table for TraceContext {
         to.drawn_as::<Own, TraceId>("trace_id", &self.trace_id);
     }
 
-    ghost ordered = { tracing_in_order };
+    ghost ordered = { trace_context_in_order };
 }
 
-#[tactic(auto, unfolding(crate::specs::Telemetry::tracing_fields))]
+#[tactic(auto, unfolding(crate::specs::Telemetry::trace_context_fields))]
 impl ReadTableAt for TraceContext {
     fn read<N: Node, R: Rng>(from: &mut Reader<'_, N>, _now: Moment, ids: &mut R) -> TraceContext {
         TraceContext {
@@ -110,9 +111,9 @@ impl ReadTableAt for TraceContext {
     }
 }
 
-#[tactic(auto, unfolding(crate::specs::Telemetry::tracing_fields))]
+#[tactic(auto, unfolding(crate::specs::Telemetry::trace_context_fields))]
 impl CopyTable for TraceContext {
-    fn copied(&self, copies: &mut Copier) -> Result<TraceContext, AllocError> {
+    fn copy_rows(&self, copies: &mut Copier) -> Result<TraceContext, AllocError> {
         Ok(TraceContext {
             data_: copies.map(&self.data_)?,
             description: copies.optional(&self.description),

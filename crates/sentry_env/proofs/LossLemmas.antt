@@ -4,7 +4,7 @@ use Rattle.std.specs.List.{filter_map}
 use Rattle.std.specs.Option.{IsSomeAnd}
 use Rattle.std.proofs.lemmas.List.Sums.{fold-append}
 use Rattle.sentry_tables.specs.Cell.{Cell}
-use Rattle.sentry_losses.specs.Losses.{losses_of_item, losses_of_items}
+use Rattle.sentry_items.specs.Losses.{losses_of_item, losses_of_items}
 use Rattle.sentry_items.specs.declared.item.EnvelopeItem.{EnvelopeItem}
 use Rattle.sentry_envelope.specs.Envelope.{Envelope as Model}
 use Rattle.sentry_envelope.specs.EnvelopeView.{items as held_items, held_in, item_view, header_of, structured, structured_by, text_by}
@@ -18,13 +18,13 @@ use Rattle.sentry_env.specs.Losing.{AnswersByKind, AddsLosses}
 use Rattle.sentry_env.specs.Run.{IsDue, header_left, kept_text, left_text, left_outcome, model, outcome_of}
 use Rattle.sentry_env.specs.Sums.{add_loss, no_sums, sum_at}
 use Rattle.sentry_env.specs.Table.{table_by, table_of}
-use Rattle.sentry_env.specs.declared.kind.Kind.{Kind}
+use Rattle.sentry_framing.specs.declared.kind.ItemKind.{ItemKind}
 use Rattle.sentry_env.specs.declared.loss_filter.LossFilter.{LossFilter}
 use Rattle.sentry_env.specs.declared.losses.LossSums.{LossSums}
 use Rattle.sentry_env.proofs.SumLemmas.{table_is}
 
 -- each answer is what the kinds say
-answers_by_kind : (kinds : List Kind) (items : List EnvelopeItem) (answers : List Bool) (rest : List Call) (first last : LossFilter) → length answers ≡ length items → first.kinds.now ≡ kinds
+answers_by_kind : (kinds : List ItemKind) (items : List EnvelopeItem) (answers : List Bool) (rest : List Call) (first last : LossFilter) → length answers ≡ length items → first.kinds.now ≡ kinds
     → Run AnswersByKind AddsLosses first (asks items answers ++ rest) last → AnswersFor kinds items answers
 answers_by_kind kinds [] [] rest first last same is run = tt
 answers_by_kind kinds [] (b ∷ answers) rest first last same is run = cc
@@ -69,7 +69,7 @@ left_is (Items all) items header envelope (item ∷ rest) (Some left) is leaves 
     (ap (text_by (header_of left)) (held_structured left.contents (item ∷ rest) leaves.items_are) ∙ ap (λ (h : Cell). text_by h (held_items (map item_view (item ∷ rest)))) leaves.header_is, refl)
 left_is (Raw bytes) items header envelope (item ∷ rest) left is leaves = cc
 
-pub rest_is_due : (kinds : List Kind) (keep : Bool) (envelope : Envelope) (items : List EnvelopeItem) (first last : LossFilter) (left : Option Envelope) (table : List ℕ) → (length kinds == 0) ≡ false
+pub rest_is_due : (kinds : List ItemKind) (keep : Bool) (envelope : Envelope) (items : List EnvelopeItem) (first last : LossFilter) (left : Option Envelope) (table : List ℕ) → (length kinds == 0) ≡ false
     → structured_in envelope.contents ≡ Some items → first.kinds.now ≡ kinds → first.sums.row ≡ no_sums → FiltersEnvelope (header_left keep (header_of envelope)) AnswersByKind AddsLosses envelope first last left
     → table ≡ table_by (sum_at last.sums) → IsDue kinds keep (header_of envelope) items (left_text left) table (left_outcome left)
 rest_is_due [] keep envelope items first last left table some has is none filtered shown = absurd (let e : true ≡ false = some in cc)

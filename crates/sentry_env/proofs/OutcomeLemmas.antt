@@ -6,14 +6,12 @@ use Rattle.std.proofs.lemmas.List.Elements.{filter_map-append}
 use Rattle.std.specs.List.{filter_map, list_any}
 use Rattle.sentry_tables.specs.Cell.{Cell}
 use Rattle.sentry_framing.specs.ItemWords.{kind_place}
-use Rattle.sentry_framing.specs.declared.kind.ItemKind.{ItemKind}
 use Rattle.sentry_framing.specs.declared.kind.ItemKind.TheVariants as types
-use Rattle.sentry_losses.specs.Losses.{losses_of_items}
+use Rattle.sentry_items.specs.Losses.{losses_of_items}
 use Rattle.sentry_items.specs.View.{ItemView, attachment, replay_recording, value as value_view, raw as raw_view, item_held, kind_held}
-use Rattle.sentry_items.specs.declared.container.ItemContainer.TheVariants as container
 use Rattle.sentry_items.specs.declared.item.EnvelopeItem.{EnvelopeItem}
 use Rattle.sentry_items.specs.declared.item.EnvelopeItem.TheVariants as variants
-use Rattle.sentry_losses.proofs.SameLosses.{same_losses}
+use Rattle.sentry_items.proofs.SameLosses.{same_losses}
 use Rattle.sentry_envelope.specs.Envelope.{Envelope as Model, Item, item, raw, attached, opaque, value, given_by, envelope_text}
 use Rattle.sentry_envelope.specs.EnvelopeView.{item_view, placed}
 use Rattle.sentry_envelope.specs.Filter.{Hand, asks, chosen, first_id_of, handed, id_in, id_of, is_main, is_orphan, item_of_hand, kept, orphans}
@@ -26,8 +24,7 @@ use Rattle.sentry_env.specs.Listed.{AnswersFor, IsOfKinds, kind_of_item}
 use Rattle.sentry_env.specs.Run.{DueIsSettled, IsDue, IsOneDue, header_left, kept_text, model, outcome_of}
 use Rattle.sentry_env.specs.Table.{table_of}
 use Rattle.sentry_env.specs.declared.ending.Outcome.{Outcome}
-use Rattle.sentry_env.specs.declared.kind.Kind.{Kind}
-use Rattle.sentry_env.specs.declared.kind.Kind.TheVariants as kind
+use Rattle.sentry_framing.specs.declared.kind.ItemKind.{ItemKind}
 
 -- ---- items that show the same hold the same
 
@@ -62,27 +59,11 @@ agree f g is i j same = is i ∙ ap g (same_held i j same) ∙ sym (is j)
 
 -- ---- what is settled by what an item holds
 
-abbrev kind_of_type : ItemKind → Kind
-kind_of_type types.Event = kind.Event
-kind_of_type types.SessionUpdate = kind.Session
-kind_of_type types.SessionAggregates = kind.Sessions
-kind_of_type types.Transaction = kind.Transaction
-kind_of_type types.Attachment = kind.Attachment
-kind_of_type types.MonitorCheckIn = kind.CheckIn
-kind_of_type types.UserReport = kind.UserReport
-kind_of_type types.ReplayRecording = kind.ReplayRecording
-kind_of_type types.Logs = kind.Log
-kind_of_type types.Metrics = kind.TraceMetric
-kind_of_type types.ClientReport = kind.ClientReport
-
-abbrev kind_in : ItemView → Option Kind
-kind_in v = option_map kind_of_type (kind_held v)
+abbrev kind_in : ItemView → Option ItemKind
+kind_in v = kind_held v
 
 kind_is : (i : EnvelopeItem) → kind_of_item i ≡ kind_in (item_held i)
-kind_is (variants.ItemContainer (container.Logs logs)) = refl
-kind_is (variants.ItemContainer (container.Metrics metrics)) = refl
-kind_is variants.Raw = refl
-kind_is _ = refl
+kind_is i = refl
 
 abbrev orphan_in : ItemView → Bool
 orphan_in (attachment a) = true
@@ -185,7 +166,7 @@ handed_alike items others answers same =
 
 -- ---- answers by kind
 
-of_kinds : (kinds : List Kind) (i j : EnvelopeItem) → item_view i ≡ item_view j → IsOfKinds kinds i → IsOfKinds kinds j
+of_kinds : (kinds : List ItemKind) (i j : EnvelopeItem) → item_view i ≡ item_view j → IsOfKinds kinds i → IsOfKinds kinds j
 of_kinds kinds i j same listed = record { kind = listed.kind; of_kind = sym (agree kind_of_item kind_in kind_is i j same) ∙ listed.of_kind; listed = listed.listed }
 
 same_answer : {P Q : Type 0} (a b : Bool) → (P → Q) → (Q → P) → ((a ≡ false) ↔ P) → ((b ≡ false) ↔ Q) → a ≡ b
@@ -194,7 +175,7 @@ same_answer false false to from p q = refl
 same_answer true false to from p q = p.1 (from (q.0 refl))
 same_answer false true to from p q = sym (q.1 (to (p.0 refl)))
 
-answers_alike : (kinds : List Kind) (items others : List EnvelopeItem) (answers also : List Bool) → Alike items others → AnswersFor kinds items answers → AnswersFor kinds others also → answers ≡ also
+answers_alike : (kinds : List ItemKind) (items others : List EnvelopeItem) (answers also : List Bool) → Alike items others → AnswersFor kinds items answers → AnswersFor kinds others also → answers ≡ also
 answers_alike kinds [] [] [] [] same by by' = refl
 answers_alike kinds [] [] [] (b ∷ also) same by by' = absurd by'
 answers_alike kinds [] [] (a ∷ answers) also same by by' = absurd by
@@ -225,7 +206,7 @@ outcome_alike [] (j ∷ others) same = cc
 outcome_alike (i ∷ items) [] same = cc
 outcome_alike (i ∷ items) (j ∷ others) same = refl
 
-due_alike : (kinds : List Kind) (keep : Bool) (header : Cell) (items others : List EnvelopeItem) (out out' table table' : List ℕ) (outcome outcome' : Outcome) → Alike items others
+due_alike : (kinds : List ItemKind) (keep : Bool) (header : Cell) (items others : List EnvelopeItem) (out out' table table' : List ℕ) (outcome outcome' : Outcome) → Alike items others
     → IsDue kinds keep header items out table outcome → IsDue kinds keep header others out' table' outcome' → (out ≡ out') × (table ≡ table') × (outcome ≡ outcome')
 due_alike [] keep header items others out out' table table' outcome outcome' same due due' =
     (due.0 ∙ ap (λ (is : List Item). envelope_text profile (record { header = header; items = is })) same ∙ sym due'.0, due.1 ∙ sym due'.1, due.2 ∙ sym due'.2)
@@ -238,7 +219,7 @@ due_alike (kind ∷ kinds) keep header items others out out' table table' outcom
       due.outcome_is ∙ rw answers (outcome_alike _ _ left) ∙ sym due'.outcome_is,
     )
 
-one_due : (kinds : List Kind) (keep : Bool) (header header' : Cell) (items others : List EnvelopeItem) → model header items ≡ model header' others → IsOneDue kinds keep header header' items others
+one_due : (kinds : List ItemKind) (keep : Bool) (header header' : Cell) (items others : List EnvelopeItem) → model header items ≡ model header' others → IsOneDue kinds keep header header' items others
 one_due kinds keep header header' items others same out out' table table' outcome outcome' due due' =
     let header_is : header ≡ header' = ap (λ (m : Model). m.header) same in
     let items_are : map item_view items ≡ map item_view others = ap (λ (m : Model). m.items) same in

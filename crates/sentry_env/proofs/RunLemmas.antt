@@ -17,7 +17,7 @@ use Rattle.sentry_env.specs.Run.{IsDue, Runs, ReadsEnvelope, Sends, Stays, Strea
 use Rattle.sentry_env.specs.declared.ending.Outcome.{Outcome}
 use Rattle.sentry_env.specs.declared.ending.RunError.{RunError}
 use Rattle.sentry_env.specs.declared.ending.RunError.TheVariants as error
-use Rattle.sentry_env.specs.declared.kind.Kind.{Kind}
+use Rattle.sentry_framing.specs.declared.kind.ItemKind.{ItemKind}
 use Rattle.sentry_env.proofs.LossLemmas.{has_items}
 
 keeps : (known : Option (List ℕ)) → Keeps known known
@@ -35,7 +35,7 @@ read now input input' bytes given envelope consumed ended same spelled =
     (has.0, has.1, record { bytes = bytes; consumed = consumed; ended = ended; spells = has.2 })
 
 -- the bytes were refused, or memory was, and nothing was written
-pub refused : (kinds : List Kind) (keep : Bool) (now : Cell) (input input' : Option (List ℕ)) (out table : Stream) (bytes given : List ℕ) (x : EnvelopeError)
+pub refused : (kinds : List ItemKind) (keep : Bool) (now : Cell) (input input' : Option (List ℕ)) (out table : Stream) (bytes given : List ℕ) (x : EnvelopeError)
     → Consumes input input' bytes → IsAtEnd input' → given ≡ bytes → (x ≢ fault.OutOfMemory → Fault profile given x)
     → Runs kinds keep now input input' out out table table (Err (refusal_of x))
 refused kinds keep now input input' out table bytes given fault.OutOfMemory consumed ended same faulty = (stays out, stays table)
@@ -55,7 +55,7 @@ refused kinds keep now input input' out table bytes given fault.InvalidItemPaylo
     (record { bytes = bytes; consumed = consumed; ended = ended; at_fault = rw same at (faulty (λ is. cc)) }, stays out, stays table)
 
 -- the first text was not sent, and nothing was written of the table
-pub left_unsent : (kinds : List Kind) (keep : Bool) (now : Cell) (input input' : Option (List ℕ)) (out out' table : Stream) (header : Cell) (items : List EnvelopeItem) (out_text table_text : List ℕ) (outcome : Outcome)
+pub left_unsent : (kinds : List ItemKind) (keep : Bool) (now : Cell) (input input' : Option (List ℕ)) (out out' table : Stream) (header : Cell) (items : List EnvelopeItem) (out_text table_text : List ℕ) (outcome : Outcome)
     (e : RunError) → ReadsEnvelope now input input' header items → IsDue kinds keep header items out_text table_text outcome → Sends {A = Unit {0}} out out' out_text (Err e)
     → Runs kinds keep now input input' out out' table table (Err e)
 left_unsent kinds keep now input input' out out' table header items out_text table_text outcome (error.Refused x) reads due sends = absurd sends

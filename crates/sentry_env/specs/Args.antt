@@ -1,7 +1,7 @@
 -- The words of a call of the program: `-k` or not, then `-f` and a path or not, then words that name kinds.
 use Rattle.std.specs.Prelude.{◌≡◌, ℕ, Bool, true, false, List, [], ◌∷◌, ◌++◌, Option, Some, None, map, codes}
-use Rattle.sentry_env.specs.declared.kind.Kind.{Kind}
-use Rattle.sentry_env.specs.Kind.{kind_of_word}
+use Rattle.sentry_framing.specs.declared.kind.ItemKind.{ItemKind}
+use Rattle.sentry_framing.specs.ItemWords.{kind_of_word}
 
 -- the word by which the headers are kept
 abbrev pub keep_words : Bool → List (List ℕ)
@@ -14,11 +14,11 @@ path_words (Some path) = codes "-f" ∷ path ∷ []
 path_words None = []
 
 -- by the table the words name these kinds, one each
-abbrev pub NameKinds : List (List ℕ) → List Kind → Type 0
+abbrev pub NameKinds : List (List ℕ) → List ItemKind → Type 0
 NameKinds words kinds = map kind_of_word words ≡ map Some kinds
 
 -- the words are a call with these meanings
-pub record IsCall (words : List (List ℕ)) (keep : Bool) (path : Option (List ℕ)) (kinds : List Kind) : Type 0 where
+pub record IsCall (words : List (List ℕ)) (keep : Bool) (path : Option (List ℕ)) (kinds : List ItemKind) : Type 0 where
   pub names : List (List ℕ)
   pub spelled : words ≡ keep_words keep ++ (path_words path ++ names)
   pub named : NameKinds names kinds

@@ -1,6 +1,5 @@
 pub mod Args
 pub mod Ending
-pub mod Kind
 pub mod Listed
 pub mod Losing
 pub mod Reading

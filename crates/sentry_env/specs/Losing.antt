@@ -1,6 +1,6 @@
 -- The filter that refuses the items of some kinds, and sums what is lost with the items that go.
 use Rattle.std.specs.Prelude.{◌≡◌, ◌↔◌, Bool, false, fold}
-use Rattle.sentry_losses.specs.Losses.{losses_of_item}
+use Rattle.sentry_items.specs.Losses.{losses_of_item}
 use Rattle.sentry_items.specs.declared.item.EnvelopeItem.{EnvelopeItem}
 use Rattle.sentry_env.specs.Listed.{IsOfKinds}
 use Rattle.sentry_env.specs.Sums.{add_loss}

@@ -3,7 +3,7 @@ use Rattle.std.specs.Prelude.{◌≡◌, ◌⊎◌, ℕ, ◌+◌, Bool, List, []
 use Rattle.std.specs.Io.KnownBytes.{Appends, Consumes, IsAtEnd, Keeps}
 use Rattle.sentry_tables.specs.Cell.{Cell}
 use Rattle.sentry_items.specs.Counted.{AppendsFront}
-use Rattle.sentry_losses.specs.Losses.{losses_of_items}
+use Rattle.sentry_items.specs.Losses.{losses_of_items}
 use Rattle.sentry_items.specs.declared.item.EnvelopeItem.{EnvelopeItem}
 use Rattle.sentry_envelope.specs.Envelope.{Envelope as Model, Spells, envelope_text}
 use Rattle.sentry_envelope.specs.EnvelopeFault.{Fault}
@@ -20,7 +20,7 @@ use Rattle.sentry_env.specs.declared.ending.Outcome.{Outcome}
 use Rattle.sentry_env.specs.declared.ending.Outcome.TheVariants.{Written, NothingLeft}
 use Rattle.sentry_env.specs.declared.ending.RunError.{RunError}
 use Rattle.sentry_env.specs.declared.ending.RunError.TheVariants.{Refused, Read, Memory, Write}
-use Rattle.sentry_env.specs.declared.kind.Kind.{Kind}
+use Rattle.sentry_framing.specs.declared.kind.ItemKind.{ItemKind}
 
 -- ---- what is due
 
@@ -42,7 +42,7 @@ outcome_of [] = NothingLeft
 outcome_of (item ∷ items) = Written
 
 -- The items of these kinds are taken out: this is written of what is kept, this is the table of what is handed over, and this is the outcome.
-pub record TakesOut (kinds : List Kind) (keep : Bool) (header : Cell) (items : List EnvelopeItem) (out table : List ℕ) (outcome : Outcome) : Type 0 where
+pub record TakesOut (kinds : List ItemKind) (keep : Bool) (header : Cell) (items : List EnvelopeItem) (out table : List ℕ) (outcome : Outcome) : Type 0 where
   pub answers : List Bool
   pub by_kind : AnswersFor kinds items answers
   pub out_is : out ≡ kept_text (header_left keep header) (kept (chosen items answers))
@@ -50,7 +50,7 @@ pub record TakesOut (kinds : List Kind) (keep : Bool) (header : Cell) (items : L
   pub outcome_is : outcome ≡ outcome_of (kept (chosen items answers))
 
 -- What is due for an envelope: without kinds its own text, and no table.
-abbrev pub IsDue : List Kind → Bool → Cell → List EnvelopeItem → List ℕ → List ℕ → Outcome → Type 0
+abbrev pub IsDue : List ItemKind → Bool → Cell → List EnvelopeItem → List ℕ → List ℕ → Outcome → Type 0
 IsDue [] keep header items out table outcome = (out ≡ envelope_text profile (model header items)) × (table ≡ []) × (outcome ≡ Written)
 IsDue (kind ∷ kinds) keep header items out table outcome = TakesOut (kind ∷ kinds) keep header items out table outcome
 
@@ -93,7 +93,7 @@ pub record ReadsFault (old new : Option (List ℕ)) (fault : EnvelopeError) : Ty
   pub at_fault : Fault profile bytes fault
 
 -- an envelope was read, and both writers get the whole of what is due
-pub record WritesAll (kinds : List Kind) (keep : Bool) (now : Cell) (input input' : Option (List ℕ)) (out out' table table' : Stream) (outcome : Outcome) : Type 0 where
+pub record WritesAll (kinds : List ItemKind) (keep : Bool) (now : Cell) (input input' : Option (List ℕ)) (out out' table table' : Stream) (outcome : Outcome) : Type 0 where
   pub header : Cell
   pub items : List EnvelopeItem
   pub reads : ReadsEnvelope now input input' header items
@@ -104,7 +104,7 @@ pub record WritesAll (kinds : List Kind) (keep : Bool) (now : Cell) (input input
   pub table_gets : Gets table table' table_text
 
 -- an envelope was read, and a write failed: of the first text, and then nothing is written of the table, or of the table after all of the first
-pub record WritesPart (kinds : List Kind) (keep : Bool) (now : Cell) (input input' : Option (List ℕ)) (out out' table table' : Stream) : Type 0 where
+pub record WritesPart (kinds : List ItemKind) (keep : Bool) (now : Cell) (input input' : Option (List ℕ)) (out out' table table' : Stream) : Type 0 where
   pub header : Cell
   pub items : List EnvelopeItem
   pub reads : ReadsEnvelope now input input' header items
@@ -115,7 +115,7 @@ pub record WritesPart (kinds : List Kind) (keep : Bool) (now : Cell) (input inpu
   pub part : (Breaks out out' out_text × Stays table table') ⊎ (Gets out out' out_text × Breaks table table' table_text)
 
 -- what a run did, by its answer
-abbrev pub Runs : List Kind → Bool → Cell → Option (List ℕ) → Option (List ℕ) → Stream → Stream → Stream → Stream → Result Outcome RunError → Type 0
+abbrev pub Runs : List ItemKind → Bool → Cell → Option (List ℕ) → Option (List ℕ) → Stream → Stream → Stream → Stream → Result Outcome RunError → Type 0
 Runs kinds keep now input input' out out' table table' (Ok outcome) = WritesAll kinds keep now input input' out out' table table' outcome
 Runs kinds keep now input input' out out' table table' (Err (Refused fault)) = ReadsFault input input' fault × Stays out out' × Stays table table'
 Runs kinds keep now input input' out out' table table' (Err Read) = Stays out out' × Stays table table'
@@ -130,14 +130,14 @@ reads_failed _ = 0
 -- ---- one outcome
 
 -- What is due for the one envelope is due for the other.
-abbrev pub IsOneDue : List Kind → Bool → Cell → Cell → List EnvelopeItem → List EnvelopeItem → Type 0
+abbrev pub IsOneDue : List ItemKind → Bool → Cell → Cell → List EnvelopeItem → List EnvelopeItem → Type 0
 IsOneDue kinds keep header header' items items' = (out out' table table' : List ℕ) (outcome outcome' : Outcome)
     → IsDue kinds keep header items out table outcome → IsDue kinds keep header' items' out' table' outcome'
     → (out ≡ out') × (table ≡ table') × (outcome ≡ outcome')
 
 -- Where nothing is drawn, the bytes that were read, the moment, the kinds and whether the header stays settle both texts that are due, and the outcome.
 abbrev pub DueIsSettled : Type 0
-DueIsSettled = (bytes : List ℕ) (now : Cell) (kinds : List Kind) (keep : Bool) (header header' : Cell) (items items' : List EnvelopeItem)
+DueIsSettled = (bytes : List ℕ) (now : Cell) (kinds : List ItemKind) (keep : Bool) (header header' : Cell) (items items' : List EnvelopeItem)
     → NothingDrawnIn profile bytes → Spells profile bytes now (model header items) → Spells profile bytes now (model header' items')
     → IsOneDue kinds keep header header' items items'
 

@@ -1,25 +1,27 @@
+//! The command line.
+
 ghost use Rattle.std.specs.Prelude.{◌≡◌, ◌↔◌, ℕ, Bool, false, List, Option, Some, None, IfOk, IfSome, IfNone, MatchOption, option_map, map, string_bytes};
-ghost use Rattle.sentry_env.specs.declared.kind.Kind.{Kind};
+ghost use Rattle.sentry_framing.specs.declared.kind.ItemKind.{ItemKind as Kind};
 ghost use Rattle.sentry_env.specs.Args.{IsCall, NameKinds};
 
-use crate::kind::Kind;
+use crate::Kind;
 use std::alloc::{AllocError, Global};
 use std::env;
 use std::env::Env;
 use std::io::ErrorKind;
 
-/// What a call of the program asks for.
+/// Parsed arguments of the program.
 #[derive(Debug, Drop)]
 pub struct Args {
-    /// The file that is read in place of standard input.
+    /// Input file; standard input if `None`.
     pub path: Option<String>,
-    /// The kinds of items that are taken out.
+    /// Item types to remove.
     pub kinds: Vec<Kind>,
-    /// Whether the headers stay when items are taken out.
+    /// Whether the envelope header is kept when items are removed.
     pub keep: bool,
 }
 
-// Whether the first word is `-k`, and the words after it.
+// Splits off a leading `-k`.
 fn split_keep<'a, 'b>(words: &'a [&'b str]) -> (bool, &'a [&'b str])
     ensures { (keep : Bool) (path : Option (List ℕ)) (kinds : List Kind)
         → IsCall (map (λ word. word.now) words.now) keep path kinds
@@ -35,12 +37,12 @@ fn split_keep<'a, 'b>(words: &'a [&'b str]) -> (bool, &'a [&'b str])
     }
 }
 
-// The path after `-f`, if this is the first word, and the words after it. None where no path
-// follows.
+// Splits off a leading `-f PATH`; `None` if no path follows `-f`.
 fn split_path<'a, 'b>(words: &'a [&'b str]) -> Option<(Option<&'b str>, &'a [&'b str])>
     ensures found { IfSome result (λ found. (path : Option (List ℕ)) (kinds : List Kind)
         → IsCall (map (λ word. word.now) words.now) false path kinds
-        ↔ ((path ≡ option_map (λ text. text.now) found.0) × NameKinds (map (λ word. word.now) found.1.now) kinds)) }
+        ↔ ((path ≡ option_map (λ text. text.now) found.0) ×
+        NameKinds (map (λ word. word.now) found.1.now) kinds)) }
     ensures none { IfNone result ((path : Option (List ℕ)) (kinds : List Kind)
         → ¬ IsCall (map (λ word. word.now) words.now) false path kinds) }
 {
@@ -55,7 +57,7 @@ fn split_path<'a, 'b>(words: &'a [&'b str]) -> Option<(Option<&'b str>, &'a [&'b
     }
 }
 
-// The kinds that the words name, one each. None where a word names none.
+// Parses item types; `None` if a word names none.
 fn read_kinds(alloc: Global, words: &[&str]) -> Result<Option<Vec<Kind>>, AllocError>
     ensures { IfOk result (λ answer. MatchOption answer
         ((kinds : List Kind) → ¬ NameKinds (map (λ word. word.now) words.now) kinds)
@@ -71,14 +73,16 @@ fn read_kinds(alloc: Global, words: &[&str]) -> Result<Option<Vec<Kind>>, AllocE
     Ok(Some(kinds))
 }
 
-/// What the words of a call ask for.
+/// Parses the arguments after the program's name: optionally `-k`, then optionally `-f` and a path,
+/// then item types. Returns `None` for a usage error.
 ///
-/// The words are those after the program's name: `-k` or not, then `-f` and a path or not, then
-/// words that name kinds. The answer is `Ok(None)` where they are nothing of that form, and `Err`
-/// where memory ran out.
+/// # Errors
+///
+/// `AllocError` if an allocation fails.
 pub fn read_args(alloc: Global, words: &[&str]) -> Result<Option<Args>, AllocError>
     ensures call { IfOk result (λ answer. IfSome answer (λ args.
-        IsCall (map (λ word. word.now) words.now) args.keep (option_map string_bytes args.path) args.kinds.items)) }
+        IsCall (map (λ word. word.now) words.now) args.keep
+        (option_map string_bytes args.path) args.kinds.items)) }
     ensures no_call { result ≡ Ok None → (keep : Bool) (path : Option (List ℕ)) (kinds : List Kind)
         → ¬ IsCall (map (λ word. word.now) words.now) keep path kinds }
 {
@@ -96,10 +100,12 @@ pub fn read_args(alloc: Global, words: &[&str]) -> Result<Option<Args>, AllocErr
     Ok(Some(Args { path, kinds, keep }))
 }
 
-/// What the words that the program was started with ask for.
+/// Parses the arguments that the program was started with, as [`read_args`] does. Returns `None`
+/// for a usage error, or if an argument isn't UTF-8.
 ///
-/// The first one, the program's name, is left out. The answer is `Ok(None)` where they are no call
-/// by [`read_args`], or one of them is no text (isn't UTF-8), and `Err` where memory ran out.
+/// # Errors
+///
+/// `AllocError` if an allocation fails.
 pub fn program_args(rt: &(impl Env + AllocGlobal)) -> Result<Option<Args>, AllocError> {
     let given = match env::args(rt) {
         Ok(given) => given,

@@ -1,3 +1,5 @@
+//! The clock and the seed.
+
 ghost use Rattle.std.specs.Prelude.{◌≡◌, ◌<◌, ◌≤◌, ◌^◌, ◌/◌, ◌%◌};
 ghost use Rattle.std.specs.Duration.{as_nanos};
 
@@ -5,7 +7,7 @@ use sentry_types::protocol::v7::Moment;
 use std::rt::Clock;
 use std::time::{Duration, SystemTime, UNIX_EPOCH};
 
-/// The time since 1970, or none of it where the clock can't be read.
+/// Returns the time since 1970; zero if the clock can't be read.
 pub fn time_since_1970(rt: &impl Clock) -> Duration {
     match SystemTime::now(rt) {
         Ok(time) => time.duration_since(UNIX_EPOCH).unwrap_or(Duration::ZERO),
@@ -13,17 +15,20 @@ pub fn time_since_1970(rt: &impl Clock) -> Duration {
     }
 }
 
-/// The moment this long after 1970, or second 0 past the year 9999.
+/// Returns the moment this long after 1970; second 0 past the year 9999.
 pub fn moment_after(time: Duration) -> Moment
-    ensures within { as_nanos time / 10 ^ 9 ≤ 253_402_300_799 → (result.secs ≡ as_nanos time / 10 ^ 9) × (result.nanos ≡ as_nanos time % 10 ^ 9) }
-    ensures beyond { 253_402_300_799 < as_nanos time / 10 ^ 9 → (result.secs ≡ 0) × (result.nanos ≡ 0) }
+    ensures within { as_nanos time / 10 ^ 9 ≤ 253_402_300_799 →
+        (result.secs ≡ as_nanos time / 10 ^ 9) × (result.nanos ≡ as_nanos time % 10 ^ 9) }
+    ensures beyond { 253_402_300_799 < as_nanos time / 10 ^ 9 → (result.secs ≡ 0) ×
+        (result.nanos ≡ 0) }
 {
     moment_at(time.as_secs(), time.subsec_nanos())
 }
 
-// The moment of these seconds and nanoseconds, or second 0 where there is none.
+// Returns the moment of these seconds and nanoseconds; second 0 if there is none.
 fn moment_at(secs: u64, nanos: u32) -> Moment
-    ensures within { secs ≤ 253_402_300_799 → nanos < 10 ^ 9 → (result.secs ≡ secs) × (result.nanos ≡ nanos) }
+    ensures within { secs ≤ 253_402_300_799 → nanos < 10 ^ 9 → (result.secs ≡ secs) ×
+        (result.nanos ≡ nanos) }
     ensures beyond { 253_402_300_799 < secs → (result.secs ≡ 0) × (result.nanos ≡ 0) }
 {
     match Moment::new(secs, nanos) {
@@ -32,7 +37,7 @@ fn moment_at(secs: u64, nanos: u32) -> Moment
     }
 }
 
-/// The number that the generator of ids begins with at this time.
+/// Returns the seed of the generator of ids at this time.
 pub fn seed_at(time: Duration) -> u64 {
     time.as_secs()
         .wrapping_mul(1_000_000_000)

@@ -1,3 +1,5 @@
+//! How the program ends: exit statuses and messages.
+
 ghost use Rattle.std.specs.Prelude.{◌≡◌};
 ghost use Rattle.sentry_env.specs.Ending.{ending_of, usage_ending, run_error_of, refusal_of};
 
@@ -6,26 +8,26 @@ use sentry_items::counted::SendFailed;
 use sentry_types::protocol::v7::EnvelopeError;
 use std::alloc::AllocError;
 
-/// The line for words that are no call.
+/// The message for a usage error.
 pub const USAGE: &str = "usage: sentry_env [-k] [-f PATH] KIND..";
 
-/// How a run ended.
+/// How a run succeeded.
 #[derive(Clone, Copy, Debug, PartialEq, Eq)]
 pub enum Outcome {
     /// An envelope was written.
     Written,
-    /// No item was left, and only the table of losses was written.
+    /// No item is left; only the table of losses was written.
     NothingLeft,
 }
 
-/// Why a run ended early.
+/// Why a run failed.
 #[derive(Debug, Drop)]
 pub enum RunError {
-    /// The bytes are no envelope.
+    /// The input is no envelope.
     Refused(EnvelopeError),
-    /// A read answered an error.
+    /// A read failed.
     Read,
-    /// Memory ran out.
+    /// An allocation failed.
     Memory,
     /// A write failed.
     Write,
@@ -73,9 +75,8 @@ impl From<SendFailed> for RunError {
     }
 }
 
-/// The program's status, and the line for standard error: empty where there is none.
-///
-/// Takes no memory.
+/// Returns the exit status and the message for standard error, which is empty if there is none.
+/// Doesn't allocate.
 pub fn ending(answer: &Result<Outcome, RunError>) -> (u8, &'static str)
     ensures status { result.0 ≡ (ending_of answer.now).status }
     ensures line { result.1.now ≡ (ending_of answer.now).line }
@@ -111,9 +112,7 @@ pub fn ending(answer: &Result<Outcome, RunError>) -> (u8, &'static str)
     }
 }
 
-/// The program's status, and the line for standard error, where the words are no call.
-///
-/// Takes no memory.
+/// Returns the exit status and the message for a usage error. Doesn't allocate.
 pub fn usage() -> (u8, &'static str)
     ensures status { result.0 ≡ usage_ending.status }
     ensures line { result.1.now ≡ usage_ending.line }

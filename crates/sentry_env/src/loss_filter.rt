@@ -1,23 +1,24 @@
+//! The filter of the program.
+
 ghost use Rattle.std.specs.Prelude.{◌≡◌, ◌↔◌, IsTrue};
 ghost use Rattle.sentry_env.specs.Listed.{IsOfKinds};
 
-use crate::kind::Kind;
+use crate::Kind;
 use crate::losses::LossSums;
 use sentry_types::protocol::v7::{EnvelopeFilter, EnvelopeItem};
 use std::alloc::{AllocError, Global};
 
-/// A filter that refuses the items of some kinds, and sums what is lost with the items that go.
+/// A filter that removes items by type, and sums the losses of the removed items.
 #[derive(Drop)]
 pub struct LossFilter<'a> {
     kinds: &'a [Kind],
     sums: LossSums,
 }
 
-// Whether an item is of one of these kinds.
 fn is_of_kinds(item: &EnvelopeItem, kinds: &[Kind]) -> bool
     ensures { IsTrue result ↔ IsOfKinds kinds.now item.now }
 {
-    match Kind::of_item(item) {
+    match item.kind() {
         Some(kind) => kinds.contains(&kind),
         None => false,
     }
@@ -28,7 +29,7 @@ impl<'a> LossFilter<'a> {
     ghost use Rattle.sentry_env.specs.Sums.{no_sums, sum_at};
     ghost use Rattle.sentry_env.specs.Table.{table_by};
 
-    /// A filter that refuses these kinds, before any item goes.
+    /// Creates a filter that removes items of these types.
     pub fn new(kinds: &'a [Kind]) -> Self
         ensures kinds { result.kinds.now ≡ kinds.now }
         ensures nothing_lost { result.sums.row ≡ no_sums }
@@ -39,7 +40,7 @@ impl<'a> LossFilter<'a> {
         }
     }
 
-    /// The table of what was lost.
+    /// Returns the table of losses. `AllocError` if an allocation fails.
     pub fn table(&self, alloc: Global) -> Result<String, AllocError>
         ensures { IfOk result (λ text. string_bytes text ≡ table_by (sum_at self.now.sums)) }
     {

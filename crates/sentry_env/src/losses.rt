@@ -1,5 +1,7 @@
+//! Sums of losses, and their table.
+
 ghost use Rattle.std.specs.Prelude.{◌≡◌, ◌++◌, ◌+◌, ◌*◌, ◌<◌, IfOk, OnOk, Some, fold, string_bytes};
-ghost use Rattle.sentry_losses.specs.Losses.{losses_of_item};
+ghost use Rattle.sentry_items.specs.Losses.{losses_of_item};
 ghost use Rattle.std.specs.List.{flat_map};
 ghost use Rattle.sentry_reports.specs.Sums.{place};
 ghost use Rattle.sentry_env.specs.Sums.{add_loss, no_sums, sum_at};
@@ -10,19 +12,19 @@ use sentry_types::protocol::v7::EnvelopeItem;
 use sentry_types::protocol::v7::client_report::{Category, ItemLoss, LossSource, Reason};
 use std::alloc::{AllocError, Global};
 
-// How many places a category has: one without a reason, and one for each.
+// Number of sums in a category: one without a reason, and one for each reason.
 const PLACES: usize = 10;
 
-// How many sums there are.
+// Number of sums.
 const SUMS: usize = 120;
 
-/// What is lost of each category for each reason, and without one. No sum passes what 64 bits hold.
+/// The quantity lost in each category for each reason, and without one, saturating at 2^64-1.
 #[derive(Drop)]
 pub struct LossSums {
     row: [u64; SUMS],
 }
 
-// Where a sum stands in the row.
+// Returns the index of a sum.
 fn place(category: Category, reason: Option<Reason>) -> usize
     ensures same { result ≡ place category reason }
     ensures within { result < 120 }
@@ -34,7 +36,6 @@ fn place(category: Category, reason: Option<Reason>) -> usize
     PLACES * category.as_index() + within
 }
 
-// The word that stands for a reason in a line.
 fn reason_text(reason: Option<Reason>) -> &'static str
     ensures { result.now ≡ reason_text reason }
 {
@@ -45,7 +46,7 @@ fn reason_text(reason: Option<Reason>) -> &'static str
 }
 
 impl LossSums {
-    /// Nothing is lost.
+    /// Creates sums of zero.
     pub fn new() -> LossSums
         ensures { result.row ≡ no_sums }
     {
@@ -60,7 +61,7 @@ impl LossSums {
         self.row[place] = self.row[place].saturating_add(loss.quantity);
     }
 
-    /// Adds what is lost with an item.
+    /// Adds the losses of an item.
     pub fn add_item(&mut self, item: &EnvelopeItem)
         ensures { self.new ≡ fold add_loss self.old (losses_of_item item.now) }
     {
@@ -69,14 +70,15 @@ impl LossSums {
         }
     }
 
-    // Appends the line of a sum, if it is above 0.
+    // Appends the line of a sum that is above 0.
     fn push_line(
         &self,
         text: &mut String,
         category: Category,
         reason: Option<Reason>,
     ) -> Result<(), AllocError>
-        ensures { OnOk result (string_bytes text.new ≡ string_bytes text.old ++ line_of category reason (sum_at self.now category reason)) }
+        ensures { OnOk result (string_bytes text.new ≡ string_bytes text.old ++
+            line_of category reason (sum_at self.now category reason)) }
     {
         let quantity = self.row[place(category, reason)];
         if quantity != 0 {
@@ -87,7 +89,6 @@ impl LossSums {
         Ok(())
     }
 
-    // Appends the lines of a category for these reasons.
     fn push_reasons(
         &self,
         text: &mut String,
@@ -95,7 +96,8 @@ impl LossSums {
         reasons: &[Reason],
     ) -> Result<(), AllocError>
         ensures { OnOk result (string_bytes text.new ≡ string_bytes text.old
-            ++ flat_map (λ reason. line_of category (Some reason) (sum_at self.now category (Some reason))) reasons.now) }
+            ++ flat_map (λ reason.
+            line_of category (Some reason) (sum_at self.now category (Some reason))) reasons.now) }
     {
         for reason in reasons {
             self.push_line(text, category, Some(*reason))?;
@@ -103,18 +105,18 @@ impl LossSums {
         Ok(())
     }
 
-    // Appends the lines of a category.
     #[tactic(auto, unfolding(crate::specs::Table::lines_by))]
     fn push_category(&self, text: &mut String, category: Category) -> Result<(), AllocError>
-        ensures { OnOk result (string_bytes text.new ≡ string_bytes text.old ++ lines_by (sum_at self.now) category) }
+        ensures { OnOk result (string_bytes text.new ≡ string_bytes text.old ++
+            lines_by (sum_at self.now) category) }
     {
         self.push_line(text, category, None)?;
         self.push_reasons(text, category, Reason::VARIANTS)
     }
 
-    // Appends the lines of these categories.
     fn push_categories(&self, text: &mut String, categories: &[Category]) -> Result<(), AllocError>
-        ensures { OnOk result (string_bytes text.new ≡ string_bytes text.old ++ flat_map (lines_by (sum_at self.now)) categories.now) }
+        ensures { OnOk result (string_bytes text.new ≡ string_bytes text.old ++
+            flat_map (lines_by (sum_at self.now)) categories.now) }
     {
         for category in categories {
             self.push_category(text, *category)?;
@@ -122,7 +124,7 @@ impl LossSums {
         Ok(())
     }
 
-    /// The table: a line for each sum above 0.
+    /// Returns the table: a line for each sum above 0. `AllocError` if an allocation fails.
     #[tactic(auto, unfolding(crate::specs::Table::table_by))]
     pub fn table(&self, alloc: Global) -> Result<String, AllocError>
         ensures { IfOk result (λ text. string_bytes text ≡ table_by (sum_at self.now)) }

@@ -1,16 +1,15 @@
-//! Rewrites a Sentry envelope, and takes the items of some kinds out of it.
+//! Rewrites a Sentry envelope in its canonical form, and removes items by their type.
 //!
 //! `sentry_env [-k] [-f PATH] KIND..` reads an envelope from the file PATH, or from standard input
-//! without `-f`. A KIND is a word that names a type of items. With `-k` the headers stay when items
-//! are taken out. The exit status is 0 where an envelope was written, 1 where no item was left, 2
-//! where the bytes are no envelope or can't be read, 3 where the words are no call, and 4 where
-//! memory ran out or a write failed.
+//! without `-f`, and removes the items whose type is one of the KINDs. `-k` keeps the envelope
+//! header when items are removed. Exit status: 0 if an envelope was written, 1 if no item is left,
+//! 2 if the input is no envelope or can't be read, 3 for a usage error, 4 if an allocation or a
+//! write failed.
 #![tactic(auto)]
 
 mod args;
 mod clock;
 mod ending;
-mod kind;
 mod laws;
 mod loss_filter;
 mod losses;
@@ -31,13 +30,14 @@ use ending::{Outcome, RunError, ending, usage};
 use rand_core::SeedableRng;
 use rand_pcg::Pcg32;
 use run::run;
+pub use sentry_types::protocol::v7::ItemKind as Kind;
 use sentry_types::protocol::v7::{CountedReader, CountedWriter};
 use std::alloc::AllocError;
 use std::fs;
 use std::io::Read;
 use std::process::ExitCode;
 
-// What the program does for a call.
+// Runs the program for its arguments.
 fn answer_call(rt: &HostRuntime, args: &Args) -> Result<Outcome, RunError> {
     match &args.path {
         Some(path) => match fs::open(rt, path.as_str()) {
@@ -48,7 +48,7 @@ fn answer_call(rt: &HostRuntime, args: &Args) -> Result<Outcome, RunError> {
     }
 }
 
-// Rewrites what a source holds, to standard output, with the table on standard error.
+// Rewrites a source to standard output, with the table of losses on standard error.
 fn rewrite<R: Read>(rt: &HostRuntime, args: &Args, source: R) -> Result<Outcome, RunError>
 where
     R: Drop,
@@ -70,7 +70,7 @@ where
     )
 }
 
-// The program's status and its line for standard error, by what its words ask for.
+// Returns the exit status and the line for standard error.
 fn end_of_call(rt: &HostRuntime, call: Result<Option<Args>, AllocError>) -> (u8, &'static str) {
     match call {
         Ok(Some(args)) => ending(&answer_call(rt, &args)),

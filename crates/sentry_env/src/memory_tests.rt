@@ -1,10 +1,10 @@
 // Memory that is refused, and memory that isn't.
 //
-// Without a refusal these tests run the program's one call and want its answer. With one request refused,
-// whichever it is (`rt try --test --fail-alloc N`), they pass too: the answer is then want of memory, nothing was
-// written, and the next run is answered.
+// Without a refusal these tests run the program's one call and want its answer. With one request
+// refused, whichever it is (`rt try --test --fail-alloc N`), they pass too: the answer is then want
+// of memory, nothing was written, and the next run is answered.
+use crate::Kind;
 use crate::ending::ending;
-use crate::kind::Kind;
 use crate::runs::{INPUT, REWRITTEN, Ran, run_on};
 use std::alloc::Global;
 use std::io;

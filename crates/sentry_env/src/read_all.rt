@@ -1,3 +1,5 @@
+//! Reading all of the input.
+
 ghost use Rattle.std.specs.Prelude.{◌≡◌, ◌+◌, ◌-◌, ◌^◌, ◌<◌, IfOk, IfErr, OnOk};
 ghost use Rattle.std.specs.Io.KnownBytes.{Consumes, IsAtEnd};
 ghost use Rattle.sentry_items.specs.Counted.{reader_inside, reader_failures};
@@ -7,26 +9,29 @@ use sentry_types::protocol::v7::CountedReader;
 use std::alloc::Global;
 use std::io::Read;
 
-/// Why not all was read.
+/// Why reading failed.
 #[derive(Debug, Drop)]
 pub enum ReadError {
-    /// A read answered an error, an interrupted one too.
+    /// A read failed, or was interrupted.
     Read,
-    /// Memory ran out.
+    /// An allocation failed.
     Memory,
 }
 
-// How many bytes are asked for at a time.
+// Bytes a read.
 const CHUNK: usize = 8192;
 
 /// Reads all that a reader has left.
 ///
-/// `Read` is answered where a read answers an error, and then no more is read. `Memory` is answered
-/// where the bytes don't fit. The reader's count of failures rises by 1 with `Read`, and else stays.
+/// # Errors
+///
+/// - `Read` at the first read that fails; the reader's count of failures rises by 1.
+/// - `Memory` if an allocation fails.
 pub fn read_all<R: Read>(alloc: Global, reader: &mut CountedReader<R>) -> Result<Vec<u8>, ReadError>
     requires { reader_failures reader.old < 2 ^ 64 - 1 }
     ensures all { IfOk result (λ bytes.
-        Consumes (R.remaining (reader_inside reader.old)) (R.remaining (reader_inside reader.new)) bytes.items) }
+        Consumes (R.remaining (reader_inside reader.old))
+        (R.remaining (reader_inside reader.new)) bytes.items) }
     ensures end { OnOk result (IsAtEnd (R.remaining (reader_inside reader.new))) }
     ensures no_failure { OnOk result (reader_failures reader.new ≡ reader_failures reader.old) }
     ensures failure { IfErr result (λ error.

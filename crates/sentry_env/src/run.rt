@@ -1,3 +1,5 @@
+//! A run: reading, filtering and writing.
+
 ghost use Rattle.std.specs.Prelude.{◌≡◌, ◌+◌, ◌-◌, ◌^◌, ◌<◌, List, Some, IfErr, IfOk, IsSomeAnd, string_bytes};
 ghost use Rattle.sentry_items.specs.Counted.{reader_inside, reader_failures, writer_inside, writer_failures};
 ghost use Rattle.sentry_items.specs.declared.item.EnvelopeItem.{EnvelopeItem};
@@ -8,8 +10,8 @@ ghost use Rattle.sentry_envelope.specs.SentryProfile.{profile};
 ghost use Rattle.sentry_moments.specs.Moments.{moment_cell};
 ghost use Rattle.sentry_env.specs.Run.{IsDue, IsWritable, Runs, Sends, header_left, left_outcome, left_text, reads_failed, stream};
 
+use crate::Kind;
 use crate::ending::{Outcome, RunError};
-use crate::kind::Kind;
 use crate::loss_filter::LossFilter;
 use crate::read_all::read_all;
 use rand_core::Rng;
@@ -20,15 +22,13 @@ use sentry_types::protocol::v7::{
 use std::alloc::{AllocError, Global};
 use std::io::{Read, Write};
 
-// What is written of an envelope, and the table of what is lost.
+// What is left of an envelope, and the table of losses.
 #[derive(Drop)]
 struct Rewritten {
     left: Option<Envelope>,
     losses: String,
 }
 
-// Filters an envelope by the call that keeps the fields of its header, or by the one that drops them.
-// Where memory is refused it is handed back, and the filter isn't called.
 fn filtered<F: EnvelopeFilter>(
     alloc: Global,
     envelope: Envelope,
@@ -36,7 +36,9 @@ fn filtered<F: EnvelopeFilter>(
     filter: &mut F,
 ) -> Result<Option<Envelope>, Envelope>
     requires { F.can_filter filter.old }
-    ensures filtered { IfOk result (FiltersEnvelope (header_left keep (header_of envelope)) F.ask F.hand envelope filter.old filter.new) }
+    ensures filtered { IfOk result
+        (FiltersEnvelope (header_left keep (header_of envelope)) F.ask F.hand envelope filter.old
+        filter.new) }
     ensures refused { IfErr result (λ back. (back ≡ envelope) × (filter.new ≡ filter.old)) }
 {
     if keep {
@@ -46,8 +48,7 @@ fn filtered<F: EnvelopeFilter>(
     }
 }
 
-// Takes the items of these kinds out of an envelope that can be written. Without kinds all of it
-// is left.
+// Removes items by type; without types the whole envelope is left.
 fn rewrite(
     alloc: Global,
     kinds: &[Kind],
@@ -55,8 +56,10 @@ fn rewrite(
     envelope: Envelope,
 ) -> Result<Rewritten, AllocError>
     requires { IsSomeAnd (structured envelope) (IsEnvelopePlain profile) }
-    ensures due { IfOk result (λ rewritten. (items : List EnvelopeItem) → structured_in envelope.contents ≡ Some items
-        → IsDue kinds.now keep (header_of envelope) items (left_text rewritten.left) (string_bytes rewritten.losses) (left_outcome rewritten.left)) }
+    ensures due { IfOk result (λ rewritten. (items : List EnvelopeItem) →
+        structured_in envelope.contents ≡ Some items
+        → IsDue kinds.now keep (header_of envelope) items (left_text rewritten.left)
+        (string_bytes rewritten.losses) (left_outcome rewritten.left)) }
     ensures writable { IfOk result (λ rewritten. IsWritable rewritten.left) }
 {
     if kinds.is_empty() {
@@ -73,7 +76,6 @@ fn rewrite(
     Ok(Rewritten { left, losses })
 }
 
-// How a run ends that leaves this.
 fn outcome_of(left: &Option<Envelope>) -> Outcome
     ensures { result ≡ left_outcome left.now }
 {
@@ -83,7 +85,6 @@ fn outcome_of(left: &Option<Envelope>) -> Outcome
     }
 }
 
-// Writes what is left of an envelope, which can be written.
 fn write_left<W: Write>(
     alloc: Global,
     left: &Option<Envelope>,
@@ -92,7 +93,8 @@ fn write_left<W: Write>(
     requires counts { writer_failures out.old < 2 ^ 64 - 1 }
     requires writable { IsWritable left.now }
     ensures { Sends (stream (W.contents (writer_inside out.old)) (writer_failures out.old))
-        (stream (W.contents (writer_inside out.new)) (writer_failures out.new)) (left_text left.now) result }
+        (stream (W.contents (writer_inside out.new)) (writer_failures out.new))
+        (left_text left.now) result }
 {
     let Some(envelope) = left else {
         return Ok(());
@@ -105,21 +107,20 @@ fn write_left<W: Write>(
     }
 }
 
-/// Reads an envelope, and writes it without the items of these kinds, and then the table of what
-/// was lost with the items that went.
+/// Reads an envelope, writes it without the items of these types, and then writes the table of the
+/// losses of the removed items.
 ///
-/// An item goes if it is of one of the kinds, and an attachment also where no event and no
-/// transaction is left. Where `keep` is given, the fields of the header other than the id stay.
-/// Without kinds the whole envelope is written, and no table. All texts are built before the first
-/// byte is written.
+/// An attachment is also removed if no event and no transaction is left. With `keep` the header's
+/// fields other than the id are kept. Without types the whole envelope is written, and no table.
+/// All texts are built before the first byte is written.
 ///
 /// # Errors
 ///
-/// - `Refused`: all was read, and the bytes are no envelope. Nothing was written.
-/// - `Read`: a read answered an error, and was counted. Nothing was written.
-/// - `Memory`: memory was refused. Nothing was written.
-/// - `Write`: a write failed, and was counted. A beginning of the envelope was written and nothing of
-///   the table, or the whole envelope and a beginning of the table.
+/// - `Refused` if all was read and the bytes are no envelope; nothing was written.
+/// - `Read` if a read failed, and was counted; nothing was written.
+/// - `Memory` if an allocation fails; nothing was written.
+/// - `Write` if a write failed, and was counted; a beginning of the envelope was written and
+///   nothing of the table, or the whole envelope and a beginning of the table.
 pub fn run<R: Read, W: Write, T: Write, G: Rng>(
     alloc: Global,
     reader: &mut CountedReader<R>,
@@ -135,14 +136,18 @@ pub fn run<R: Read, W: Write, T: Write, G: Rng>(
     requires table_counts { writer_failures table.old < 2 ^ 64 - 1 }
     ensures runs { Runs kinds.now keep (moment_cell now)
         (R.remaining (reader_inside reader.old)) (R.remaining (reader_inside reader.new))
-        (stream (W.contents (writer_inside out.old)) (writer_failures out.old)) (stream (W.contents (writer_inside out.new)) (writer_failures out.new))
-        (stream (T.contents (writer_inside table.old)) (writer_failures table.old)) (stream (T.contents (writer_inside table.new)) (writer_failures table.new)) result }
+        (stream (W.contents (writer_inside out.old)) (writer_failures out.old))
+        (stream (W.contents (writer_inside out.new)) (writer_failures out.new))
+        (stream (T.contents (writer_inside table.old)) (writer_failures table.old))
+        (stream (T.contents (writer_inside table.new)) (writer_failures table.new)) result }
 
     // The reader's count rises with `Read`, and with no other answer.
     ensures reads { reader_failures reader.new ≡ reader_failures reader.old + reads_failed result }
 {
     let bytes = read_all(alloc, reader)?;
     let envelope = Envelope::from_slice(alloc, &bytes, now, ids)?;
+    // The envelope borrows nothing: its text takes the place of the input.
+    drop(bytes);
     let rewritten = rewrite(alloc, kinds, keep, envelope)?;
     write_left(alloc, &rewritten.left, out)?;
     send(rewritten.losses.as_bytes(), table)?;

@@ -1,6 +1,6 @@
+use crate::Kind;
 use crate::clock::{moment_after, seed_at, time_since_1970};
 use crate::ending::ending;
-use crate::kind::Kind;
 use crate::losses::LossSums;
 use crate::runs::{INPUT, REWRITTEN, Ran, run_on};
 use sentry_types::protocol::v7::Moment;
@@ -173,7 +173,7 @@ const ROWS: &[Row] = &[
     // No event and no transaction is left beside the attachment.
     Row {
         input: TWO,
-        kinds: &[Kind::Log],
+        kinds: &[Kind::Logs],
         keep: false,
         ending: (0, ""),
         out: RECORDING,
@@ -189,7 +189,7 @@ const ROWS: &[Row] = &[
     },
     Row {
         input: "{}\n",
-        kinds: &[Kind::Log],
+        kinds: &[Kind::Logs],
         keep: false,
         ending: (1, ""),
         out: "",
@@ -237,7 +237,7 @@ const ROWS: &[Row] = &[
     },
     Row {
         input: FOUR,
-        kinds: &[Kind::Event, Kind::Transaction, Kind::Log, Kind::TraceMetric],
+        kinds: &[Kind::Event, Kind::Transaction, Kind::Logs, Kind::Metrics],
         keep: false,
         ending: (1, ""),
         out: "",

@@ -1,7 +1,7 @@
 // What the tests of runs share.
+use crate::Kind;
 use crate::clock::moment_after;
 use crate::ending::{Outcome, RunError};
-use crate::kind::Kind;
 use crate::run::run;
 use rand_core::SeedableRng;
 use rand_pcg::Pcg32;

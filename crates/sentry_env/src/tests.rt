@@ -1,7 +1,6 @@
 use crate::args::{Args, program_args, read_args};
-use crate::end_of_call;
 use crate::ending::{Outcome, RunError, ending, usage};
-use crate::kind::Kind;
+use crate::{Kind, end_of_call};
 use sentry_types::protocol::v7::EnvelopeError;
 use std::alloc::{AllocError, Global};
 use std::env::{Env, FillError};
@@ -9,13 +8,13 @@ use std::test::Fail;
 
 const WORDS: &[(&str, Kind)] = &[
     ("event", Kind::Event),
-    ("session", Kind::Session),
-    ("sessions", Kind::Sessions),
+    ("session", Kind::SessionUpdate),
+    ("sessions", Kind::SessionAggregates),
     ("transaction", Kind::Transaction),
     ("attachment", Kind::Attachment),
-    ("check_in", Kind::CheckIn),
-    ("log", Kind::Log),
-    ("trace_metric", Kind::TraceMetric),
+    ("check_in", Kind::MonitorCheckIn),
+    ("log", Kind::Logs),
+    ("trace_metric", Kind::Metrics),
     ("client_report", Kind::ClientReport),
     ("user_report", Kind::UserReport),
     ("replay_recording", Kind::ReplayRecording),
@@ -62,7 +61,7 @@ const CALLS: &[Call] = &[
         &["log", "event", "log"],
         false,
         None,
-        &[Kind::Log, Kind::Event, Kind::Log],
+        &[Kind::Logs, Kind::Event, Kind::Logs],
     ),
     (&["-k"], true, None, &[]),
     (&["-k", "event"], true, None, &[Kind::Event]),
@@ -77,12 +76,12 @@ const CALLS: &[Call] = &[
         &["-k", "-f", "x", "session", "sessions"],
         true,
         Some("x"),
-        &[Kind::Session, Kind::Sessions],
+        &[Kind::SessionUpdate, Kind::SessionAggregates],
     ),
     (&["-f", "event"], false, Some("event"), &[]),
     (&["-f", "-f"], false, Some("-f"), &[]),
     (&["-f", "-k"], false, Some("-k"), &[]),
-    (&["-k", "-f", "-k", "log"], true, Some("-k"), &[Kind::Log]),
+    (&["-k", "-f", "-k", "log"], true, Some("-k"), &[Kind::Logs]),
     // Of the orders of `-k`, `-f` and two words that name kinds, these four are calls.
     (
         &["-k", "-f", "log", "event"],
@@ -94,19 +93,19 @@ const CALLS: &[Call] = &[
         &["-k", "-f", "event", "log"],
         true,
         Some("event"),
-        &[Kind::Log],
+        &[Kind::Logs],
     ),
     (
         &["-f", "-k", "log", "event"],
         false,
         Some("-k"),
-        &[Kind::Log, Kind::Event],
+        &[Kind::Logs, Kind::Event],
     ),
     (
         &["-f", "-k", "event", "log"],
         false,
         Some("-k"),
-        &[Kind::Event, Kind::Log],
+        &[Kind::Event, Kind::Logs],
     ),
     (&["-f", ""], false, Some(""), &[]),
 ];
@@ -235,7 +234,7 @@ fn given_args(alloc: Global, words: &[&[u8]]) -> Result<Option<Args>, AllocError
 fn the_first_word_is_the_programs_name(rt: HostRuntime) -> Result<(), Fail> {
     let alloc = rt.alloc();
     let call = given_args(alloc, &[b"event", b"-k", b"-f", b"\xc3\xa4", b"log"])?;
-    assert!(rt; asks_for(&call, true, Some("ä"), &[Kind::Log]));
+    assert!(rt; asks_for(&call, true, Some("ä"), &[Kind::Logs]));
     for words in [&[b"sentry_env".as_slice()].as_slice(), &[].as_slice()] {
         assert!(rt; asks_for(&given_args(alloc, words)?, false, None, &[]));
     }

@@ -3,7 +3,7 @@ use Rattle.std.proofs.Common.{◌≡◌, Bool, List, [], ◌∷◌, ◌++◌, le
 use Rattle.std.specs.List.Sorted.{IsPermutation}
 use Rattle.std.proofs.lemmas.List.Sorted.{length_permutation}
 use Rattle.sentry_tables.specs.Cell.{Cell}
-use Rattle.sentry_losses.specs.Losses.{losses_of_item, losses_of_items}
+use Rattle.sentry_items.specs.Losses.{losses_of_item, losses_of_items}
 use Rattle.sentry_items.specs.declared.item.EnvelopeItem.{EnvelopeItem}
 use Rattle.sentry_reports.specs.declared.item_loss.ItemLoss.{ItemLoss}
 use Rattle.sentry_envelope.specs.EnvelopeLosses.{losses_of_envelope, losses_of_left}

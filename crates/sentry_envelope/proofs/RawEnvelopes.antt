@@ -3,7 +3,7 @@ use Rattle.std.proofs.Common.{◌≡◌, ℕ, List, [], Some, refl, ap}
 use Rattle.std.proofs.lemmas.Option.{same_Some}
 use Rattle.std.specs.Prelude.{IsSome}
 use Rattle.sentry_tables.specs.Cell.{Cell}
-use Rattle.sentry_losses.specs.Losses.{losses_of_items}
+use Rattle.sentry_items.specs.Losses.{losses_of_items}
 use Rattle.sentry_envelope.specs.EnvelopeLosses.{losses_of_envelope}
 use Rattle.sentry_envelope.specs.EnvelopeView.{Held, items, bytes, bytes_in, held, held_in, header_of, items_in, items_of, raw_bytes, text_by, text_of}
 use Rattle.sentry_envelope.specs.declared.envelope.Contents.{Contents}

@@ -1,6 +1,6 @@
 -- What is lost with an envelope.
 use Rattle.std.specs.Prelude.{List, [], Option, Some, None}
-use Rattle.sentry_losses.specs.Losses.{losses_of_items}
+use Rattle.sentry_items.specs.Losses.{losses_of_items}
 use Rattle.sentry_reports.specs.declared.item_loss.ItemLoss.{ItemLoss}
 use Rattle.sentry_envelope.specs.EnvelopeView.{items_of}
 use Rattle.sentry_envelope.specs.declared.envelope.Envelope.{Envelope}

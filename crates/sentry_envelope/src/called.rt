@@ -1,25 +1,26 @@
-//! Closures that are called again and again with values of a type, and that the call may change.
+//! Traits of closures that are called repeatedly with values of a type.
 
-/// What is asked about values of a type: each closure `FnMut(&T) -> bool`.
+/// A closure `FnMut(&T) -> bool` that answers questions about values.
 ///
-/// A closure is called where its argument's type is a parameter, since the prover doesn't cover the call of one that
-/// takes a type with texts of `'static` in it.
+/// The argument's type is a parameter of the trait because the prover doesn't cover a call of a
+/// closure whose argument contains `'static` strings.
 pub trait Asked<T>: Drop {
     ghost use Rattle.std.specs.Prelude.{Bool};
 
-    /// Holds of what may be asked about any value.
+    /// Holds for a closure that may be asked about any value.
     ghost can_ask: { Self → Type 0 };
 
-    /// What is asked about a value, its answer, and what it is afterwards.
+    /// Relates a closure, a value, the answer about the value, and the closure after the call.
     ghost asks: { Self → T → Bool → Self → Type 0 };
 
-    /// The answer about a value.
+    /// Returns the answer about a value.
     fn ask(&mut self, value: &T) -> bool
         requires { can_ask self.old }
         ensures { asks self.old value.now result self.new };
 
-    /// What was asked may be asked again.
-    ghost ask_again: { (first : Self) (value : T) (answer : Bool) (next : Self) → can_ask first → asks first value answer next → can_ask next };
+    /// A closure may be asked again after a call.
+    ghost ask_again: { (first : Self) (value : T) (answer : Bool) (next : Self) → can_ask first →
+        asks first value answer next → can_ask next };
 }
 
 impl<T, F: FnMut(&T) -> bool> Asked<T> for F {
@@ -31,28 +32,30 @@ impl<T, F: FnMut(&T) -> bool> Asked<T> for F {
 
     ghost asks = { λ f value answer next. CalledAt F.FnMut f value answer next };
 
-    ghost ask_again = { λ first value answer next ready asked. mut_next F.FnMut first (asked.shown, tt) answer next next asked.called refl ready };
+    ghost ask_again = { λ first value answer next ready asked.
+        mut_next F.FnMut first (asked.shown, tt) answer next next asked.called refl ready };
 
     fn ask(&mut self, value: &T) -> bool {
         self(value)
     }
 }
 
-/// What values of a type are given to: each closure `FnMut(T)`.
+/// A closure `FnMut(T)` that receives values.
 pub trait Given<T>: Drop {
-    /// Holds of what may be given any value.
+    /// Holds for a closure that may receive any value.
     ghost can_give: { Self → Type 0 };
 
-    /// What is given a value, and what it is afterwards.
+    /// Relates a closure, a value, and the closure after it received the value.
     ghost gives: { Self → T → Self → Type 0 };
 
-    /// Takes a value.
+    /// Receives a value.
     fn give(&mut self, value: T)
         requires { can_give self.old }
         ensures { gives self.old value self.new };
 
-    /// What was given a value may be given another.
-    ghost give_again: { (first : Self) (value : T) (next : Self) → can_give first → gives first value next → can_give next };
+    /// A closure may receive another value after a call.
+    ghost give_again: { (first : Self) (value : T) (next : Self) → can_give first →
+        gives first value next → can_give next };
 }
 
 impl<T, P: FnMut(T)> Given<T> for P {
@@ -63,7 +66,8 @@ impl<T, P: FnMut(T)> Given<T> for P {
 
     ghost gives = { λ f value next. P.step f value tt next };
 
-    ghost give_again = { λ first value next ready given. mut_next P.FnMut first (value, tt) tt next next given refl ready };
+    ghost give_again = { λ first value next ready given.
+        mut_next P.FnMut first (value, tt) tt next next given refl ready };
 
     fn give(&mut self, value: T) {
         self(value)

@@ -12,40 +12,40 @@ use sentry_event::Event;
 use sentry_framing::{EnvelopeError, Frames};
 use sentry_items::EnvelopeItem;
 use sentry_items::counted::{CountedWriter, send, send_plain};
+use sentry_json::scratch;
 use sentry_members::Member;
 use sentry_moments::Moment;
-use sentry_trees::scratch;
 use std::alloc::{AllocError, AllocFailed, Global};
 use std::io::Write;
 use std::rt::Files;
 use thiserror::Error;
 use uuid::Uuid;
 
-/// An envelope: a header, and items.
+/// An envelope: envelope headers, and items.
 ///
 /// <https://develop.sentry.dev/sdk/data-model/envelopes/>
 ///
-/// An envelope is structured, with its items in order, or raw: bytes that nothing read.
+/// An envelope is structured, with its items in order, or raw, with bytes that are kept unread.
 #[derive(Debug, Drop, PartialEq)]
 pub struct Envelope {
     pub(crate) headers: EnvelopeHeaders,
     pub(crate) contents: Contents,
 }
 
-/// What an envelope holds.
+// The items of a structured envelope, or the bytes of a raw one.
 #[derive(Debug, Drop, PartialEq)]
 pub(crate) enum Contents {
     Items(Vec<EnvelopeItem>),
     Raw(Vec<u8>),
 }
 
-/// Why an item was not added. The item is handed back.
+/// The error of [`Envelope::add_item`], with the item.
 #[derive(Debug, Drop, Error)]
 pub enum AddRefused {
-    /// The envelope is raw, and its items are not known.
+    /// The envelope is raw, and its items are unknown.
     #[error("RawEnvelope")]
     RawEnvelope(EnvelopeItem),
-    /// Memory was refused.
+    /// An allocation failed.
     #[error("out of memory")]
     Memory(EnvelopeItem),
 }
@@ -62,7 +62,7 @@ impl Envelope {
     ghost use Rattle.sentry_envelope.specs.ItemsLeft.{items_left, owned_items_left};
     ghost use Rattle.sentry_envelope.specs.SentryProfile.{profile};
 
-    /// A structured envelope without fields and items.
+    /// Creates a structured envelope without header fields and items.
     pub fn new(alloc: Global) -> Envelope
         ensures { structured result ≡ Some empty }
     {
@@ -72,16 +72,19 @@ impl Envelope {
         }
     }
 
-    /// A structured envelope without fields and items.
+    /// Creates a structured envelope without header fields and items.
     pub fn default_in(alloc: Global) -> Envelope
         ensures { structured result ≡ Some empty }
     {
         Envelope::new(alloc)
     }
 
-    /// A structured envelope of one item.
+    /// Creates a structured envelope of one item. The id of an event or transaction becomes the
+    /// event id of the envelope.
     ///
-    /// It fails with `Memory` where memory is refused, and then hands the item back.
+    /// # Errors
+    ///
+    /// `Memory` with the item if an allocation fails.
     pub fn from_item(alloc: Global, item: EnvelopeItem) -> Result<Envelope, AddRefused>
         ensures ok { IfOk result (λ e. structured e ≡ Some (with_item empty (item_view item))) }
         ensures memory { IfErr result (λ refused. refused ≡ AddRefused.Memory item) }
@@ -93,7 +96,7 @@ impl Envelope {
         }
     }
 
-    /// A raw envelope of these bytes, which are not read. It is always `Ok`.
+    /// Creates a raw envelope, with bytes that are kept unread. The result is always `Ok`.
     pub fn from_bytes_raw(bytes: Vec<u8>) -> Result<Envelope, EnvelopeError>
         ensures kept { IsOkAnd result (λ e. raw_bytes e ≡ Some bytes.items) }
         ensures header { IsOkAnd result (λ e. header_of e ≡ no_fields) }
@@ -104,22 +107,27 @@ impl Envelope {
         })
     }
 
-    /// The envelope that bytes spell. It is structured and plain, and is written as its normal form is.
+    /// Parses an envelope.
     ///
-    /// `now` stands for moments that are absent, and ids that are absent are drawn from `ids`.
+    /// The envelope is structured and plain ([`Envelope::is_plain`]), and is written as its normal
+    /// form is. The moment `now` fills absent timestamps, and `ids` absent ids. An absent event id
+    /// of the envelope is that of the first event or transaction.
     ///
     /// # Errors
     ///
-    /// The first check of the bytes, in order, that fails:
+    /// The first check of the bytes that fails, in this order:
     ///
-    /// - `InvalidHeader`: the first line isn't one JSON object without floats with `event_id` absent, null, or a UUID's
-    ///   text in any of its forms; `dsn` absent, null, or a DSN's text; `sent_at` absent, or an RFC 3339 text; `sdk`
-    ///   absent, null, or an object with texts `name` and `version` and, where given, a list of texts `integrations` and
-    ///   a list `packages` of objects with texts `name` and `version`; and `trace` absent, null, or an object whose
-    ///   fields `DynamicSamplingContext` reads. Other keys are ignored.
-    /// - `UnexpectedEof`, `InvalidItemHeader` and `MissingNewline`: a frame's framing, as `Frames::next_frame` says.
-    /// - `InvalidItemPayload`: a payload isn't read as its item's type.
-    /// - `OutOfMemory`: memory was refused.
+    /// - `InvalidHeader` if the first line isn't one JSON object without floats with these members,
+    ///   all optional: `event_id`, null or a UUID in any of its forms; `dsn`, null or a DSN;
+    ///   `sent_at`, an RFC 3339 string and not null; `sdk`, null or an object with strings `name`
+    ///   and `version` and, optionally, an array of strings `integrations` and an array `packages`
+    ///   of objects with strings `name` and `version`; `trace`, null or an object that
+    ///   `DynamicSamplingContext` reads. Other members are ignored.
+    /// - `UnexpectedEof`, `InvalidItemHeader` and `MissingNewline` by the framing of an item, as
+    ///   [`Frames::next_frame`] says.
+    /// - `InvalidItemPayload` if a payload isn't read as its item type.
+    ///
+    /// `OutOfMemory` if an allocation fails.
     #[inline(never)]
     pub fn from_slice<R: Rng>(
         alloc: Global,
@@ -127,75 +135,86 @@ impl Envelope {
         now: Moment,
         ids: &mut R,
     ) -> Result<Envelope, EnvelopeError>
-        ensures spelled { IfOk result (λ e. IsSomeAnd (structured e) (Spells profile bytes.now (moment_cell now))) }
-        ensures stored { IfOk result (λ e. IsSomeAnd (structured e) (λ m. IsEnvelopeStored profile m × IsEnvelopePlain profile m)) }
-        ensures rewritten { IfOk result (λ e. IsSomeAnd (structured e) (λ m. envelope_text profile m ≡ envelope_text profile (envelope_norm profile m))) }
-        ensures fault { IfErr result (λ x. x ≢ EnvelopeError.OutOfMemory → Fault profile bytes.now x) }
+        ensures spelled { IfOk result (λ e.
+            IsSomeAnd (structured e) (Spells profile bytes.now (moment_cell now))) }
+        ensures stored { IfOk result (λ e. IsSomeAnd (structured e) (λ m.
+            IsEnvelopeStored profile m × IsEnvelopePlain profile m)) }
+        ensures rewritten { IfOk result (λ e. IsSomeAnd (structured e) (λ m.
+            envelope_text profile m ≡ envelope_text profile (envelope_norm profile m))) }
+        ensures fault { IfErr result (λ x. x ≢ EnvelopeError.OutOfMemory →
+            Fault profile bytes.now x) }
     {
         let mut frames = Frames::new(bytes);
         let mut scratch = scratch(alloc);
         let headers = read_header_line(alloc, frames.header_line(), &mut scratch)?;
         let items = read_items(alloc, &mut frames, now, ids, &mut scratch)?;
         Ok(Envelope {
-            headers: headers.filled(first_id(&items)),
+            headers: headers.fill_id(first_id(&items)),
             contents: Contents::Items(items),
         })
     }
 
-    /// The envelope that a file spells, as `from_slice` reads it.
+    /// Reads a file, and parses the envelope in the file as [`Envelope::from_slice`] does.
     ///
     /// # Errors
     ///
-    /// - `UnexpectedEof`: the file can't be read; also as `from_slice`.
-    /// - `OutOfMemory`: memory was refused.
-    /// - any other: as `from_slice`.
+    /// - `UnexpectedEof` if the file can't be read, or as `from_slice` says.
+    /// - `OutOfMemory` if an allocation fails.
+    /// - Any other error as `from_slice` says.
     pub fn from_path<F: Files + AllocGlobal, R: Rng>(
         rt: &F,
         path: &str,
         now: Moment,
         ids: &mut R,
     ) -> Result<Envelope, EnvelopeError>
-        ensures spelled { IfOk result (λ e. (bytes : List ℕ) × IsSomeAnd (structured e) (Spells profile bytes (moment_cell now))) }
-        ensures stored { IfOk result (λ e. IsSomeAnd (structured e) (λ m. IsEnvelopeStored profile m × IsEnvelopePlain profile m)) }
-        ensures rewritten { IfOk result (λ e. IsSomeAnd (structured e) (λ m. envelope_text profile m ≡ envelope_text profile (envelope_norm profile m))) }
-        ensures err { IfErr result (λ x. (x ≡ EnvelopeError.UnexpectedEof) ⊎ ((x ≡ EnvelopeError.OutOfMemory) ⊎ ((bytes : List ℕ) × Fault profile bytes x))) }
+        ensures spelled { IfOk result (λ e. (bytes : List ℕ) ×
+            IsSomeAnd (structured e) (Spells profile bytes (moment_cell now))) }
+        ensures stored { IfOk result (λ e. IsSomeAnd (structured e) (λ m.
+            IsEnvelopeStored profile m × IsEnvelopePlain profile m)) }
+        ensures rewritten { IfOk result (λ e. IsSomeAnd (structured e) (λ m.
+            envelope_text profile m ≡ envelope_text profile (envelope_norm profile m))) }
+        ensures err { IfErr result (λ x. (x ≡ EnvelopeError.UnexpectedEof) ⊎
+            ((x ≡ EnvelopeError.OutOfMemory) ⊎ ((bytes : List ℕ) × Fault profile bytes x))) }
     {
         let bytes = read_file(rt, path)?;
         Envelope::from_slice(rt.alloc(), &bytes, now, ids)
     }
 
-    /// A raw envelope of a file's bytes, which are not read as an envelope.
+    /// Reads a file into a raw envelope, which keeps the bytes unread.
     ///
     /// # Errors
     ///
-    /// - `UnexpectedEof`: the file can't be read.
-    /// - `OutOfMemory`: memory was refused.
+    /// - `UnexpectedEof` if the file can't be read.
+    /// - `OutOfMemory` if an allocation fails.
     pub fn from_path_raw<F: Files + AllocGlobal>(
         rt: &F,
         path: &str,
     ) -> Result<Envelope, EnvelopeError>
         ensures raw { IfOk result (λ e. IsSome (raw_bytes e)) }
         ensures header { IfOk result (λ e. header_of e ≡ no_fields) }
-        ensures err { IfErr result (λ x. (x ≡ EnvelopeError.UnexpectedEof) ⊎ (x ≡ EnvelopeError.OutOfMemory)) }
+        ensures err { IfErr result (λ x. (x ≡ EnvelopeError.UnexpectedEof) ⊎
+            (x ≡ EnvelopeError.OutOfMemory)) }
     {
         let bytes = read_file(rt, path)?;
         Envelope::from_bytes_raw(bytes)
     }
 
-    /// Adds an item at the end.
+    /// Appends an item.
     ///
-    /// The first item that gives an id gives it to an envelope without one.
+    /// If the envelope has no event id, the id of an event or transaction becomes its event id. A
+    /// raw envelope accepts only `EnvelopeItem::Raw`, which adds nothing.
     ///
     /// # Errors
     ///
-    /// The envelope is then unchanged, and the item is handed back:
+    /// The error contains the item, and `self` is unchanged:
     ///
-    /// - `RawEnvelope`: the envelope is raw, and the item is not `Raw`. A raw envelope always takes a `Raw` item, which
-    ///   adds nothing.
-    /// - `Memory`: memory was refused.
+    /// - `RawEnvelope` if the envelope is raw and the item isn't `EnvelopeItem::Raw`.
+    /// - `Memory` if an allocation fails.
     pub fn add_item(&mut self, item: EnvelopeItem) -> Result<(), AddRefused>
-        ensures added { (old : Model) → structured self.old ≡ Some old → OnOk result (structured self.new ≡ Some (with_item old (item_view item))) }
-        ensures raw_envelope { (result ≡ Err (AddRefused.RawEnvelope item)) ↔ (IsSome (raw_bytes self.old) × (item ≢ EnvelopeItem.Raw)) }
+        ensures added { (old : Model) → structured self.old ≡ Some old →
+            OnOk result (structured self.new ≡ Some (with_item old (item_view item))) }
+        ensures raw_envelope { (result ≡ Err (AddRefused.RawEnvelope item)) ↔
+            (IsSome (raw_bytes self.old) × (item ≢ EnvelopeItem.Raw)) }
         ensures raw_taken { IsSome (raw_bytes self.old) → item ≡ EnvelopeItem.Raw → result ≡ Ok tt }
         ensures raw_same { IsSome (raw_bytes self.old) → IsSame self.new self.old }
         ensures refused { OnErr result (IsSame self.new self.old) }
@@ -219,14 +238,14 @@ impl Envelope {
         }
     }
 
-    /// The header.
+    /// Returns the envelope headers.
     pub fn headers(&self) -> &EnvelopeHeaders
         ensures { headers_cell result.now ≡ header_of self.now }
     {
         &self.headers
     }
 
-    /// The same envelope with this header in place of its own. A raw envelope stays raw.
+    /// Replaces the envelope headers. A raw envelope stays raw.
     pub fn with_headers(self, headers: EnvelopeHeaders) -> Envelope
         ensures header { header_of result ≡ headers_cell headers }
         ensures same { held result ≡ held self }
@@ -238,14 +257,14 @@ impl Envelope {
         Envelope { headers, contents }
     }
 
-    /// The event id in the header.
+    /// Returns the event id in the envelope headers.
     pub fn uuid(&self) -> Option<&Uuid>
         ensures { option_map (λ id. id.now) result ≡ event_id_of self.now }
     {
         self.headers.event_id()
     }
 
-    /// The first event among the items. A raw envelope gives none.
+    /// Returns the first event; `None` for a raw envelope.
     pub fn event(&self) -> Option<&Event<'static>>
         ensures { option_map (λ event. event.now) result ≡ first_event (items_of self.now) }
     {
@@ -255,7 +274,7 @@ impl Envelope {
         }
     }
 
-    /// The items in order. Those of a raw envelope are not known, and none is given.
+    /// Returns an iterator over the items, in order; a raw envelope has none.
     pub fn items(&self) -> EnvelopeItemIter<'_>
         ensures { items_left result ≡ items_of self.now }
     {
@@ -265,7 +284,7 @@ impl Envelope {
         }
     }
 
-    /// The items in order, by value. Those of a raw envelope are not known, and none is given.
+    /// Returns an iterator over the items by value, in order; a raw envelope has none.
     pub fn into_items(self) -> IntoItems
         ensures { owned_items_left result ≡ items_of self }
     {
@@ -279,13 +298,16 @@ impl Envelope {
         }
     }
 
-    /// Whether the envelope is structured and plain: no tree in it holds a float, and no key kept beside rows is a row's.
+    /// Returns whether the envelope is structured and plain: no JSON value in the envelope holds a
+    /// float, and no additional member has the key of a field.
     ///
-    /// A structured envelope is written exactly where it is plain. Whether its text is read back is more to ask.
-    /// An item of raw bytes isn't written, and nothing is asked of it.
+    /// A structured envelope can be written exactly if the envelope is plain. That the written text
+    /// reads back takes more: see [`crate::laws::back`]. `EnvelopeItem::Raw` isn't written, and
+    /// counts as plain.
     pub fn is_plain(&self) -> bool
         ensures plain { IsTrue result ↔ IsSomeAnd (structured self.now) (IsEnvelopePlain profile) }
-        ensures stored { IsTrue result → IsSomeAnd (structured self.now) (IsEnvelopeStored profile) }
+        ensures stored { IsTrue result →
+            IsSomeAnd (structured self.now) (IsEnvelopeStored profile) }
     {
         match &self.contents {
             Contents::Items(items) => self.headers.is_plain() && items_are_plain(items),
@@ -293,7 +315,8 @@ impl Envelope {
         }
     }
 
-    /// The text that is written: of a structured envelope its header line and then its items, and of a raw one its bytes.
+    // Returns the text of the envelope: the header line and the items, or the bytes of a raw
+    // envelope.
     pub(crate) fn write_text(&self, alloc: Global) -> Result<Vec<u8>, AllocError>
         ensures { IfOk result (λ text. HasReadyParts self.now → text.items ≡ text_of self.now) }
     {
@@ -303,7 +326,7 @@ impl Envelope {
         }
     }
 
-    /// Whether the envelope is structured, and can't be written.
+    // A raw envelope can always be written.
     #[tactic(auto, using(crate::proofs::Demands::ready_parts, crate::proofs::Demands::stored_where_structured))]
     fn is_unwritable(&self) -> bool
         ensures exactly { IsTrue result ↔ IsUnwritable self.now }
@@ -316,7 +339,7 @@ impl Envelope {
         }
     }
 
-    /// The text that is written, where the envelope can be.
+    // Returns the text that `to_writer` and `write_counted` write, or their error before any write.
     fn text(&self, alloc: Global) -> Result<Vec<u8>, EnvelopeWriteError>
         ensures ok { IfOk result (λ text. text.items ≡ text_of self.now) }
         ensures stored { OnOk result (IfSome (structured self.now) (IsEnvelopeStored profile)) }
@@ -333,25 +356,29 @@ impl Envelope {
         }
     }
 
-    /// Writes the envelope: its header line and then each item's header and payload, or a raw envelope's bytes.
+    /// Writes the envelope: the header line, and the header and payload of each item; or the bytes
+    /// of a raw envelope.
     ///
     /// # Errors
     ///
-    /// - `NotPlain`: the envelope is structured and isn't plain. Nothing was written.
-    /// - `Memory`: memory was refused. Nothing was written.
-    /// - `Io`: a write failed, was interrupted, or took none of the bytes. A beginning of the text was written, and
-    ///   not the whole.
+    /// - `NotPlain` if the envelope is structured and isn't plain; nothing was written.
+    /// - `Memory` if an allocation fails; nothing was written.
+    /// - `Io` if a write fails, is interrupted, or accepts 0 bytes; only a proper prefix of the
+    ///   text was written, possibly none of it.
     pub fn to_writer<W: Write>(
         &self,
         alloc: Global,
         writer: &mut W,
     ) -> Result<(), EnvelopeWriteError>
-        ensures whole { OnOk result (Appends (W.contents writer.old) (W.contents writer.new) (text_of self.now)) }
+        ensures whole { OnOk result (Appends (W.contents writer.old) (W.contents writer.new)
+            (text_of self.now)) }
         ensures stored { OnOk result (IfSome (structured self.now) (IsEnvelopeStored profile)) }
         ensures sized { OnOk result (IfSome (structured self.now) (IsEnvelopeSized profile)) }
         ensures not_plain { (result ≡ Err EnvelopeWriteError.NotPlain) ↔ IsUnwritable self.now }
-        ensures nothing { IfErr result (λ e. e ≢ EnvelopeWriteError.Io → Keeps (W.contents writer.old) (W.contents writer.new)) }
-        ensures front { result ≡ Err EnvelopeWriteError.Io → AppendsFront (W.contents writer.old) (W.contents writer.new) (text_of self.now) }
+        ensures nothing { IfErr result (λ e. e ≢ EnvelopeWriteError.Io →
+            Keeps (W.contents writer.old) (W.contents writer.new)) }
+        ensures front { result ≡ Err EnvelopeWriteError.Io →
+            AppendsFront (W.contents writer.old) (W.contents writer.new) (text_of self.now) }
     {
         let text = self.text(alloc)?;
         match send_plain(&text, writer) {
@@ -360,28 +387,35 @@ impl Envelope {
         }
     }
 
-    /// Writes the envelope as `to_writer` does, to a writer that counts its failures.
+    /// Writes the envelope as [`Envelope::to_writer`] does, to a writer that counts its failures.
+    /// The count before has to be below 2^64-1.
     ///
     /// # Errors
     ///
-    /// - `NotPlain`: the envelope is structured and isn't plain. Nothing was written.
-    /// - `Memory`: memory was refused. Nothing was written.
-    /// - `Io`: a write failed, was interrupted, or took none of the bytes, and was counted. A beginning of the text
-    ///   was written, and not the whole.
+    /// - `NotPlain` if the envelope is structured and isn't plain; nothing was written.
+    /// - `Memory` if an allocation fails; nothing was written.
+    /// - `Io` if a write fails, is interrupted, or accepts 0 bytes, which is counted; only a proper
+    ///   prefix of the text was written, possibly none of it.
     pub fn write_counted<W: Write>(
         &self,
         alloc: Global,
         writer: &mut CountedWriter<W>,
     ) -> Result<(), EnvelopeWriteError>
         requires { writer_failures writer.old < 2 ^ 64 - 1 }
-        ensures whole { OnOk result (Appends (W.contents (writer_inside writer.old)) (W.contents (writer_inside writer.new)) (text_of self.now)) }
+        ensures whole { OnOk result (Appends (W.contents (writer_inside writer.old))
+            (W.contents (writer_inside writer.new)) (text_of self.now)) }
         ensures stored { OnOk result (IfSome (structured self.now) (IsEnvelopeStored profile)) }
         ensures sized { OnOk result (IfSome (structured self.now) (IsEnvelopeSized profile)) }
         ensures not_plain { (result ≡ Err EnvelopeWriteError.NotPlain) ↔ IsUnwritable self.now }
-        ensures nothing { IfErr result (λ e. e ≢ EnvelopeWriteError.Io → Keeps (W.contents (writer_inside writer.old)) (W.contents (writer_inside writer.new))) }
-        ensures front { result ≡ Err EnvelopeWriteError.Io → AppendsFront (W.contents (writer_inside writer.old)) (W.contents (writer_inside writer.new)) (text_of self.now) }
-        ensures one_failure { result ≡ Err EnvelopeWriteError.Io → writer_failures writer.new ≡ writer_failures writer.old + 1 }
-        ensures no_failure { result ≢ Err EnvelopeWriteError.Io → writer_failures writer.new ≡ writer_failures writer.old }
+        ensures nothing { IfErr result (λ e. e ≢ EnvelopeWriteError.Io →
+            Keeps (W.contents (writer_inside writer.old)) (W.contents (writer_inside writer.new))) }
+        ensures front { result ≡ Err EnvelopeWriteError.Io →
+            AppendsFront (W.contents (writer_inside writer.old))
+            (W.contents (writer_inside writer.new)) (text_of self.now) }
+        ensures one_failure { result ≡ Err EnvelopeWriteError.Io →
+            writer_failures writer.new ≡ writer_failures writer.old + 1 }
+        ensures no_failure { result ≢ Err EnvelopeWriteError.Io →
+            writer_failures writer.new ≡ writer_failures writer.old }
     {
         let text = self.text(alloc)?;
         match send(&text, writer) {

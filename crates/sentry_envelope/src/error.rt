@@ -1,17 +1,17 @@
-// Why an envelope was not written.
+//! The error of writing an envelope.
 use thiserror::Error;
 
-/// Why an envelope was not written, or not in full.
+/// The error of writing an envelope.
 #[derive(Debug, Drop, Error)]
 pub enum EnvelopeWriteError {
-    /// The envelope is structured and isn't plain: a tree in it holds a float, or a key kept beside rows is a row's.
-    /// Nothing was written.
+    /// The envelope is structured and isn't plain: a JSON value in the envelope holds a float, or
+    /// an additional member has the key of a field. Nothing was written.
     #[error("NotPlain")]
     NotPlain,
-    /// Memory was refused. Nothing was written.
+    /// An allocation failed; nothing was written.
     #[error("out of memory")]
     Memory,
-    /// A write failed. A beginning of the text was written, and not the whole.
+    /// A write failed; only a proper prefix of the text was written, possibly none of it.
     #[error("Io")]
     Io,
 }

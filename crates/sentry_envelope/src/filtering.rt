@@ -1,4 +1,4 @@
-//! Filtering an envelope.
+//! Filtering of envelopes.
 
 ghost use Rattle.std.specs.Prelude.{◌≡◌, ◌≤◌, not, if◌then◌else◌, map, option_map, filter as filter_list, vec_len, vec_capacity, []};
 ghost use Rattle.std.specs.List.{list_any};
@@ -19,33 +19,35 @@ impl Envelope {
     ghost use Rattle.sentry_envelope.specs.EnvelopeView.{header_of, no_fields};
     ghost use Rattle.sentry_envelope.specs.Filter.{FiltersEnvelope};
 
-    /// The envelope without the items that a filter refuses.
+    /// Removes the items that a filter rejects.
     ///
-    /// Each item in order is asked about once, and one that is refused is handed over to the
-    /// filter at once. Then, where no event and no transaction is kept, the attachments that were
-    /// answered yes are handed over in order. The answer is `None` where no item is left, and else
-    /// an envelope of the items that are left, in order, whose header has only the id of the first
+    /// The filter decides about each item once, in order, and receives a rejected item at once. If
+    /// then no event and no transaction is kept, the attachments that the filter wanted to keep are
+    /// removed, too, and handed over in order. Returns `None` if no item is left, and otherwise an
+    /// envelope of the items that are left, in order, whose only header is the id of the first
     /// event or transaction among them.
     ///
-    /// A raw envelope is asked about once, as `EnvelopeItem::Raw`: by a yes it is left whole, and by
-    /// a no `EnvelopeItem::Raw` is handed over.
+    /// A raw envelope is filtered as one item, `EnvelopeItem::Raw`: the whole envelope is kept, or
+    /// the filter receives `EnvelopeItem::Raw` and `None` is returned.
     ///
-    /// The filter is dropped afterwards. [`Envelope::filter_by`] borrows it, so that its last state
-    /// is known, and serves closures that borrow, too.
+    /// The filter is dropped afterwards. [`Envelope::filter_by`] borrows the filter, to know its
+    /// last state, and accepts closures that borrow, too.
+    ///
+    /// The method `filter` of Sentry's own crate `sentry-types` is described at
+    /// <https://docs.rs/sentry-types/latest/sentry_types/protocol/v7/struct.Envelope.html>.
     ///
     /// # Errors
     ///
-    /// Memory is taken before the first call of the filter. Where it is refused the filter isn't
-    /// called, and both are handed back.
-    ///
-    /// <https://docs.rs/sentry-types/latest/sentry_types/protocol/v7/struct.Envelope.html#method.filter>
+    /// The envelope and the filter, both unchanged, if an allocation fails; the filter was not
+    /// called.
     pub fn filter<F: EnvelopeFilter>(
         self,
         alloc: Global,
         mut filter: F,
     ) -> Result<Option<Envelope>, (Envelope, F)>
         requires { F.can_filter filter }
-        ensures filtered { IfOk result (λ left. (last : F) × FiltersEnvelope no_fields F.ask F.hand self filter last left) }
+        ensures filtered { IfOk result (λ left. (last : F) ×
+            FiltersEnvelope no_fields F.ask F.hand self filter last left) }
         ensures refused { IfErr result (λ given. (given.0 ≡ self) × (given.1 ≡ filter)) }
     {
         match self.filter_by(alloc, &mut filter) {
@@ -54,45 +56,46 @@ impl Envelope {
         }
     }
 
-    /// As [`Envelope::filter`], with a filter that is borrowed.
+    /// Removes items as [`Envelope::filter`] does, with a borrowed filter.
     ///
     /// # Errors
     ///
-    /// Memory is taken before the first call of the filter. Where it is refused the filter isn't
-    /// called, and the envelope is handed back.
+    /// The envelope, unchanged, if an allocation fails; the filter was not called.
     pub fn filter_by<F: EnvelopeFilter>(
         self,
         alloc: Global,
         filter: &mut F,
     ) -> Result<Option<Envelope>, Envelope>
         requires { F.can_filter filter.old }
-        ensures filtered { IfOk result (FiltersEnvelope no_fields F.ask F.hand self filter.old filter.new) }
+        ensures filtered { IfOk result
+            (FiltersEnvelope no_fields F.ask F.hand self filter.old filter.new) }
         ensures refused { IfErr result (λ envelope. (envelope ≡ self) × (filter.new ≡ filter.old)) }
         ensures callable { F.can_filter filter.new }
     {
         self.filter_with(alloc, filter, false)
     }
 
-    /// As [`Envelope::filter_by`], and all fields of the header but the id stay.
+    /// Removes items as [`Envelope::filter_by`] does, and keeps all headers but the event id, which
+    /// becomes that of the first event or transaction that is left.
     ///
     /// # Errors
     ///
-    /// Memory is taken before the first call of the filter. Where it is refused the filter isn't
-    /// called, and the envelope is handed back.
+    /// The envelope, unchanged, if an allocation fails; the filter was not called.
     pub fn filter_keep_headers<F: EnvelopeFilter>(
         self,
         alloc: Global,
         filter: &mut F,
     ) -> Result<Option<Envelope>, Envelope>
         requires { F.can_filter filter.old }
-        ensures filtered { IfOk result (FiltersEnvelope (header_of self) F.ask F.hand self filter.old filter.new) }
+        ensures filtered { IfOk result
+            (FiltersEnvelope (header_of self) F.ask F.hand self filter.old filter.new) }
         ensures refused { IfErr result (λ envelope. (envelope ≡ self) × (filter.new ≡ filter.old)) }
         ensures callable { F.can_filter filter.new }
     {
         self.filter_with(alloc, filter, true)
     }
 
-    /// Filters, and keeps the other fields of the header or drops them.
+    // `keep` tells whether the headers other than the event id stay.
     fn filter_with<F: EnvelopeFilter>(
         self,
         alloc: Global,
@@ -100,7 +103,9 @@ impl Envelope {
         keep: bool,
     ) -> Result<Option<Envelope>, Envelope>
         requires { F.can_filter filter.old }
-        ensures filtered { IfOk result (FiltersEnvelope (if keep then header_of self else no_fields) F.ask F.hand self filter.old filter.new) }
+        ensures filtered { IfOk result
+            (FiltersEnvelope
+            (if keep then header_of self else no_fields) F.ask F.hand self filter.old filter.new) }
         ensures refused { IfErr result (λ envelope. (envelope ≡ self) × (filter.new ≡ filter.old)) }
         ensures callable { F.can_filter filter.new }
     {
@@ -134,7 +139,8 @@ impl Envelope {
     }
 }
 
-/// Filters items, with room for as many in each of the two vectors that are empty.
+// Returns the items that are left. `chosen` and `others` are empty, with capacity for all items: no
+// allocation comes after the first call of the filter.
 fn filter_items<F: EnvelopeFilter>(
     items: Vec<EnvelopeItem>,
     filter: &mut F,
@@ -155,7 +161,7 @@ fn filter_items<F: EnvelopeFilter>(
     hand_orphans(chosen, filter, others)
 }
 
-/// Asks about each item in turn, and hands it over directly after a no. The others come back.
+// Returns the items that the filter wants to keep; each other item is handed over at once.
 fn ask_each<F: EnvelopeFilter>(
     items: Vec<EnvelopeItem>,
     filter: &mut F,
@@ -179,7 +185,7 @@ fn ask_each<F: EnvelopeFilter>(
     chosen
 }
 
-/// Hands over the orphans among chosen items, in order. The others come back.
+// Hands over the orphans, in order, and returns the other items.
 fn hand_orphans<F: EnvelopeFilter>(
     chosen: Vec<EnvelopeItem>,
     filter: &mut F,
@@ -189,7 +195,8 @@ fn hand_orphans<F: EnvelopeFilter>(
     requires empty { others.items ≡ [] }
     requires unused { vec_len others ≡ 0 }
     requires room { vec_len chosen ≤ vec_capacity others }
-    ensures hands { Run F.ask F.hand filter.old (map Hand (filter_list is_orphan chosen.items)) filter.new }
+    ensures hands { Run F.ask F.hand filter.old
+        (map Hand (filter_list is_orphan chosen.items)) filter.new }
     ensures others { result.items ≡ filter_list (λ item. not (is_orphan item)) chosen.items }
     ensures callable { F.can_filter filter.new }
 {
@@ -203,16 +210,16 @@ fn hand_orphans<F: EnvelopeFilter>(
     others
 }
 
-/// Whether there is an event or a transaction among the items.
 fn has_main(items: &[EnvelopeItem]) -> bool
     ensures { result ≡ list_any is_main items.now }
 {
     items.iter().any(is_main)
 }
 
-/// The header that stays: with the other fields or without, and with this id or none.
+// Replaces the event id; `keep` tells whether the other headers stay.
 fn header_left(headers: EnvelopeHeaders, keep: bool, event_id: Option<Uuid>) -> EnvelopeHeaders
-    ensures { headers_cell result ≡ put_id event_id (if keep then headers_cell headers else no_fields) }
+    ensures { headers_cell result ≡
+        put_id event_id (if keep then headers_cell headers else no_fields) }
 {
     if keep {
         headers.with_id(event_id)
@@ -221,7 +228,7 @@ fn header_left(headers: EnvelopeHeaders, keep: bool, event_id: Option<Uuid>) -> 
     }
 }
 
-/// The id of the first event or transaction.
+// The id of the first event or transaction.
 pub(crate) fn first_id(items: &[EnvelopeItem]) -> Option<Uuid>
     ensures { result ≡ first_id_of items.now }
 {
@@ -233,7 +240,6 @@ pub(crate) fn first_id(items: &[EnvelopeItem]) -> Option<Uuid>
     None
 }
 
-/// The first event.
 pub(crate) fn first_event(items: &[EnvelopeItem]) -> Option<&Event<'static>>
     ensures { option_map (λ event. event.now) result ≡ first_event items.now }
 {
@@ -245,14 +251,14 @@ pub(crate) fn first_event(items: &[EnvelopeItem]) -> Option<&Event<'static>>
     None
 }
 
-/// Whether this is an event or a transaction.
+// Whether the item is an event or a transaction.
 fn is_main(item: &EnvelopeItem) -> bool
     ensures { result ≡ is_main item.now }
 {
     gives_id(item).is_some()
 }
 
-/// The id of an event or a transaction.
+// The id that an event or a transaction gives its envelope.
 #[tactic(auto, unfolding(crate::specs::Filter::id_of, sentry_event::specs::Events::event_fields, sentry_event::specs::Transactions::transaction_fields))]
 pub(crate) fn gives_id(item: &EnvelopeItem) -> Option<Uuid>
     ensures { result ≡ id_of item.now }
@@ -264,7 +270,7 @@ pub(crate) fn gives_id(item: &EnvelopeItem) -> Option<Uuid>
     }
 }
 
-/// Whether this is an attachment, which goes where no event and no transaction is kept.
+// Whether the item is an attachment: removed if no event and no transaction is kept.
 #[tactic(auto, unfolding(crate::specs::Filter::is_orphan))]
 fn is_orphan(item: &EnvelopeItem) -> bool
     ensures { result ≡ is_orphan item.now }

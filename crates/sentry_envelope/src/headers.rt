@@ -1,4 +1,4 @@
-//! The header of an envelope.
+//! Envelope headers.
 
 ghost use Rattle.std.specs.Prelude.{◌≡◌, ◌⊎◌, IfOk, IfErr};
 ghost use Rattle.sentry_members.specs.Reading.{TextShown, TextRefused};
@@ -7,17 +7,17 @@ ghost use Rattle.sentry_envelope.specs.HeaderFields.{header_fields, header_in_or
 use json::Scratch;
 use sentry_framing::EnvelopeError;
 use sentry_identifiers::Hyphenated;
+use sentry_json::Node;
 use sentry_keys::Dsn;
 use sentry_members::{Formed, Member, TreeError, read_line_with};
 use sentry_moments::{Moment, Rfc3339};
 use sentry_parts::ClientSdkInfo;
 use sentry_records::DynamicSamplingContext;
 use sentry_rows::{AsTable, Copier, CopyTable, ReadTable, Reader, Sink, Table};
-use sentry_trees::Node;
 use std::alloc::{AllocError, Global};
 use uuid::Uuid;
 
-/// The fields in the header line of an envelope.
+/// Envelope headers: the fields in the header line of an envelope.
 ///
 /// <https://develop.sentry.dev/sdk/data-model/envelopes/#envelope-headers>
 #[derive(Debug, Drop, PartialEq)]
@@ -43,7 +43,7 @@ impl EnvelopeHeaders {
     ghost use Rattle.sentry_tables.specs.Norm.{norm};
     ghost use Rattle.sentry_envelope.specs.HeaderFields.{fill_id, given_id, headers_cell, put_dsn, put_id, put_sdk, put_sent_at, put_trace};
 
-    /// A header without fields.
+    /// Creates headers with no fields set.
     pub fn new() -> EnvelopeHeaders
         ensures { headers_cell result ≡ no_fields }
     {
@@ -56,21 +56,21 @@ impl EnvelopeHeaders {
         }
     }
 
-    /// A header without fields.
+    /// Creates headers with no fields set.
     pub fn default_in(_alloc: Global) -> EnvelopeHeaders
         ensures { headers_cell result ≡ no_fields }
     {
         EnvelopeHeaders::new()
     }
 
-    /// The same header with this event id.
+    /// Sets the event id: that of the event or transaction that the envelope belongs to.
     pub fn with_event_id(self, event_id: Uuid) -> EnvelopeHeaders
         ensures { headers_cell result ≡ put_id (Some event_id) (headers_cell self) }
     {
         self.with_id(Some(event_id))
     }
 
-    /// The same header with this DSN, which the envelope is sent to.
+    /// Sets the DSN that the envelope is sent to.
     pub fn with_dsn(self, dsn: Dsn) -> EnvelopeHeaders
         ensures { headers_cell result ≡ put_dsn dsn (headers_cell self) }
     {
@@ -80,7 +80,7 @@ impl EnvelopeHeaders {
         }
     }
 
-    /// The same header with this software, which sends the envelope.
+    /// Sets the SDK that sends the envelope.
     pub fn with_sdk(self, sdk: ClientSdkInfo) -> EnvelopeHeaders
         ensures { headers_cell result ≡ put_sdk sdk (headers_cell self) }
     {
@@ -90,7 +90,7 @@ impl EnvelopeHeaders {
         }
     }
 
-    /// The same header with this time of sending.
+    /// Sets the time of sending.
     pub fn with_sent_at(self, sent_at: Moment) -> EnvelopeHeaders
         ensures { headers_cell result ≡ put_sent_at sent_at (headers_cell self) }
     {
@@ -100,7 +100,7 @@ impl EnvelopeHeaders {
         }
     }
 
-    /// The same header with what the trace is sampled by.
+    /// Sets the dynamic sampling context of the trace.
     pub fn with_trace(self, trace: DynamicSamplingContext) -> EnvelopeHeaders
         ensures { headers_cell result ≡ put_trace trace (headers_cell self) }
     {
@@ -110,16 +110,16 @@ impl EnvelopeHeaders {
         }
     }
 
-    /// The same header with this event id in place of its own, or without one.
+    // Replaces the event id; `None` removes the id.
     pub(crate) fn with_id(self, event_id: Option<Uuid>) -> EnvelopeHeaders
         ensures { headers_cell result ≡ put_id event_id (headers_cell self) }
     {
         EnvelopeHeaders { event_id, ..self }
     }
 
-    /// The same header with this event id where it has none.
+    // Sets the event id if absent.
     #[tactic(auto, using(crate::proofs::EnvelopeMade::filled_stays, crate::proofs::EnvelopeMade::filled_takes))]
-    pub(crate) fn filled(self, id: Option<Uuid>) -> EnvelopeHeaders
+    pub(crate) fn fill_id(self, id: Option<Uuid>) -> EnvelopeHeaders
         ensures { headers_cell result ≡ fill_id (given_id id) (headers_cell self) }
     {
         match self.event_id {
@@ -128,7 +128,7 @@ impl EnvelopeHeaders {
         }
     }
 
-    /// Takes this event id where there is none.
+    // Sets the event id if absent.
     pub(crate) fn fill(&mut self, id: Option<Uuid>)
         ensures { headers_cell self.new ≡ fill_id (given_id id) (headers_cell self.old) }
     {
@@ -140,49 +140,56 @@ impl EnvelopeHeaders {
     /// Returns the id of the event or transaction that the envelope belongs to.
     pub fn event_id(&self) -> Option<&Uuid>
         ensures id { option_map (λ id. id.now) result ≡ self.now.event_id }
-        ensures part { option_cell (λ id. octets id.now) result ≡ part_at (codes "event_id") header_fields self.now }
+        ensures part { option_cell (λ id.
+            octets id.now) result ≡ part_at (codes "event_id") header_fields self.now }
     {
         self.event_id.as_ref()
     }
 
     /// Returns the DSN that the envelope is sent to.
     pub fn dsn(&self) -> Option<&Dsn>
-        ensures { option_cell (λ dsn. dsn_cell dsn.now) result ≡ part_at (codes "dsn") header_fields self.now }
+        ensures { option_cell (λ dsn.
+            dsn_cell dsn.now) result ≡ part_at (codes "dsn") header_fields self.now }
     {
         self.dsn.as_ref()
     }
 
     /// Returns the SDK that sends the envelope.
     pub fn sdk(&self) -> Option<&ClientSdkInfo>
-        ensures { option_cell (λ sdk. sdk_cell sdk.now) result ≡ part_at (codes "sdk") header_fields self.now }
+        ensures { option_cell (λ sdk.
+            sdk_cell sdk.now) result ≡ part_at (codes "sdk") header_fields self.now }
     {
         self.sdk.as_ref()
     }
 
     /// Returns the time of sending.
     pub fn sent_at(&self) -> Option<Moment>
-        ensures { option_cell moment_cell result ≡ part_at (codes "sent_at") header_fields self.now }
+        ensures { option_cell moment_cell result ≡
+            part_at (codes "sent_at") header_fields self.now }
     {
         self.sent_at
     }
 
     /// Returns the dynamic sampling context of the trace.
     pub fn trace(&self) -> Option<&DynamicSamplingContext>
-        ensures { option_cell (λ trace. sampling_cell trace.now) result ≡ part_at (codes "trace") header_fields self.now }
+        ensures { option_cell (λ trace.
+            sampling_cell trace.now) result ≡ part_at (codes "trace") header_fields self.now }
     {
         self.trace.as_ref()
     }
 
-    /// The same header. It fails where memory is refused.
+    /// Clones the headers. `AllocError` if an allocation fails.
     pub fn clone(&self) -> Result<EnvelopeHeaders, AllocError>
         ensures { IfOk result (λ headers. headers_cell headers ≡ headers_cell self.now) }
     {
         self.copy()
     }
 
-    /// The header's normal form, which has the normal form of each field. It fails where memory is refused.
+    /// Returns the normal form, which has the normal form of each field. `AllocError` if an
+    /// allocation fails.
     pub fn normalized(&self, alloc: Global) -> Result<EnvelopeHeaders, AllocError>
-        ensures { IfOk result (λ headers. headers_cell headers ≡ norm header_kind (headers_cell self.now)) }
+        ensures { IfOk result (λ headers.
+            headers_cell headers ≡ norm header_kind (headers_cell self.now)) }
     {
         self.normal(alloc)
     }
@@ -222,7 +229,7 @@ impl ReadTable for EnvelopeHeaders {
 
 #[tactic(auto, unfolding(crate::specs::HeaderFields::header_fields))]
 impl CopyTable for EnvelopeHeaders {
-    fn copied(&self, copies: &mut Copier) -> Result<EnvelopeHeaders, AllocError> {
+    fn copy_rows(&self, copies: &mut Copier) -> Result<EnvelopeHeaders, AllocError> {
         Ok(EnvelopeHeaders {
             dsn: copies.optional(&self.dsn),
             event_id: copies.optional_as::<Hyphenated, Uuid>(&self.event_id),
@@ -233,7 +240,6 @@ impl CopyTable for EnvelopeHeaders {
     }
 }
 
-/// The header that a line shows.
 pub(crate) fn read_header_line(
     alloc: Global,
     line: &[u8],

@@ -1,11 +1,11 @@
-//! The items of an envelope, one after another.
+//! Iterators over the items of an envelope.
 
 ghost use Rattle.std.specs.Prelude.{◌≡◌};
 
 use sentry_items::EnvelopeItem;
 use std::vec;
 
-/// The items of an envelope in order, by reference.
+/// An iterator over the items of an envelope, in order.
 #[derive(Clone, Drop)]
 pub struct EnvelopeItemIter<'a> {
     items: &'a [EnvelopeItem],
@@ -38,7 +38,7 @@ impl<'a> Iterator for EnvelopeItemIter<'a> {
     }
 }
 
-/// The items of an envelope in order, by value.
+/// An iterator over the items of an envelope by value, in order.
 #[derive(Drop)]
 pub struct IntoItems {
     items: vec::IntoIter<EnvelopeItem>,

@@ -1,4 +1,4 @@
-// What holds of the definitions alone.
+//! Laws of envelopes, and those of filtering and framing.
 ghost use Rattle.std.specs.Prelude.{◌≡◌, ◌↔◌, ℕ, List, [], Some, IsSome, true};
 ghost use Rattle.sentry_tables.specs.Laws.{HasLaws};
 ghost use Rattle.sentry_envelope.specs.declared.envelope.Envelope.{Envelope as Envelopes};
@@ -22,65 +22,69 @@ pub use sentry_framing::laws::{
     one_first_frame, one_verdict,
 };
 
-/// For all bytes, at each moment, exactly one holds: some envelope is spelled, or one error is at fault.
+/// Any bytes, at each moment, either spell some envelope or have exactly one error, and not both.
 pub fn one_answer()
     ensures { HasOneAnswer profile }
 {}
 
-/// At each moment bytes in which nothing is drawn spell at most one envelope, and nothing is drawn in the text of an
-/// envelope that is read back: so written bytes spell at most one.
+/// At each moment bytes in which no id is drawn spell at most one envelope. No id is drawn in the
+/// text of a stored, plain, readable and sized envelope, and its text therefore spells at most one.
 pub fn one_envelope()
     ensures undrawn { HasOneEnvelope profile }
     ensures written { TextsDrawNothing profile }
 {}
 
-/// At each moment the text of a stored, plain, readable and sized envelope spells its normal form, and nothing else.
+/// Envelopes round-trip: at each moment the text of a stored, plain, readable and sized envelope
+/// spells its normal form, and nothing else.
 pub fn back()
     ensures { EnvelopesReadBack profile }
 {}
 
-/// The normal form of a stored, plain envelope is its own normal form, is stored and plain, and is readable where the
-/// envelope is.
+/// The normal form of a stored, plain envelope is its own normal form, is stored and plain, and is
+/// readable if the envelope is.
 pub fn stable()
     ensures { EnvelopesAreStable profile }
 {}
 
-/// Two stored, plain, readable envelopes whose normal forms are sized share the normal form exactly where their normal
-/// forms have one text.
+/// Two stored, plain, readable envelopes with sized normal forms share the normal form exactly if
+/// their normal forms have the same text.
 pub fn one_form()
     ensures { EnvelopesHaveOneForm profile }
 {}
 
-/// Two envelopes that bytes spell, readable and sized, share the normal form exactly where they are written alike.
+/// Two readable, sized envelopes that bytes spell share the normal form exactly if their texts are
+/// the same.
 pub fn spelled_one_form()
     ensures { SpelledHaveOneForm profile }
 {}
 
-/// What bytes spell is stored and plain, and is written as its normal form is.
+/// An envelope that bytes spell is stored and plain, and has the same text as its normal form.
 pub fn rewritten()
     ensures { EnvelopesAreRewritten profile }
 {}
 
-/// What bytes spell is readable, where no JSON line of its text nests more than 127 deep: so what is accepted is read
-/// back, but for depth.
+/// An envelope that bytes spell is readable if no JSON line of its text nests more than 127 deep:
+/// an accepted envelope can be unreadable only by depth.
 pub fn accepted_is_readable()
     ensures { AcceptedIsReadable profile }
 {}
 
-/// Where what bytes spell is readable and sized, reading what is rewritten, and writing again, gives the same bytes.
+/// If an envelope that bytes spell is readable and sized, reading its text and writing again gives
+/// the same text.
 pub fn twice()
     ensures { RewritingTwiceIsOnce profile }
 {}
 
-/// An envelope whose text has fewer than 2^64 bytes, as any in memory has, is sized; and where what bytes spell is sized,
-/// its normal form is.
+/// A stored envelope whose text has fewer than 2^64 bytes, as any text in memory, is sized. If an
+/// envelope that bytes spell is sized, its normal form is, too.
 pub fn sized()
     ensures short { ShortTextsAreSized profile }
     ensures normal { NormalFormsAreSized profile }
 {}
 
-/// The laws of an envelope's header: what is written of it reads back as its normal form and as nothing else, which is
-/// its own and is written alike.
+/// Envelope headers obey the laws of kinds: written headers read back as their normal form and as
+/// nothing else, the normal form is its own, and headers that are read are written as their normal
+/// form is.
 #[tactic(auto, using(crate::proofs::HeaderValues::header_laws))]
 pub fn header()
     ensures { HasLaws header_kind }
@@ -94,11 +98,19 @@ pub fn raw()
     ensures losses { (e : Envelopes) → IsSome (raw_bytes e) → losses_of_envelope e ≡ [] }
 {}
 
-/// Two headers are equal exactly where their fields are the same. Two envelopes without trees are equal exactly where
-/// their headers are the same, and their items alike one by one, or their bytes the same; addresses of users have numbers
-/// in range, as every address has in a program.
+/// `==` on envelope headers and on envelopes compares contents.
+///
+/// - Two envelope headers are equal exactly if their fields are the same.
+/// - Two envelopes without JSON values are equal exactly if their headers are the same, and their
+///   items are alike one by one ([`sentry_items::laws::equal_items`]) or their raw bytes are the
+///   same.
+///
+/// The law of envelopes assumes that IP addresses of users have numbers in range, as every address
+/// of a program has.
 pub fn equal_envelopes()
-    ensures headers { (a b : Headers) → ⟦<EnvelopeHeaders as PartialEq>⟧.eq a b ≡ true ↔ (headers_cell a ≡ headers_cell b) }
-    ensures envelopes { (a b : Envelopes) → HasNoTree a → HasNoTree b → HasStoredAddresses a → HasStoredAddresses b
+    ensures headers { (a b : Headers) → ⟦<EnvelopeHeaders as PartialEq>⟧.eq a b ≡ true ↔
+        (headers_cell a ≡ headers_cell b) }
+    ensures envelopes { (a b : Envelopes) → HasNoTree a → HasNoTree b → HasStoredAddresses a →
+        HasStoredAddresses b
         → ⟦<Envelope as PartialEq>⟧.eq a b ≡ true ↔ AreEnvelopesAlike a b }
 {}

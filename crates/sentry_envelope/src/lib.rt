@@ -1,4 +1,4 @@
-//! Envelopes: their header, reading, writing and filtering; and lines that are read at a moment.
+//! Envelopes: headers, reading, writing and filtering; and JSON lines read at a moment.
 #![tactic(auto)]
 
 pub mod called;
@@ -14,7 +14,7 @@ pub mod laws;
 mod losses;
 mod plain;
 mod read;
-mod remade;
+mod remake;
 pub mod timed;
 mod write;
 
@@ -25,4 +25,3 @@ pub use headers::EnvelopeHeaders;
 pub use items::{EnvelopeItemIter, IntoItems};
 pub use sentry_framing::{EnvelopeError, Frames, ItemFrame};
 pub use sentry_items::counted::{CountedReader, CountedWriter};
-pub use sentry_moments::Moment;

@@ -1,7 +1,7 @@
-//! What is lost with an envelope.
+//! The losses of an envelope: those of its items, in order.
 
 use crate::envelope::{Contents, Envelope};
-use sentry_losses::{ItemLossIter, LossSource};
+use sentry_items::{ItemLossIter, LossSource};
 
 impl LossSource for Envelope {
     ghost use Rattle.sentry_envelope.specs.EnvelopeLosses.{losses_of_envelope};

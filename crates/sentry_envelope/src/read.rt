@@ -1,4 +1,4 @@
-//! The items of an envelope, read.
+//! Reading of envelope items.
 
 ghost use Rattle.std.specs.Prelude.{◌≡◌, ◌≢◌, ◌⊎◌, ◌∷◌, ◌++◌, IfOk, IfErr, OnOk, [], Some, map};
 ghost use Rattle.sentry_event.specs.Events.{event_cell};
@@ -21,6 +21,7 @@ use crate::timed::read_line_at_with;
 use json::Scratch;
 use rand_core::Rng;
 use sentry_event::{Event, Transaction};
+use sentry_framing::frames::next_item_into;
 use sentry_framing::{EnvelopeError, Frames, ItemFrame, ItemHeader, ItemKind};
 use sentry_items::{
     Attachment, AttachmentType, EnvelopeItem, ItemContainer, Listed, ReplayRecording,
@@ -31,7 +32,6 @@ use sentry_records::{Log, Metric};
 use sentry_rows::FromTreeAt;
 use std::alloc::{AllocError, Global};
 
-/// The items of the body that is left, or the first check of it that fails.
 pub(crate) fn read_items<R: Rng>(
     alloc: Global,
     frames: &mut Frames<'_>,
@@ -39,22 +39,25 @@ pub(crate) fn read_items<R: Rng>(
     ids: &mut R,
     scratch: &mut Scratch,
 ) -> Result<Vec<EnvelopeItem>, EnvelopeError>
-    ensures ok { IfOk result (λ items. ItemsStand profile (moment_cell now) frames.old.rest (map item_view items.items) []) }
-    ensures err { IfErr result (λ e. e ≢ EnvelopeError.OutOfMemory → BodyIsAtFault profile frames.old.rest e) }
+    ensures ok { IfOk result (λ items.
+        ItemsStand profile (moment_cell now) frames.old.rest (map item_view items.items) []) }
+    ensures err { IfErr result (λ e. e ≢ EnvelopeError.OutOfMemory →
+        BodyIsAtFault profile frames.old.rest e) }
 {
     let mut items = Vec::new(alloc);
     let mut header = ItemHeader::new();
-    while let Some(answer) = frames.next_item_into(alloc, scratch, &mut header) {
+    while let Some(answer) = next_item_into(frames, alloc, scratch, &mut header) {
         let frame = answer?;
         add_item(alloc, &frame, &mut header, now, ids, scratch, &mut items)?;
     }
     Ok(items)
 }
 
-/// Adds the item that a frame shows, by what its header says. The header's texts are taken out of it.
-///
-/// An item is large, and each place where one may stand is cleared when a call is entered that has it: so each form of
-/// payload is read by a call of its own, and a small one isn't charged for the places of the others.
+// Appends the item of a frame. Strings are moved out of `header`.
+//
+// An item is large, and each stack slot that may hold one is cleared on entry to a function. Each
+// form of payload is therefore read by a function of its own, and a small item doesn't pay for the
+// slots of the others.
 fn add_item<R: Rng>(
     alloc: Global,
     frame: &ItemFrame<'_>,
@@ -65,7 +68,8 @@ fn add_item<R: Rng>(
     items: &mut Vec<EnvelopeItem>,
 ) -> Result<(), EnvelopeError>
     requires { read_header item_words (frame_of frame.now).header ≡ Some (header_view header.old) }
-    ensures ok { OnOk result (IsAdded (moment_cell now) (frame_of frame.now) items.old.items items.new.items) }
+    ensures ok { OnOk result
+        (IsAdded (moment_cell now) (frame_of frame.now) items.old.items items.new.items) }
     ensures err { IfErr result (λ e. (e ≡ EnvelopeError.OutOfMemory)
         ⊎ ((e ≡ EnvelopeError.InvalidItemPayload) × FrameIsRefused profile (frame_of frame.now))) }
 {
@@ -76,7 +80,7 @@ fn add_item<R: Rng>(
     }
 }
 
-/// Adds the attachment of these bytes, with the name and types that its item's header gives, which are taken out of it.
+// Appends an attachment. Its strings are moved out of `header`.
 #[inline(never)]
 fn add_attachment(
     alloc: Global,
@@ -84,7 +88,8 @@ fn add_attachment(
     header: &mut ItemHeader,
     items: &mut Vec<EnvelopeItem>,
 ) -> Result<(), EnvelopeError>
-    ensures ok { OnOk result ((a : Attachment) × (attachment_view a ≡ attached_by (header_view header.old) payload.now)
+    ensures ok { OnOk result ((a : Attachment) ×
+        (attachment_view a ≡ attached_by (header_view header.old) payload.now)
         × (items.new.items ≡ items.old.items ++ EnvelopeItem.Attachment a ∷ [])) }
     ensures err { IfErr result (λ e. e ≡ EnvelopeError.OutOfMemory) }
 {
@@ -93,7 +98,6 @@ fn add_attachment(
     Ok(())
 }
 
-/// Adds the recording of these bytes.
 #[inline(never)]
 fn add_recording(
     alloc: Global,
@@ -109,7 +113,6 @@ fn add_recording(
     Ok(())
 }
 
-/// Adds the item that a frame shows whose payload is JSON, by what its header says.
 #[inline(never)]
 fn add_json_item<R: Rng>(
     alloc: Global,
@@ -120,10 +123,12 @@ fn add_json_item<R: Rng>(
     scratch: &mut Scratch,
     items: &mut Vec<EnvelopeItem>,
 ) -> Result<(), EnvelopeError>
-    requires read { read_header item_words (frame_of frame.now).header ≡ Some (header_view header.now) }
+    requires read { read_header item_words (frame_of frame.now).header ≡
+        Some (header_view header.now) }
     requires no_attachment { header.now.kind ≢ kinds.Attachment }
     requires no_recording { header.now.kind ≢ kinds.ReplayRecording }
-    ensures ok { OnOk result (IsAdded (moment_cell now) (frame_of frame.now) items.old.items items.new.items) }
+    ensures ok { OnOk result
+        (IsAdded (moment_cell now) (frame_of frame.now) items.old.items items.new.items) }
     ensures err { IfErr result (λ e. (e ≡ EnvelopeError.OutOfMemory)
         ⊎ ((e ≡ EnvelopeError.InvalidItemPayload) × FrameIsRefused profile (frame_of frame.now))) }
 {
@@ -132,7 +137,6 @@ fn add_json_item<R: Rng>(
     Ok(())
 }
 
-/// The item that a frame shows whose payload is JSON, by what its header says.
 fn read_json_item<R: Rng>(
     alloc: Global,
     frame: &ItemFrame<'_>,
@@ -141,10 +145,12 @@ fn read_json_item<R: Rng>(
     ids: &mut R,
     scratch: &mut Scratch,
 ) -> Result<EnvelopeItem, EnvelopeError>
-    requires read { read_header item_words (frame_of frame.now).header ≡ Some (header_view header.now) }
+    requires read { read_header item_words (frame_of frame.now).header ≡
+        Some (header_view header.now) }
     requires no_attachment { header.now.kind ≢ kinds.Attachment }
     requires no_recording { header.now.kind ≢ kinds.ReplayRecording }
-    ensures ok { IfOk result (λ item. ItemShows profile (moment_cell now) (frame_of frame.now) (item_view item)) }
+    ensures ok { IfOk result (λ item.
+        ItemShows profile (moment_cell now) (frame_of frame.now) (item_view item)) }
     ensures err { IfErr result (λ e. (e ≡ EnvelopeError.OutOfMemory)
         ⊎ ((e ≡ EnvelopeError.InvalidItemPayload) × FrameIsRefused profile (frame_of frame.now))) }
 {
@@ -179,7 +185,7 @@ fn read_json_item<R: Rng>(
     }
 }
 
-/// The value that a payload of JSON shows. A call of its own keeps what reading needs out of the caller.
+// Not inlined, to keep the memory of reading out of the caller's frame.
 #[inline(never)]
 fn read_value<T: FromTree>(
     alloc: Global,
@@ -197,7 +203,6 @@ fn read_value<T: FromTree>(
     }
 }
 
-/// The value that a payload of JSON shows at the moment `now`. Absent ids are drawn from `ids`.
 #[inline(never)]
 fn read_value_at<T: FromTreeAt, R: Rng>(
     alloc: Global,
@@ -206,9 +211,11 @@ fn read_value_at<T: FromTreeAt, R: Rng>(
     ids: &mut R,
     scratch: &mut Scratch,
 ) -> Result<T, EnvelopeError>
-    ensures ok { IfOk result (λ value. TextShownAt (moment_cell now) T.kind payload.now (T.cell_of value)) }
+    ensures ok { IfOk result (λ value.
+        TextShownAt (moment_cell now) T.kind payload.now (T.cell_of value)) }
     ensures err { IfErr result (λ e. (e ≡ EnvelopeError.OutOfMemory)
-        ⊎ ((e ≡ EnvelopeError.InvalidItemPayload) × TextRefusedAt (moment_cell now) T.kind payload.now)) }
+        ⊎ ((e ≡ EnvelopeError.InvalidItemPayload) ×
+        TextRefusedAt (moment_cell now) T.kind payload.now)) }
 {
     match read_line_at_with(alloc, payload, now, ids, scratch) {
         Ok(value) => Ok(value),
@@ -217,7 +224,6 @@ fn read_value_at<T: FromTreeAt, R: Rng>(
     }
 }
 
-/// The event as an item.
 #[inline(never)]
 fn event(alloc: Global, event: Event<'static>) -> Result<EnvelopeItem, EnvelopeError>
     ensures ok { IfOk result (λ item. item_held item ≡ value kinds.Event (event_cell event.entry)) }
@@ -229,13 +235,13 @@ fn event(alloc: Global, event: Event<'static>) -> Result<EnvelopeItem, EnvelopeE
     }
 }
 
-/// The transaction as an item.
 #[inline(never)]
 fn transaction(
     alloc: Global,
     transaction: Transaction<'static>,
 ) -> Result<EnvelopeItem, EnvelopeError>
-    ensures ok { IfOk result (λ item. item_held item ≡ value kinds.Transaction (transaction_cell transaction.entry)) }
+    ensures ok { IfOk result (λ item.
+        item_held item ≡ value kinds.Transaction (transaction_cell transaction.entry)) }
     ensures err { IfErr result (λ e. e ≡ EnvelopeError.OutOfMemory) }
 {
     match EnvelopeItem::transaction(alloc, transaction) {
@@ -244,13 +250,14 @@ fn transaction(
     }
 }
 
-/// The attachment of these bytes, with the name and types that its item's header gives, which are taken out of it.
+// Makes an attachment. Its strings are moved out of `header`.
 fn attachment(
     alloc: Global,
     payload: &[u8],
     header: &mut ItemHeader,
 ) -> Result<Attachment, AllocError>
-    ensures { IfOk result (λ a. attachment_view a ≡ attached_by (header_view header.old) payload.now) }
+    ensures { IfOk result (λ a.
+        attachment_view a ≡ attached_by (header_view header.old) payload.now) }
 {
     Ok(Attachment {
         buffer: payload.to_vec(alloc)?,
@@ -263,7 +270,6 @@ fn attachment(
     })
 }
 
-/// The recording of these bytes.
 fn replay_recording(alloc: Global, payload: &[u8]) -> Result<ReplayRecording, AllocError>
     ensures { IfOk result (λ recording. recording.buffer.items ≡ payload.now) }
 {

@@ -1,17 +1,17 @@
-//! Lines that are read at a moment, with ids at hand.
+//! Reading of JSON lines that fills absent timestamps and ids.
 
 ghost use Rattle.sentry_members.specs.Reading.{ReadsTextAt, ShownAt, RefusedAt};
 ghost use Rattle.sentry_moments.specs.Moments.{moment_cell};
 
 use json::Scratch;
 use rand_core::Rng;
+use sentry_json::{Node, scratch};
 use sentry_members::{ReadsNode, TreeError, read_line_by};
 use sentry_moments::Moment;
 use sentry_rows::FromTreeAt;
-use sentry_trees::{Node, scratch};
 use std::alloc::Global;
 
-/// The reader of a type at a moment, with ids at hand.
+// Reads a node with the current time and a generator of ids.
 #[derive(Drop)]
 struct AtMoment<'r, R> {
     now: Moment,
@@ -28,11 +28,14 @@ impl<'r, T: FromTreeAt, R: Rng> ReadsNode<T> for AtMoment<'r, R> {
     }
 }
 
-/// The value that a line shows at the moment `now`; absent ids are drawn from `ids`.
+/// Reads a value from a JSON line; `now` fills absent timestamps, `ids` absent ids.
 ///
-/// A reader of many lines makes one `Scratch` and calls [`read_line_at_with`].
+/// To read many lines, create one `Scratch` and call [`read_line_at_with`].
 ///
-/// Fails with `Misfit` where the line shows none, and with `Memory` where memory is refused.
+/// # Errors
+///
+/// - `Misfit` if the line isn't one JSON text without floats that reads as the type.
+/// - `Memory` if an allocation fails.
 #[inline(never)]
 pub fn read_line_at<T: FromTreeAt, R: Rng>(
     alloc: Global,
@@ -46,9 +49,12 @@ pub fn read_line_at<T: FromTreeAt, R: Rng>(
     read_line_at_with(alloc, line, now, ids, &mut scratch)
 }
 
-/// The value that a line shows at the moment `now`, with the memory that reading needs handed in.
+/// Reads a value from a JSON line as [`read_line_at`] does, with the caller's working memory.
 ///
-/// Fails with `Misfit` where the line shows none, and with `Memory` where memory is refused.
+/// # Errors
+///
+/// - `Misfit` if the line isn't one JSON text without floats that reads as the type.
+/// - `Memory` if an allocation fails.
 #[tactic(auto, using(sentry_members::proofs::Texts::text_read_by_at))]
 pub fn read_line_at_with<T: FromTreeAt, R: Rng>(
     alloc: Global,

@@ -15,20 +15,24 @@ ghost use Rattle.sentry_envelope.specs.SentryProfile.{profile};
 
 use crate::headers::EnvelopeHeaders;
 use json::Writer;
+use sentry_items::attachment::write_header;
+use sentry_items::container::write_container_payload;
 use sentry_items::header::write_short_header;
 use sentry_items::{EnvelopeItem, ItemContainer};
 use sentry_members::{Member, write_text};
 use std::alloc::{AllocError, Global};
 use std::mem;
 
-/// The header line, and then each item.
 pub(crate) fn write_envelope(
     alloc: Global,
     headers: &EnvelopeHeaders,
     items: &[EnvelopeItem],
 ) -> Result<Vec<u8>, AllocError>
-    ensures { IfOk result (λ text. IsReady header_kind (headers_cell headers.now) × AreReady (map item_view items.now)
-        → text.items ≡ envelope_text profile (record { header = headers_cell headers.now; items = map item_view items.now })) }
+    ensures { IfOk result (λ text. IsReady header_kind (headers_cell headers.now) ×
+        AreReady (map item_view items.now)
+        → text.items ≡
+        envelope_text profile
+        (record { header = headers_cell headers.now; items = map item_view items.now })) }
 {
     let mut out = Vec::new(alloc);
     write_headers(headers, &mut out)?;
@@ -41,18 +45,19 @@ pub(crate) fn write_envelope(
     Ok(out)
 }
 
-/// Appends the header's text.
 fn write_headers(headers: &EnvelopeHeaders, out: &mut Vec<u8>) -> Result<(), AllocError>
     ensures { OnOk result (IsReady header_kind (headers_cell headers.now)
-        → out.new.items ≡ out.old.items ++ compact_text (tree header_kind (headers_cell headers.now))) }
+        → out.new.items ≡ out.old.items ++
+        compact_text (tree header_kind (headers_cell headers.now))) }
 {
     write_text(headers, out)
 }
 
-/// Appends an item's header and payload, each ended by a line feed. A raw item isn't written.
-///
-/// The header is built in `line`: a writer of JSON clears memory ahead of what it writes, and more of it after a long text.
-/// A payload of JSON is built in `payload`, since its length stands before it.
+// Appends the header and payload of an item, each with a line feed; nothing for `Raw`.
+//
+// `line` and `payload` are buffers. A header is built in `line`, since a JSON writer clears memory
+// ahead of what it writes, and more of it after a long text. A JSON payload is built in `payload`,
+// since its length is written before it.
 fn write_item(
     alloc: Global,
     item: &EnvelopeItem,
@@ -60,7 +65,9 @@ fn write_item(
     payload: &mut Vec<u8>,
     out: &mut Vec<u8>,
 ) -> Result<(), AllocError>
-    ensures { OnOk result (AreReady (item_view item.now ∷ []) → out.new.items ≡ out.old.items ++ frame_text (frame_of_item profile (item_view item.now)) []) }
+    ensures { OnOk result (AreReady (item_view item.now ∷ []) →
+        out.new.items ≡ out.old.items ++
+        frame_text (frame_of_item profile (item_view item.now)) []) }
 {
     line.clear();
     match item {
@@ -84,7 +91,7 @@ fn write_item(
             )
         }
         EnvelopeItem::Attachment(attachment) => {
-            attachment.write_header(alloc, "attachment", line, out)?;
+            write_header(attachment, alloc, "attachment", line, out)?;
             end_frame(&attachment.buffer, out)
         }
         EnvelopeItem::MonitorCheckIn(check_in) => {
@@ -107,7 +114,7 @@ fn write_item(
     }
 }
 
-/// Appends the header and payload of a container, each ended by a line feed. The line for the header is empty.
+// Appends the header and payload of a container, each with a line feed. `line` is empty before.
 fn write_container(
     alloc: Global,
     container: &ItemContainer,
@@ -117,7 +124,8 @@ fn write_container(
 ) -> Result<(), AllocError>
     requires { line.old.items ≡ [] }
     ensures { OnOk result (has_float (container_tree container.now) ≡ false
-        → out.new.items ≡ out.old.items ++ container_text container.now (compact_text (container_tree container.now))) }
+        → out.new.items ≡ out.old.items ++
+        container_text container.now (compact_text (container_tree container.now))) }
 {
     payload.clear();
     write_payload(container, payload)?;
@@ -125,25 +133,24 @@ fn write_container(
     write_frame(line, payload, out)
 }
 
-/// Appends the text of a container's payload.
 fn write_payload(container: &ItemContainer, out: &mut Vec<u8>) -> Result<(), AllocError>
     ensures { OnOk result (has_float (container_tree container.now) ≡ false
         → out.new.items ≡ out.old.items ++ compact_text (container_tree container.now)) }
 {
     let alloc = *out.allocator();
     let mut writer = Writer::new(mem::replace(out, Vec::new(alloc)));
-    container.write(&mut writer)?;
+    write_container_payload(container, &mut writer)?;
     *out = writer.into_inner();
     Ok(())
 }
 
-/// Appends the header of a container: its media type, how many values it holds, and its type.
 fn write_container_header(
     alloc: Global,
     container: &ItemContainer,
     out: &mut Vec<u8>,
 ) -> Result<(), AllocError>
-    ensures { OnOk result (out.new.items ≡ out.old.items ++ header_text (counted_header container.now)) }
+    ensures { OnOk result (out.new.items ≡ out.old.items ++
+        header_text (counted_header container.now)) }
 {
     let mut writer = Writer::new(mem::replace(out, Vec::new(alloc)));
     let outcome = write_container_tokens(container, &mut writer);
@@ -151,19 +158,20 @@ fn write_container_header(
     outcome
 }
 
-/// Writes that header's text.
 fn write_container_tokens(container: &ItemContainer, writer: &mut Writer) -> Result<(), AllocError>
-    ensures ok { OnOk result (writer.new.tokens ≡ writer.old.tokens ++ begin_object ∷ member_tokens (counted_header container.now)) }
+    ensures ok { OnOk result (writer.new.tokens ≡ writer.old.tokens ++
+        begin_object ∷ member_tokens (counted_header container.now)) }
     ensures before { writer.new.before ≡ writer.old.before }
 {
     writer.begin_object()?;
     write_counted_members(container, writer)
 }
 
-/// Writes the members of that header, and its closing brace.
+// Writes the members and the closing brace.
 #[tactic(auto, unfolding(sentry_items::specs::HeaderTokens::member_tokens))]
 fn write_counted_members(container: &ItemContainer, writer: &mut Writer) -> Result<(), AllocError>
-    ensures ok { OnOk result (writer.new.tokens ≡ writer.old.tokens ++ member_tokens (counted_header container.now)) }
+    ensures ok { OnOk result (writer.new.tokens ≡ writer.old.tokens ++
+        member_tokens (counted_header container.now)) }
     ensures before { writer.new.before ≡ writer.old.before }
 {
     writer.key("content_type")?;
@@ -175,7 +183,8 @@ fn write_counted_members(container: &ItemContainer, writer: &mut Writer) -> Resu
     writer.end_object()
 }
 
-/// Appends the header and payload of an item whose payload is JSON, each ended by a line feed. The line for the header is empty.
+// Appends the header and payload of an item with a JSON payload, each with a line feed. `line` is
+// empty before.
 fn write_value<T: Member>(
     alloc: Global,
     word: &str,
@@ -186,7 +195,9 @@ fn write_value<T: Member>(
 ) -> Result<(), AllocError>
     requires { line.old.items ≡ [] }
     ensures { OnOk result (has_float (tree T.kind (T.cell_of value.now)) ≡ false
-        → out.new.items ≡ out.old.items ++ with_line (header_text (short_header word.now (compact_text (tree T.kind (T.cell_of value.now)))))
+        → out.new.items ≡ out.old.items ++
+        with_line
+        (header_text (short_header word.now (compact_text (tree T.kind (T.cell_of value.now)))))
         (with_line (compact_text (tree T.kind (T.cell_of value.now))) [])) }
 {
     payload.clear();
@@ -195,17 +206,19 @@ fn write_value<T: Member>(
     write_frame(line, payload, out)
 }
 
-/// Appends a header and a payload, each ended by a line feed.
+// Appends a header and a payload, each with a line feed.
 fn write_frame(header: &[u8], payload: &[u8], out: &mut Vec<u8>) -> Result<(), AllocError>
-    ensures { OnOk result (out.new.items ≡ out.old.items ++ with_line header.now (with_line payload.now [])) }
+    ensures { OnOk result (out.new.items ≡ out.old.items ++
+        with_line header.now (with_line payload.now [])) }
 {
     out.extend_from_slice(header)?;
     end_frame(payload, out)
 }
 
-/// Ends the line of a header, and appends a payload, ended by a line feed.
+// Ends the line of a header, and appends a payload with a line feed.
 fn end_frame(payload: &[u8], out: &mut Vec<u8>) -> Result<(), AllocError>
-    ensures { OnOk result (out.new.items ≡ out.old.items ++ with_line [] (with_line payload.now [])) }
+    ensures { OnOk result (out.new.items ≡ out.old.items ++
+        with_line [] (with_line payload.now [])) }
 {
     out.push(b'\n')?;
     out.extend_from_slice(payload)?;

@@ -18,7 +18,7 @@ use Rattle.sentry_words.specs.declared.level.Level.TheVariants as level
 use Rattle.sentry_words.proofs.Enumerations.{level_laws, span_status_laws}
 use Rattle.sentry_moments.specs.MomentForms.{rfc3339_kind}
 use Rattle.sentry_moments.proofs.MomentSpellings.{rfc3339_scalar_laws, rfc3339_refuses_null, seconds_laws, seconds_at_once}
-use Rattle.sentry_identifiers.specs.HexIdTree.{IsOctets, hex_id_spelling, span_kind, trace_kind}
+use Rattle.sentry_identifiers.specs.HexIdTree.{IsOctets, hex_id_spelling, span_id_kind, trace_id_kind}
 use Rattle.sentry_identifiers.specs.Uuids.{IsRandomUuid, simple, simple_kind}
 use Rattle.sentry_identifiers.proofs.HexIdTrees.{hex_id_laws, drawn_id_laws}
 use Rattle.sentry_identifiers.proofs.UuidLaws.{simple_laws, drawn_uuid_laws}
@@ -29,7 +29,7 @@ use Rattle.sentry_parts.proofs.TableLaws.{breadcrumb_lawful, user_lawful, reques
 use Rattle.sentry_contexts.proofs.ContextLaws.{contexts_lawful, no_contexts_stand}
 use Rattle.sentry_event.specs.Events.{event_fields, event_kind}
 use Rattle.sentry_event.specs.Fingerprints.{fingerprint_kind}
-use Rattle.sentry_event.specs.Spans.{span_table_fields, span_table_kind}
+use Rattle.sentry_event.specs.Spans.{span_fields, span_kind}
 use Rattle.sentry_event.specs.Transactions.{transaction_fields, transaction_kind}
 use Rattle.sentry_event.proofs.FingerprintLaws.{fingerprint_default, fingerprint_lawful}
 
@@ -47,17 +47,17 @@ ended_lawful = rfc3339_scalar_laws
 ended_stands : RuleLaws may_strict rfc3339_kind
 ended_stands = rfc3339_refuses_null
 
-span_lawful : IsLawful span_kind
-span_lawful = spelled_laws (hex_id_spelling 8) (hex_id_laws 8)
+span_id_lawful : IsLawful span_id_kind
+span_id_lawful = spelled_laws (hex_id_spelling 8) (hex_id_laws 8)
 
-trace_lawful : IsLawful trace_kind
-trace_lawful = spelled_laws (hex_id_spelling 16) (hex_id_laws 16)
+trace_id_lawful : IsLawful trace_id_kind
+trace_id_lawful = spelled_laws (hex_id_spelling 16) (hex_id_laws 16)
 
-span_drawn : RuleLaws (draw (IsOctets 8)) span_kind
-span_drawn = drawn_id_laws 8
+span_id_drawn : RuleLaws (draw (IsOctets 8)) span_id_kind
+span_id_drawn = drawn_id_laws 8
 
-trace_drawn : RuleLaws (draw (IsOctets 16)) trace_kind
-trace_drawn = drawn_id_laws 16
+trace_id_drawn : RuleLaws (draw (IsOctets 16)) trace_id_kind
+trace_id_drawn = drawn_id_laws 16
 
 id_drawn : RuleLaws (draw IsRandomUuid) simple_kind
 id_drawn = drawn_uuid_laws simple
@@ -70,13 +70,13 @@ other_stands = ((λ now c h. none-some c h), (IsUtf8-are_ascii (codes "other") r
 
 -- ---- tables
 
-span_table_lawful : IsLawful span_table_kind
-unfolding span_table_fields
-span_table_lawful = laws_by_rows (rows_of span_table_fields) refl (search (text_laws, truth_laws, any_laws, span_lawful, trace_lawful, span_drawn, trace_drawn, status_lawful, seconds_laws, seconds_at_once, ended_lawful, ended_stands, empty_map_stands))
+span_lawful : IsLawful span_kind
+unfolding span_fields
+span_lawful = laws_by_rows (rows_of span_fields) refl (search (text_laws, truth_laws, any_laws, span_id_lawful, trace_id_lawful, span_id_drawn, trace_id_drawn, status_lawful, seconds_laws, seconds_at_once, ended_lawful, ended_stands, empty_map_stands))
 
 pub transaction_lawful : IsLawful transaction_kind
 unfolding transaction_fields
-transaction_lawful = laws_by_rows (rows_of transaction_fields) refl (search (text_laws, any_laws, simple_laws, id_drawn, user_lawful, request_lawful, sdk_lawful, span_table_lawful, contexts_lawful, no_contexts_stand, other_stands, seconds_laws, seconds_at_once, ended_lawful, ended_stands, empty_map_stands))
+transaction_lawful = laws_by_rows (rows_of transaction_fields) refl (search (text_laws, any_laws, simple_laws, id_drawn, user_lawful, request_lawful, sdk_lawful, span_lawful, contexts_lawful, no_contexts_stand, other_stands, seconds_laws, seconds_at_once, ended_lawful, ended_stands, empty_map_stands))
 
 pub event_lawful : IsLawful event_kind
 unfolding event_fields
@@ -84,8 +84,8 @@ event_lawful = laws_by_rows (rows_of event_fields) refl (search (text_laws, any_
 
 -- ---- their laws
 
-pub span_table_laws : HasLaws span_table_kind
-span_table_laws = has_laws span_table_kind span_table_lawful
+pub span_laws : HasLaws span_kind
+span_laws = has_laws span_kind span_lawful
 
 pub transaction_laws : HasLaws transaction_kind
 transaction_laws = has_laws transaction_kind transaction_lawful

@@ -108,24 +108,24 @@ fingerprint_read f d (Err Memory) h = tt
 
 -- ---- made anew
 
-pub remade_same : {A E : Type 0} (f : A → Cell) (way : Way) (c : Cell) (r : Result A E) → way ≡ Same → IfOk r (λ v. f v ≡ c) → IfOk r (λ v. f v ≡ made way fingerprint_kind c)
+pub remake_same : {A E : Type 0} (f : A → Cell) (way : Way) (c : Cell) (r : Result A E) → way ≡ Same → IfOk r (λ v. f v ≡ c) → IfOk r (λ v. f v ≡ made way fingerprint_kind c)
 unfolding made
-remade_same f Same c (Ok v) e h = h
-remade_same f Same c (Err x) e h = h
-remade_same f (Normal alloc) c r e h = absurd cc
+remake_same f Same c (Ok v) e h = h
+remake_same f Same c (Err x) e h = h
+remake_same f (Normal alloc) c r e h = absurd cc
 
-pub remade_usual : {alloc : Global} {A E : Type 0} (f : A → Cell) (way : Way) (cs : Cells) (r : Result A E) → way ≡ Normal alloc → is_other (sequence cs) ≡ true → IfOk r (λ v. f v ≡ usual_fingerprint) → IfOk r (λ v. f v ≡ made way fingerprint_kind (sequence cs))
+pub remake_usual : {alloc : Global} {A E : Type 0} (f : A → Cell) (way : Way) (cs : Cells) (r : Result A E) → way ≡ Normal alloc → is_other (sequence cs) ≡ true → IfOk r (λ v. f v ≡ usual_fingerprint) → IfOk r (λ v. f v ≡ made way fingerprint_kind (sequence cs))
 unfolding made fingerprint_kind
-remade_usual f Same cs r e t h = absurd cc
-remade_usual f (Normal alloc) cs (Ok v) e t h = h ∙ rw t refl
-remade_usual f (Normal alloc) cs (Err x) e t h = h
+remake_usual f Same cs r e t h = absurd cc
+remake_usual f (Normal alloc) cs (Ok v) e t h = h ∙ rw t refl
+remake_usual f (Normal alloc) cs (Err x) e t h = h
 
 at_form : (cs : Cells) (b : Bool) → b ≡ false → sequence cs ≡ norm texts (cond b usual_fingerprint (sequence cs))
 at_form cs true f = absurd (true≢false f)
 at_form cs false f = ap sequence (sym (cells_normal cs))
 
-pub remade_other : {alloc : Global} {A E : Type 0} (f : A → Cell) (way : Way) (cs : Cells) (r : Result A E) → way ≡ Normal alloc → is_other (sequence cs) ≡ false → IfOk r (λ v. f v ≡ sequence cs) → IfOk r (λ v. f v ≡ made way fingerprint_kind (sequence cs))
+pub remake_other : {alloc : Global} {A E : Type 0} (f : A → Cell) (way : Way) (cs : Cells) (r : Result A E) → way ≡ Normal alloc → is_other (sequence cs) ≡ false → IfOk r (λ v. f v ≡ sequence cs) → IfOk r (λ v. f v ≡ made way fingerprint_kind (sequence cs))
 unfolding made fingerprint_kind
-remade_other f Same cs r e t h = absurd cc
-remade_other f (Normal alloc) cs (Ok v) e t h = h ∙ at_form cs (is_other (sequence cs)) t
-remade_other f (Normal alloc) cs (Err x) e t h = h
+remake_other f Same cs r e t h = absurd cc
+remake_other f (Normal alloc) cs (Ok v) e t h = h ∙ at_form cs (is_other (sequence cs)) t
+remake_other f (Normal alloc) cs (Err x) e t h = h

@@ -15,33 +15,33 @@ use Rattle.sentry_moments.specs.Moments.{moment_cell}
 use Rattle.sentry_moments.specs.MomentTexts.{rfc3339_text}
 use Rattle.sentry_moments.specs.declared.moment.Moment.{Moment}
 use Rattle.sentry_identifiers.specs.HexId.{span_bytes, trace_bytes}
-use Rattle.sentry_identifiers.specs.HexIdTree.{IsOctets, span_cell, span_kind, trace_cell, trace_kind}
+use Rattle.sentry_identifiers.specs.HexIdTree.{IsOctets, span_id_cell, span_id_kind, trace_id_cell, trace_id_kind}
 use Rattle.sentry_event.specs.declared.span.Span.{Span}
 
-unfoldable pub span_table_fields : List (Field Span)
-span_table_fields =
+unfoldable pub span_fields : List (Field Span)
+span_fields =
     field (codes "data") (default empty_map) (map any_kind) (λ s. map_cell tree_cell s.data_.entries)
     ∷ field (codes "description") may text_kind (λ s. option_cell text_cell s.description)
     ∷ field (codes "op") may text_kind (λ s. option_cell text_cell s.op)
-    ∷ field (codes "parent_span_id") may span_kind (λ s. option_cell span_cell s.parent_span_id)
+    ∷ field (codes "parent_span_id") may span_id_kind (λ s. option_cell span_id_cell s.parent_span_id)
     ∷ field (codes "same_process_as_parent") may truth_kind (λ s. option_cell truth s.same_process_as_parent)
-    ∷ field (codes "span_id") (draw (IsOctets 8)) span_kind (λ s. span_cell s.span_id)
+    ∷ field (codes "span_id") (draw (IsOctets 8)) span_id_kind (λ s. span_id_cell s.span_id)
     ∷ field (codes "start_timestamp") at_once seconds_kind (λ s. moment_cell s.start_timestamp)
     ∷ field (codes "status") may span_status_kind (λ s. option_cell (word_cell span_status_word) s.status)
     ∷ field (codes "tags") (default empty_map) (map text_kind) (λ s. map_cell text_cell s.tags.entries)
     ∷ field (codes "timestamp") may_strict rfc3339_kind (λ s. option_cell moment_cell s.timestamp)
-    ∷ field (codes "trace_id") (draw (IsOctets 16)) trace_kind (λ s. trace_cell s.trace_id)
+    ∷ field (codes "trace_id") (draw (IsOctets 16)) trace_id_kind (λ s. trace_id_cell s.trace_id)
     ∷ []
 
-abbrev pub span_table_kind : Kind
-span_table_kind = table_of span_table_fields
+abbrev pub span_kind : Kind
+span_kind = table_of span_fields
 
-abbrev pub span_table_cell : Span → Cell
-span_table_cell s = fields_by span_table_fields s
+abbrev pub span_cell : Span → Cell
+span_cell s = fields_by span_fields s
 
-pub span_table_in_order : in_order (keys (rows_of span_table_fields)) ≡ true
-unfolding span_table_fields
-span_table_in_order = refl
+pub span_in_order : in_order (keys (rows_of span_fields)) ≡ true
+unfolding span_fields
+span_in_order = refl
 
 -- as a text: the id and when it began
 abbrev pub span_text : Span → List ℕ

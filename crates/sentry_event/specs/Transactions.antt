@@ -16,7 +16,7 @@ use Rattle.sentry_parts.specs.ClientSdk.{sdk_cell, sdk_kind}
 use Rattle.sentry_parts.specs.Requests.{request_cell, request_kind}
 use Rattle.sentry_parts.specs.Users.{user_cell, user_kind}
 use Rattle.sentry_contexts.specs.Contexts.{context_cell, contexts_kind}
-use Rattle.sentry_event.specs.Spans.{span_table_cell, span_table_kind}
+use Rattle.sentry_event.specs.Spans.{span_cell, span_kind}
 use Rattle.sentry_event.specs.declared.transaction.Transaction.{Transaction}
 
 unfoldable pub transaction_fields : List (Field Transaction)
@@ -30,7 +30,7 @@ transaction_fields =
     ∷ field (codes "request") may request_kind (λ t. option_cell request_cell t.request)
     ∷ field (codes "sdk") may sdk_kind (λ t. option_cell sdk_cell t.sdk)
     ∷ field (codes "server_name") may text_kind (λ t. option_cell cow_cell t.server_name)
-    ∷ field (codes "spans") must (list span_table_kind) (λ t. list_cell span_table_cell t.spans.items)
+    ∷ field (codes "spans") must (list span_kind) (λ t. list_cell span_cell t.spans.items)
     ∷ field (codes "start_timestamp") at_once seconds_kind (λ t. moment_cell t.start_timestamp)
     ∷ field (codes "tags") (default empty_map) (map text_kind) (λ t. map_cell text_cell t.tags.entries)
     ∷ field (codes "timestamp") may_strict rfc3339_kind (λ t. option_cell moment_cell t.timestamp)

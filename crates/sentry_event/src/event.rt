@@ -1,4 +1,4 @@
-//! Events.
+//! Events: errors and messages with their data.
 
 ghost use Rattle.sentry_event.specs.Events.{event_fields, event_in_order};
 
@@ -8,13 +8,13 @@ use rand_core::Rng;
 use sentry_contexts::Context;
 use sentry_frames::{Exception, LogEntry, Stacktrace, TemplateInfo, Thread};
 use sentry_identifiers::{Simple, random_uuid};
+use sentry_json::Node;
 use sentry_members::{Formed, Member};
 use sentry_moments::{Moment, Seconds};
 use sentry_parts::{Breadcrumb, ClientSdkInfo, DebugMeta, Request, User};
 use sentry_rows::{
     AsCaseMap, AsTable, Copier, CopyTable, MadeCodec, ReadTableAt, Reader, Sink, Table, Values,
 };
-use sentry_trees::Node;
 use sentry_words::Level;
 use serde_json::{Map, Value};
 use std::alloc::{AllocError, Global};
@@ -22,69 +22,70 @@ use std::borrow::CowStr;
 use std::fmt;
 use uuid::Uuid;
 
-/// An event: something that happened in a program, as an error.
+/// An event: something that happened in a program, such as an error.
 ///
-/// An event that is read without `event_id` takes an id from the generator, and one without `timestamp`
-/// the moment of reading.
+/// On reading, an absent `event_id` is drawn from the generator, and an absent `timestamp` is the
+/// moment of reading.
 ///
 /// <https://develop.sentry.dev/sdk/data-model/event-payloads/>
 #[derive(Debug, Drop, PartialEq)]
 pub struct Event<'a> {
-    /// The id of the event.
+    /// Event id: a UUID, written as 32 hex digits.
     pub event_id: Uuid,
-    /// How grave it is; `error` where it is absent.
+    /// Severity; defaults to `error`.
     pub level: Level,
-    /// What the event is grouped by; `["{{ default }}"]` where it is absent.
+    /// Fingerprint for grouping; defaults to `["{{ default }}"]`.
     ///
-    /// The one text `{{default}}` is another spelling of that.
+    /// `["{{default}}"]` is another spelling of the default.
     pub fingerprint: Vec<CowStr<'a>>,
-    /// What in the program is to blame.
+    /// The culprit: the function or transaction that the event is attributed to (deprecated by
+    /// Sentry).
     pub culprit: Option<String>,
-    /// The name of the transaction that the event came about in.
+    /// Name of the transaction in which the event occurred.
     pub transaction: Option<String>,
-    /// A message for people.
+    /// Message, human-readable.
     pub message: Option<String>,
-    /// A message with parameters.
+    /// Log entry: a message with parameters.
     pub logentry: Option<LogEntry>,
-    /// The name of the logger that made the event.
+    /// Name of the logger that created the event.
     pub logger: Option<String>,
-    /// The versions of the modules, by name.
+    /// Versions of the modules, by module name.
     pub modules: Map<String, String>,
-    /// The platform of the program; `other` where it is absent.
+    /// Platform of the application; defaults to `other`.
     pub platform: CowStr<'a>,
-    /// When the event was made.
+    /// Creation time: RFC 3339 or whole seconds.
     pub timestamp: Moment,
-    /// The name of the server or device.
+    /// Name of the server or device.
     pub server_name: Option<CowStr<'a>>,
-    /// The release of the program.
+    /// Release of the application.
     pub release: Option<CowStr<'a>>,
-    /// The distribution of the release.
+    /// Distribution (`dist`) of the release.
     pub dist: Option<CowStr<'a>>,
-    /// The environment that the program runs in, as `production`.
+    /// Environment, such as `production`.
     pub environment: Option<CowStr<'a>>,
-    /// Whom it happened to.
+    /// The affected user.
     pub user: Option<User>,
-    /// The request that the program was answering.
+    /// The HTTP request that the program was handling.
     pub request: Option<Request>,
-    /// What was around the program, by name.
+    /// Contexts, by name.
     pub contexts: Map<String, Context>,
-    /// What happened before.
+    /// Breadcrumbs: what happened before the event, oldest first.
     pub breadcrumbs: Values<Breadcrumb>,
-    /// The exceptions, each before the one that it caused.
+    /// Exceptions, each before the exception that it caused.
     pub exception: Values<Exception>,
-    /// A stack trace of no thread or exception.
+    /// Stack trace that belongs to no thread or exception (deprecated by Sentry).
     pub stacktrace: Option<Stacktrace>,
-    /// Where in a template the error came about.
+    /// Location in a template where the error occurred.
     pub template: Option<TemplateInfo>,
-    /// The threads of the program.
+    /// Threads of the program.
     pub threads: Values<Thread>,
-    /// What it can be searched by.
+    /// Searchable tags, by name.
     pub tags: Map<String, String>,
-    /// What else is known of it.
+    /// Additional data, by name.
     pub extra: Map<String, Value>,
-    /// What debuggers need to read the addresses.
+    /// Debug images and SDK information for symbolication.
     pub debug_meta: DebugMeta,
-    /// The software that sends it.
+    /// The SDK that sends the event.
     pub sdk: Option<ClientSdkInfo>,
 }
 
@@ -97,13 +98,18 @@ impl<'a> Event<'a> {
     ghost use Rattle.sentry_moments.specs.Moments.{moment_cell};
     ghost use Rattle.sentry_event.specs.Events.{event_cell};
 
-    /// A new event of this moment, of the level `error` and the usual fingerprint, of which nothing else
-    /// is known.
+    /// Creates an event at `now`, of level `error`, platform `other` and the default fingerprint,
+    /// with no other fields set.
     ///
-    /// Its id is drawn from the generator. It fails where memory is refused, and draws nothing then.
+    /// The event id is a random UUID (version 4) drawn from `ids`.
+    ///
+    /// # Errors
+    ///
+    /// `AllocError` if an allocation fails; nothing is drawn from `ids`.
     pub fn new<R: Rng>(alloc: Global, now: Moment, ids: &mut R) -> Result<Event<'a>, AllocError>
         ensures rows { IfOk result (λ e. IsDefaultAt (moment_cell now) event_fields e) }
-        ensures id { IfOk result (λ e. (e.event_id, R.stream ids.new) ≡ v4_of_fill (fill_bytes 16 (R.stream ids.old))) }
+        ensures id { IfOk result (λ e.
+            (e.event_id, R.stream ids.new) ≡ v4_of_fill (fill_bytes 16 (R.stream ids.old))) }
         ensures refused { IfErr result (λ e. R.stream ids.new ≡ R.stream ids.old) }
     {
         let fingerprint = AsFingerprint::make(alloc)?;
@@ -145,7 +151,8 @@ impl<'a> Event<'a> {
         })
     }
 
-    /// The same event, which borrows nothing. Where memory is refused it is handed back.
+    /// Converts the event into one that borrows nothing; returns the event unchanged if an
+    /// allocation fails.
     pub fn into_owned(self, alloc: Global) -> Result<Event<'static>, Event<'a>>
         ensures owned { IfOk result (λ e. event_cell e ≡ event_cell self.entry) }
         ensures handed_back { IfErr result (λ back. back ≡ self.entry) }
@@ -199,7 +206,7 @@ impl<'a> Event<'a> {
         })
     }
 
-    /// The same event. It fails where memory is refused.
+    /// Clones the event. `AllocError` if an allocation fails.
     pub fn clone(&self) -> Result<Event<'a>, AllocError>
         ensures { IfOk result (λ copy. event_cell copy ≡ event_cell self.now) }
     {
@@ -207,7 +214,7 @@ impl<'a> Event<'a> {
     }
 }
 
-/// The id of the event, with hyphens, and its moment:
+/// Formats the event id, with hyphens, and the timestamp:
 /// `Event(id: d43e86c9-6e42-4a93-a4fb-da156dd17341, ts: 2017-12-24T08:12:00Z)`.
 impl fmt::Display for Event<'_> {
     ghost use Rattle.std.specs.Prelude.{Some};
@@ -307,7 +314,7 @@ impl<'a> ReadTableAt for Event<'a> {
 
 #[tactic(auto, unfolding(crate::specs::Events::event_fields))]
 impl<'a> CopyTable for Event<'a> {
-    fn copied(&self, copies: &mut Copier) -> Result<Event<'a>, AllocError> {
+    fn copy_rows(&self, copies: &mut Copier) -> Result<Event<'a>, AllocError> {
         Ok(Event {
             breadcrumbs: copies.values(&self.breadcrumbs),
             contexts: copies.of_as::<AsCaseMap, Map<String, Context>>(&self.contexts)?,

@@ -1,4 +1,4 @@
-//! The form of fingerprints of events.
+//! The JSON form of event fingerprints.
 
 ghost use Rattle.std.specs.Prelude.{◌≡◌, OnOk, IfOk};
 ghost use Rattle.serde_json.specs.View.{view};
@@ -10,21 +10,21 @@ ghost use Rattle.sentry_event.specs.Fingerprints.{fingerprint_kind, fingerprint_
 
 use crate::owned::owned_text;
 use json::Writer;
+use sentry_json::Node;
 use sentry_members::codec::DefaultedCodec;
 use sentry_members::{Codec, FromTree, Member, ReadCodec, TreeError, Way};
 use sentry_rows::MadeCodec;
-use sentry_trees::Node;
 use serde_json::Value;
 use std::alloc::{AllocError, Global};
 use std::borrow::CowStr;
 
-/// The form of a fingerprint: a list of texts, of which `["{{default}}"]` is written as
-/// `["{{ default }}"]`, the usual one.
+/// The JSON form of a fingerprint: an array of strings. `["{{default}}"]` is written as the
+/// default, `["{{ default }}"]`.
 ///
 /// <https://develop.sentry.dev/sdk/data-model/event-payloads/>
 pub struct AsFingerprint;
 
-// Whether the list is of this one text.
+// Returns whether `text` is the only string of the fingerprint.
 #[tactic(auto, using(crate::proofs::FingerprintForms::not_one))]
 fn is_one<'a>(texts: &Vec<CowStr<'a>>, text: &str) -> bool
     ensures { result ≡ same_cell (fingerprint_cell texts.now.items) (one_text text.now) }
@@ -35,7 +35,7 @@ fn is_one<'a>(texts: &Vec<CowStr<'a>>, text: &str) -> bool
     }
 }
 
-// The tree of the usual fingerprint.
+// Returns the JSON tree of the default fingerprint, `["{{ default }}"]`.
 fn usual_tree(alloc: Global) -> Result<Value, AllocError>
     ensures { IfOk result (λ t. view t ≡ written (list_kind text_kind) usual_fingerprint) }
 {
@@ -44,16 +44,17 @@ fn usual_tree(alloc: Global) -> Result<Value, AllocError>
     Ok(Value::Array(items))
 }
 
-// Writes the text of that tree.
+// Writes the JSON text of the default fingerprint.
 fn write_usual(out: &mut Writer) -> Result<(), AllocError>
-    ensures { OnOk result (WritesTree (written (list_kind text_kind) usual_fingerprint) out.old out.new) }
+    ensures { OnOk result
+        (WritesTree (written (list_kind text_kind) usual_fingerprint) out.old out.new) }
 {
     out.begin_array()?;
     out.string("{{ default }}")?;
     out.end_array()
 }
 
-// The usual fingerprint.
+// Returns the default fingerprint.
 fn usual<'a>(alloc: Global) -> Result<Vec<CowStr<'a>>, AllocError>
     ensures { IfOk result (λ v. fingerprint_cell v.items ≡ usual_fingerprint) }
 {
@@ -83,7 +84,7 @@ impl<'a> Codec<Vec<CowStr<'a>>> for AsFingerprint {
         }
     }
 
-    fn remade(value: &Vec<CowStr<'a>>, way: Way) -> Result<Vec<CowStr<'a>>, AllocError> {
+    fn remake(value: &Vec<CowStr<'a>>, way: Way) -> Result<Vec<CowStr<'a>>, AllocError> {
         match way {
             Way::Same => value.copy(),
             Way::Normal(_) => {
@@ -128,7 +129,7 @@ impl<'a> MadeCodec<Vec<CowStr<'a>>> for AsFingerprint {
     }
 }
 
-/// A fingerprint of the same texts, which borrows nothing. It fails where memory is refused.
+/// Clones a fingerprint into owned strings. `AllocError` if an allocation fails.
 pub fn owned_texts<'a>(
     alloc: Global,
     texts: &Vec<CowStr<'a>>,

@@ -1,4 +1,4 @@
-//! Texts that borrow nothing.
+//! Owned clones of strings that may be borrowed.
 
 ghost use Rattle.std.specs.Prelude.{◌≡◌, IfOk};
 ghost use Rattle.sentry_members.specs.Cells.{cow_cell, option_cell};
@@ -6,14 +6,14 @@ ghost use Rattle.sentry_members.specs.Cells.{cow_cell, option_cell};
 use std::alloc::{AllocError, Global};
 use std::borrow::CowStr;
 
-/// The same text, which borrows nothing. It fails where memory is refused.
+/// Clones a string into an owned one. `AllocError` if an allocation fails.
 pub fn owned_text<'a>(alloc: Global, text: &CowStr<'a>) -> Result<CowStr<'static>, AllocError>
     ensures { IfOk result (λ t. cow_cell t ≡ cow_cell text.now) }
 {
     Ok(CowStr::Owned(String::from_str(alloc, text.as_str())?))
 }
 
-/// The same text, if there is one, which borrows nothing. It fails where memory is refused.
+/// Clones an optional string into an owned one. `AllocError` if an allocation fails.
 pub fn owned_option<'a>(
     alloc: Global,
     text: &Option<CowStr<'a>>,

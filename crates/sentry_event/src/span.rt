@@ -1,62 +1,63 @@
-//! Spans of transactions.
+//! Spans: the timed operations of a transaction.
 
-ghost use Rattle.sentry_event.specs.Spans.{span_table_fields, span_table_in_order};
+ghost use Rattle.sentry_event.specs.Spans.{span_fields, span_in_order};
 
 use rand_core::Rng;
 use sentry_identifiers::{SpanId, TraceId};
+use sentry_json::Node;
 use sentry_members::{Drawn, Formed, Member, Own};
 use sentry_moments::{Moment, Rfc3339, Seconds};
 use sentry_rows::{AsTable, Copier, CopyTable, ReadTableAt, Reader, Sink, Table};
-use sentry_trees::Node;
 use sentry_words::SpanStatus;
 use serde_json::{Map, Value};
 use std::alloc::{AllocError, Global};
 use std::fmt;
 
-/// A part of a transaction that took some time.
+/// A span: a timed operation within a transaction.
 ///
-/// A span that is read without `span_id` or `trace_id` takes an id from the generator, and one without
-/// `start_timestamp` the moment of reading.
+/// On reading, an absent `span_id` or `trace_id` is drawn from the generator, and an absent
+/// `start_timestamp` is the moment of reading.
 ///
 /// <https://develop.sentry.dev/sdk/data-model/event-payloads/span/>
 #[derive(Debug, Drop, PartialEq)]
 pub struct Span {
-    /// The id of the span.
+    /// Span id: 16 hex digits.
     pub span_id: SpanId,
-    /// The id of the trace that it is of.
+    /// Id of the trace that the span belongs to: 32 hex digits.
     pub trace_id: TraceId,
-    /// The id of the span that this one is in.
+    /// Id of the parent span.
     pub parent_span_id: Option<SpanId>,
-    /// Whether that span is of the same process.
+    /// Whether the parent span belongs to the same process.
     pub same_process_as_parent: Option<bool>,
-    /// What is done, as a short code.
+    /// Operation, as a short code.
     pub op: Option<String>,
-    /// What is done, in words for people.
+    /// Description of the operation, human-readable.
     pub description: Option<String>,
-    /// When it ended, as RFC 3339 text.
+    /// End time: RFC 3339; null is rejected.
     pub timestamp: Option<Moment>,
-    /// When it began.
+    /// Start time: RFC 3339 or whole seconds.
     pub start_timestamp: Moment,
-    /// How it ended.
+    /// Status of the span.
     pub status: Option<SpanStatus>,
-    /// What it can be searched by.
+    /// Searchable tags, by name.
     pub tags: Map<String, String>,
-    /// What else is known of it. Its key is `data`.
+    /// Additional data, by name (member `data`).
     pub data_: Map<String, Value>,
 }
 
-#[tactic(auto, unfolding(crate::specs::Spans::span_table_fields))]
+#[tactic(auto, unfolding(crate::specs::Spans::span_fields))]
 impl Span {
     ghost use Rattle.std.specs.Prelude.{◌≡◌, IfOk};
     ghost use Rattle.sentry_tables.specs.Defaults.{IsDefaultAt};
     ghost use Rattle.sentry_moments.specs.Moments.{moment_cell};
-    ghost use Rattle.sentry_event.specs.Spans.{DrawsIds, EndsAt, span_table_cell};
+    ghost use Rattle.sentry_event.specs.Spans.{DrawsIds, EndsAt, span_cell};
 
-    /// A new span of a new trace that begins at this moment, of which nothing else is known.
+    /// Creates a span that starts at `now`, with a new span id and a new trace id, and no other
+    /// fields set.
     ///
-    /// The ids are drawn from the generator: that of the span first, then that of the trace.
+    /// The span id is drawn from `ids` first, then the trace id.
     pub fn new<R: Rng>(alloc: Global, now: Moment, ids: &mut R) -> Span
-        ensures rows { IsDefaultAt (moment_cell now) span_table_fields result }
+        ensures rows { IsDefaultAt (moment_cell now) span_fields result }
         ensures ids { DrawsIds result (R.stream ids.old) (R.stream ids.new) }
     {
         let span_id = <Own as Drawn<SpanId>>::random(ids);
@@ -76,29 +77,29 @@ impl Span {
         }
     }
 
-    /// Ends the span at the moment at hand.
+    /// Finishes the span at the current time: sets `timestamp` to `now`.
     pub fn finish(&mut self, now: Moment)
         ensures { EndsAt now self.old self.new }
     {
         self.timestamp = Some(now);
     }
 
-    /// Ends the span at a moment.
+    /// Finishes the span at a given time: sets `timestamp`.
     pub fn finish_with_timestamp(&mut self, timestamp: Moment)
         ensures { EndsAt timestamp self.old self.new }
     {
         self.timestamp = Some(timestamp);
     }
 
-    /// The same span. It fails where memory is refused.
+    /// Clones the span. `AllocError` if an allocation fails.
     pub fn clone(&self) -> Result<Span, AllocError>
-        ensures { IfOk result (λ copy. span_table_cell copy ≡ span_table_cell self.now) }
+        ensures { IfOk result (λ copy. span_cell copy ≡ span_cell self.now) }
     {
         self.copy()
     }
 }
 
-/// The id of the span and when it began: `Span(id: 4c79f60c11214eb3, ts: 2017-12-24T08:12:00Z)`.
+/// Formats the span id and the start time: `Span(id: 4c79f60c11214eb3, ts: 2017-12-24T08:12:00Z)`.
 impl fmt::Display for Span {
     ghost use Rattle.std.specs.Prelude.{Some};
     ghost use Rattle.sentry_event.specs.Spans.{span_text};
@@ -118,9 +119,9 @@ impl Formed for Span {
     type Form = AsTable;
 }
 
-#[tactic(auto, unfolding(crate::specs::Spans::span_table_fields))]
+#[tactic(auto, unfolding(crate::specs::Spans::span_fields))]
 impl Table for Span {
-    ghost lines = { span_table_fields };
+    ghost lines = { span_fields };
 
     fn rows<S: Sink>(&self, to: &mut S) {
         to.map("data", &self.data_);
@@ -136,10 +137,10 @@ impl Table for Span {
         to.drawn_as::<Own, TraceId>("trace_id", &self.trace_id);
     }
 
-    ghost ordered = { span_table_in_order };
+    ghost ordered = { span_in_order };
 }
 
-#[tactic(auto, unfolding(crate::specs::Spans::span_table_fields))]
+#[tactic(auto, unfolding(crate::specs::Spans::span_fields))]
 impl ReadTableAt for Span {
     fn read<N: Node, R: Rng>(from: &mut Reader<'_, N>, now: Moment, ids: &mut R) -> Span {
         Span {
@@ -158,9 +159,9 @@ impl ReadTableAt for Span {
     }
 }
 
-#[tactic(auto, unfolding(crate::specs::Spans::span_table_fields))]
+#[tactic(auto, unfolding(crate::specs::Spans::span_fields))]
 impl CopyTable for Span {
-    fn copied(&self, copies: &mut Copier) -> Result<Span, AllocError> {
+    fn copy_rows(&self, copies: &mut Copier) -> Result<Span, AllocError> {
         Ok(Span {
             data_: copies.map(&self.data_)?,
             description: copies.optional(&self.description),

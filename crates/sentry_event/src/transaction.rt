@@ -1,4 +1,4 @@
-//! Transactions.
+//! Transactions: traced operations with their spans.
 
 ghost use Rattle.sentry_event.specs.Transactions.{transaction_fields, transaction_in_order};
 
@@ -7,54 +7,54 @@ use crate::span::Span;
 use rand_core::Rng;
 use sentry_contexts::Context;
 use sentry_identifiers::{Simple, random_uuid};
+use sentry_json::Node;
 use sentry_members::{Formed, Member};
 use sentry_moments::{Moment, Rfc3339, Seconds};
 use sentry_parts::{ClientSdkInfo, Request, User};
 use sentry_rows::{AsCaseMap, AsTable, Copier, CopyTable, ReadTableAt, Reader, Sink, Table};
-use sentry_trees::Node;
 use serde_json::{Map, Value};
 use std::alloc::{AllocError, Global};
 use std::borrow::CowStr;
 use std::fmt;
 use uuid::Uuid;
 
-/// A transaction: the spans of one piece of work.
+/// A transaction: a traced operation with its spans.
 ///
-/// A transaction that is read without `event_id` takes an id from the generator, and one without
-/// `start_timestamp` the moment of reading.
+/// On reading, an absent `event_id` is drawn from the generator, and an absent `start_timestamp` is
+/// the moment of reading.
 ///
 /// <https://develop.sentry.dev/sdk/data-model/event-payloads/transaction/>
 #[derive(Debug, Drop, PartialEq)]
 pub struct Transaction<'a> {
-    /// The id of the transaction, which is one of an event.
+    /// Event id of the transaction: a UUID, written as 32 hex digits.
     pub event_id: Uuid,
-    /// The name of the transaction. Its key is `transaction`.
+    /// Transaction name (member `transaction`).
     pub name: Option<String>,
-    /// The release of the program.
+    /// Release of the application.
     pub release: Option<CowStr<'a>>,
-    /// The environment that the program runs in, as `production`.
+    /// Environment, such as `production`.
     pub environment: Option<CowStr<'a>>,
-    /// Whom the work was done for.
+    /// The user for whom the transaction ran.
     pub user: Option<User>,
-    /// What it can be searched by.
+    /// Searchable tags, by name.
     pub tags: Map<String, String>,
-    /// What else is known of it.
+    /// Additional data, by name.
     pub extra: Map<String, Value>,
-    /// The software that sends it.
+    /// The SDK that sends the transaction.
     pub sdk: Option<ClientSdkInfo>,
-    /// The platform of the program; `other` where it is absent.
+    /// Platform of the application; defaults to `other`.
     pub platform: CowStr<'a>,
-    /// When it ended, as RFC 3339 text.
+    /// End time: RFC 3339; null is rejected.
     pub timestamp: Option<Moment>,
-    /// When it began.
+    /// Start time: RFC 3339 or whole seconds.
     pub start_timestamp: Moment,
-    /// Its spans.
+    /// Spans of the transaction; required.
     pub spans: Vec<Span>,
-    /// What was around the program, by name.
+    /// Contexts, by name.
     pub contexts: Map<String, Context>,
-    /// The request that the work was for.
+    /// The HTTP request that the transaction handled.
     pub request: Option<Request>,
-    /// The name of the server or device.
+    /// Name of the server or device.
     pub server_name: Option<CowStr<'a>>,
 }
 
@@ -67,12 +67,13 @@ impl<'a> Transaction<'a> {
     ghost use Rattle.sentry_moments.specs.Moments.{moment_cell};
     ghost use Rattle.sentry_event.specs.Transactions.{EndsAt, transaction_cell};
 
-    /// A new transaction that begins at this moment, without spans, of which nothing else is known.
+    /// Creates a transaction that starts at `now`, of platform `other`, with no other fields set.
     ///
-    /// Its id is drawn from the generator.
+    /// The event id is a random UUID (version 4) drawn from `ids`.
     pub fn new<R: Rng>(alloc: Global, now: Moment, ids: &mut R) -> Transaction<'a>
         ensures rows { IsDefaultAt (moment_cell now) transaction_fields result }
-        ensures id { (result.event_id, R.stream ids.new) ≡ v4_of_fill (fill_bytes 16 (R.stream ids.old)) }
+        ensures id { (result.event_id, R.stream ids.new) ≡
+            v4_of_fill (fill_bytes 16 (R.stream ids.old)) }
     {
         let event_id = random_uuid(ids);
         Transaction {
@@ -94,7 +95,8 @@ impl<'a> Transaction<'a> {
         }
     }
 
-    /// The same transaction, which borrows nothing. Where memory is refused it is handed back.
+    /// Converts the transaction into one that borrows nothing; returns the transaction unchanged if
+    /// an allocation fails.
     pub fn into_owned(self, alloc: Global) -> Result<Transaction<'static>, Transaction<'a>>
         ensures owned { IfOk result (λ t. transaction_cell t ≡ transaction_cell self.entry) }
         ensures handed_back { IfErr result (λ back. back ≡ self.entry) }
@@ -130,21 +132,21 @@ impl<'a> Transaction<'a> {
         })
     }
 
-    /// Ends the transaction at the moment at hand.
+    /// Finishes the transaction at the current time: sets `timestamp` to `now`.
     pub fn finish(&mut self, now: Moment)
         ensures { EndsAt now self.old self.new }
     {
         self.timestamp = Some(now);
     }
 
-    /// Ends the transaction at a moment.
+    /// Finishes the transaction at a given time: sets `timestamp`.
     pub fn finish_with_timestamp(&mut self, timestamp: Moment)
         ensures { EndsAt timestamp self.old self.new }
     {
         self.timestamp = Some(timestamp);
     }
 
-    /// The same transaction. It fails where memory is refused.
+    /// Clones the transaction. `AllocError` if an allocation fails.
     pub fn clone(&self) -> Result<Transaction<'a>, AllocError>
         ensures { IfOk result (λ copy. transaction_cell copy ≡ transaction_cell self.now) }
     {
@@ -152,7 +154,7 @@ impl<'a> Transaction<'a> {
     }
 }
 
-/// The id of the transaction, with hyphens, and when it began:
+/// Formats the event id, with hyphens, and the start time:
 /// `Transaction(id: d43e86c9-6e42-4a93-a4fb-da156dd17341, ts: 2017-12-24T08:12:00Z)`.
 impl fmt::Display for Transaction<'_> {
     ghost use Rattle.std.specs.Prelude.{Some};
@@ -229,7 +231,7 @@ impl<'a> ReadTableAt for Transaction<'a> {
 
 #[tactic(auto, unfolding(crate::specs::Transactions::transaction_fields))]
 impl<'a> CopyTable for Transaction<'a> {
-    fn copied(&self, copies: &mut Copier) -> Result<Transaction<'a>, AllocError> {
+    fn copy_rows(&self, copies: &mut Copier) -> Result<Transaction<'a>, AllocError> {
         Ok(Transaction {
             contexts: copies.of_as::<AsCaseMap, Map<String, Context>>(&self.contexts)?,
             environment: copies.optional(&self.environment),

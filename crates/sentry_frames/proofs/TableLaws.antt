@@ -9,8 +9,8 @@ use Rattle.sentry_tables.specs.Kind.{default, ignored, values}
 use Rattle.sentry_tables.specs.Laws.{HasLaws}
 use Rattle.sentry_tables.specs.Lawful.{IsLawful, RuleLaws}
 use Rattle.sentry_members.specs.Kinds.{unsigned_kind}
-use Rattle.sentry_addresses.proofs.AddressTrees.{address_laws}
-use Rattle.sentry_urls.proofs.UrlTrees.{url_lawful}
+use Rattle.sentry_text.proofs.AddressTrees.{address_laws}
+use Rattle.sentry_text.proofs.UrlTrees.{url_lawful}
 use Rattle.sentry_frames.specs.Causes.{c_error_fields, c_error_kind, mach_fields, mach_kind, signal_fields, signal_kind}
 use Rattle.sentry_frames.specs.Exceptions.{exception_fields, exception_kind}
 use Rattle.sentry_frames.specs.Frames.{frame_fields, frame_kind, stacktrace_fields, stacktrace_kind, template_fields, template_kind}

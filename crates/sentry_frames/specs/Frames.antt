@@ -6,7 +6,7 @@ use Rattle.sentry_tables.specs.Kind.{may, default, always, Kind, list, map, keys
 use Rattle.sentry_tables.specs.Written.{in_order}
 use Rattle.sentry_members.specs.Cells.{text_cell, natural_cell, tree_cell, pair_cell, option_cell, list_cell, map_cell, empty_list, empty_map}
 use Rattle.sentry_members.specs.Kinds.{text_kind, truth_kind, unsigned_kind, pair_kind, any_kind}
-use Rattle.sentry_addresses.specs.AddressTree.{address_kind}
+use Rattle.sentry_text.specs.AddressTree.{address_kind}
 use Rattle.sentry_frames.specs.declared.frame.Frame.{Frame}
 use Rattle.sentry_frames.specs.declared.template_info.TemplateInfo.{TemplateInfo}
 use Rattle.sentry_frames.specs.declared.stacktrace.Stacktrace.{Stacktrace}

@@ -1,20 +1,20 @@
-//! Errors of the C library.
+//! C errors: values of `errno`.
 
 ghost use Rattle.sentry_frames.specs.Causes.{c_error_fields, c_error_in_order};
 
+use sentry_json::Node;
 use sentry_members::{Formed, Member};
 use sentry_rows::{AsTable, Copier, CopyTable, ReadTable, Reader, Sink, Table};
-use sentry_trees::Node;
 use std::alloc::{AllocError, Global};
 
-/// An error of the C library.
+/// An error of the C library: a value of `errno`.
 ///
 /// <https://develop.sentry.dev/sdk/data-model/event-payloads/exception/#c-error>
 #[derive(Debug, Drop, PartialEq, Eq)]
 pub struct CError {
-    /// The code, as ISO C99 and POSIX name it.
+    /// Error code of ISO C99 or POSIX; required.
     pub number: i32,
-    /// The name of the code, as `ENOENT`.
+    /// Name of the error code, such as `ENOENT`.
     pub name: Option<String>,
 }
 
@@ -23,7 +23,7 @@ impl CError {
     ghost use Rattle.sentry_tables.specs.Defaults.{IsDefault};
     ghost use Rattle.sentry_frames.specs.Causes.{c_error_cell};
 
-    /// The error of code 0, without a name.
+    /// Creates a C error with the number 0 and no name.
     #[tactic(auto, unfolding(crate::specs::Causes::c_error_fields))]
     pub fn default_in(_alloc: Global) -> CError
         ensures { IsDefault c_error_fields result }
@@ -34,7 +34,7 @@ impl CError {
         }
     }
 
-    /// The same error. It fails where memory is refused.
+    /// Clones the error. `AllocError` if an allocation fails.
     pub fn clone(&self) -> Result<CError, AllocError>
         ensures { IfOk result (λ copy. c_error_cell copy ≡ c_error_cell self.now) }
     {
@@ -90,7 +90,7 @@ impl ReadTable for CError {
 
 #[tactic(auto, unfolding(crate::specs::Causes::c_error_fields))]
 impl CopyTable for CError {
-    fn copied(&self, copies: &mut Copier) -> Result<CError, AllocError> {
+    fn copy_rows(&self, copies: &mut Copier) -> Result<CError, AllocError> {
         Ok(CError {
             name: copies.optional(&self.name),
             number: copies.plain(&self.number),

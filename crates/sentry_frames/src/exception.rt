@@ -1,13 +1,13 @@
-//! Exceptions.
+//! Exceptions and errors of the program.
 
 ghost use Rattle.sentry_frames.specs.Exceptions.{exception_fields, exception_in_order};
 
 use crate::mechanism::Mechanism;
 use crate::stacktrace::Stacktrace;
 use crate::thread_id::ThreadId;
+use sentry_json::Node;
 use sentry_members::{Formed, Member};
 use sentry_rows::{AsTable, Copier, CopyTable, ReadTable, Reader, Sink, Table};
-use sentry_trees::Node;
 use std::alloc::{AllocError, Global};
 
 /// An exception or error of the program.
@@ -15,19 +15,19 @@ use std::alloc::{AllocError, Global};
 /// <https://develop.sentry.dev/sdk/data-model/event-payloads/exception/>
 #[derive(Debug, Drop, PartialEq)]
 pub struct Exception {
-    /// The type of the exception, as `ValueError`.
+    /// Exception type, such as `ValueError` (member `type`); required.
     pub ty: String,
-    /// What the exception says.
+    /// Exception value: the error message.
     pub value: Option<String>,
-    /// The module that the type is of.
+    /// Module or package of the exception type.
     pub module: Option<String>,
-    /// What the thread was doing.
+    /// Stack trace of the exception.
     pub stacktrace: Option<Stacktrace>,
-    /// The same before it was worked on.
+    /// Stack trace as captured, before processing.
     pub raw_stacktrace: Option<Stacktrace>,
-    /// The id of the thread.
+    /// Id of the thread that the exception refers to.
     pub thread_id: Option<ThreadId>,
-    /// How the exception came about.
+    /// Mechanism that created the exception.
     pub mechanism: Option<Mechanism>,
 }
 
@@ -36,7 +36,7 @@ impl Exception {
     ghost use Rattle.sentry_tables.specs.Defaults.{IsDefault};
     ghost use Rattle.sentry_frames.specs.Exceptions.{exception_cell};
 
-    /// An exception of an empty type, of which nothing is known.
+    /// Creates an exception with an empty type and no other fields set.
     #[tactic(auto, unfolding(crate::specs::Exceptions::exception_fields))]
     pub fn default_in(alloc: Global) -> Exception
         ensures { IsDefault exception_fields result }
@@ -52,7 +52,7 @@ impl Exception {
         }
     }
 
-    /// The same exception. It fails where memory is refused.
+    /// Clones the exception. `AllocError` if an allocation fails.
     pub fn clone(&self) -> Result<Exception, AllocError>
         ensures { IfOk result (λ copy. exception_cell copy ≡ exception_cell self.now) }
     {
@@ -98,7 +98,7 @@ impl ReadTable for Exception {
 
 #[tactic(auto, unfolding(crate::specs::Exceptions::exception_fields))]
 impl CopyTable for Exception {
-    fn copied(&self, copies: &mut Copier) -> Result<Exception, AllocError> {
+    fn copy_rows(&self, copies: &mut Copier) -> Result<Exception, AllocError> {
         Ok(Exception {
             mechanism: copies.optional(&self.mechanism),
             module: copies.optional(&self.module),

@@ -1,52 +1,53 @@
-//! Frames of stack traces.
+//! Stack frames.
 
 ghost use Rattle.sentry_frames.specs.Frames.{frame_fields, frame_in_order};
 
-use sentry_addresses::Addr;
+use sentry_json::Node;
 use sentry_members::{Formed, Member};
 use sentry_rows::{AsTable, Copier, CopyTable, ReadTable, Reader, Sink, Table};
-use sentry_trees::Node;
+use sentry_text::Addr;
 use serde_json::{Map, Value};
 use std::alloc::{AllocError, Global};
 
-/// A frame of a stack trace: a call that was going on.
+/// A stack frame: one call of a stack trace.
 ///
 /// <https://develop.sentry.dev/sdk/data-model/event-payloads/stacktrace/>
 #[derive(Debug, Drop, PartialEq)]
 pub struct Frame {
-    /// The name of the function, with its class where the language says so.
+    /// Function name, with the class name if the language includes one.
     pub function: Option<String>,
-    /// The name as the executable has it, which may be mangled.
+    /// Symbol name in the executable, which may be mangled.
     pub symbol: Option<String>,
-    /// The module of the function, with its class where the language counts that as a module.
+    /// Module name, with the class name if the language counts classes as modules.
     pub module: Option<String>,
-    /// What holds the module: a library, a JAR or an assembly.
+    /// Package that contains the module: a library, a JAR or an assembly.
     pub package: Option<String>,
-    /// The name of the source file.
+    /// Name of the source file.
     pub filename: Option<String>,
-    /// The absolute path of the source file.
+    /// Absolute path of the source file.
     pub abs_path: Option<String>,
-    /// The number of the line.
+    /// Line number in the source file.
     pub lineno: Option<u64>,
-    /// The number of the column.
+    /// Column number in the source line.
     pub colno: Option<u64>,
-    /// The lines of source before the line.
+    /// Source lines before the line `lineno`.
     pub pre_context: Vec<String>,
-    /// The line itself.
+    /// Source line at `lineno`.
     pub context_line: Option<String>,
-    /// The lines of source after the line.
+    /// Source lines after the line `lineno`.
     pub post_context: Vec<String>,
-    /// Whether the function is of the program itself, and not of a library.
+    /// Whether the function belongs to the application and not to a library.
     pub in_app: Option<bool>,
-    /// The local variables.
+    /// Local variables, by name.
     pub vars: Map<String, Value>,
-    /// Where the image of the function begins.
+    /// Start address of the image that contains the function.
     pub image_addr: Option<Addr>,
-    /// Where the instruction is.
+    /// Address of the instruction.
     pub instruction_addr: Option<Addr>,
-    /// Where the symbol begins.
+    /// Start address of the symbol.
     pub symbol_addr: Option<Addr>,
-    /// What addresses are relative to: `abs`, `rel:DEBUG_ID` or `rel:IMAGE_INDEX`; `abs` where it is absent.
+    /// Addressing mode, the base of the addresses: `abs`, `rel:DEBUG_ID` or `rel:IMAGE_INDEX`;
+    /// an absent mode means `abs`.
     pub addr_mode: Option<String>,
 }
 
@@ -55,7 +56,7 @@ impl Frame {
     ghost use Rattle.sentry_tables.specs.Defaults.{IsDefault};
     ghost use Rattle.sentry_frames.specs.Frames.{frame_cell};
 
-    /// A frame of which nothing is known.
+    /// Creates a frame with no fields set.
     #[tactic(auto, unfolding(crate::specs::Frames::frame_fields))]
     pub fn default_in(alloc: Global) -> Frame
         ensures { IsDefault frame_fields result }
@@ -81,7 +82,7 @@ impl Frame {
         }
     }
 
-    /// The same frame. It fails where memory is refused.
+    /// Clones the frame. `AllocError` if an allocation fails.
     pub fn clone(&self) -> Result<Frame, AllocError>
         ensures { IfOk result (λ copy. frame_cell copy ≡ frame_cell self.now) }
     {
@@ -147,7 +148,7 @@ impl ReadTable for Frame {
 
 #[tactic(auto, unfolding(crate::specs::Frames::frame_fields))]
 impl CopyTable for Frame {
-    fn copied(&self, copies: &mut Copier) -> Result<Frame, AllocError> {
+    fn copy_rows(&self, copies: &mut Copier) -> Result<Frame, AllocError> {
         Ok(Frame {
             abs_path: copies.optional(&self.abs_path),
             addr_mode: copies.optional(&self.addr_mode),

@@ -1,4 +1,4 @@
-//! What was going on in a program when an event was made: messages, frames, stack traces, threads,
+//! Program state at the time of an event: log entries, stack frames, stack traces, threads,
 //! exceptions and their mechanisms.
 #![tactic(auto)]
 

@@ -1,23 +1,23 @@
-//! Messages with parameters.
+//! Log entries: messages with parameters.
 
 ghost use Rattle.sentry_frames.specs.LogEntries.{entry_fields, entry_in_order};
 
+use sentry_json::Node;
 use sentry_members::{Formed, Member};
 use sentry_rows::{AsTable, Copier, CopyTable, ReadTable, Reader, Sink, Table};
-use sentry_trees::Node;
 use serde_json::Value;
 use std::alloc::{AllocError, Global};
 
-/// A message with parameters.
+/// A log entry: a message with parameters.
 ///
-/// Unlike the `message` of an event, the text and what is put into it are kept apart.
+/// Unlike the `message` of an event, a log entry keeps the message and its parameters apart.
 ///
 /// <https://develop.sentry.dev/sdk/data-model/event-payloads/message/>
 #[derive(Debug, Drop, PartialEq)]
 pub struct LogEntry {
-    /// The text, in which `%s` stands for each parameter.
+    /// Message, with `%s` in place of each parameter; required.
     pub message: String,
-    /// What is put into the text, in order.
+    /// Positional parameters of the message, in order.
     pub params: Vec<Value>,
 }
 
@@ -26,7 +26,7 @@ impl LogEntry {
     ghost use Rattle.sentry_tables.specs.Defaults.{IsDefault};
     ghost use Rattle.sentry_frames.specs.LogEntries.{entry_cell};
 
-    /// The empty message, without parameters.
+    /// Creates a log entry with an empty message and no parameters.
     #[tactic(auto, unfolding(crate::specs::LogEntries::entry_fields))]
     pub fn default_in(alloc: Global) -> LogEntry
         ensures { IsDefault entry_fields result }
@@ -37,7 +37,7 @@ impl LogEntry {
         }
     }
 
-    /// The same message. It fails where memory is refused.
+    /// Clones the log entry. `AllocError` if an allocation fails.
     pub fn clone(&self) -> Result<LogEntry, AllocError>
         ensures { IfOk result (λ copy. entry_cell copy ≡ entry_cell self.now) }
     {
@@ -73,7 +73,7 @@ impl ReadTable for LogEntry {
 
 #[tactic(auto, unfolding(crate::specs::LogEntries::entry_fields))]
 impl CopyTable for LogEntry {
-    fn copied(&self, copies: &mut Copier) -> Result<LogEntry, AllocError> {
+    fn copy_rows(&self, copies: &mut Copier) -> Result<LogEntry, AllocError> {
         Ok(LogEntry {
             message: copies.text(&self.message),
             params: copies.list(&self.params),

@@ -1,24 +1,24 @@
-//! Exceptions of the kernel Mach.
+//! Mach exceptions: exceptions of the Mach kernel.
 
 ghost use Rattle.sentry_frames.specs.Causes.{mach_fields, mach_in_order};
 
+use sentry_json::Node;
 use sentry_members::{Formed, Member};
 use sentry_rows::{AsTable, Copier, CopyTable, ReadTable, Reader, Sink, Table};
-use sentry_trees::Node;
 use std::alloc::{AllocError, Global};
 
-/// An exception of the kernel Mach.
+/// An exception of the Mach kernel.
 ///
 /// <https://develop.sentry.dev/sdk/data-model/event-payloads/exception/#mach-exception>
 #[derive(Debug, Drop, PartialEq, Eq)]
 pub struct MachException {
-    /// The type of the exception.
+    /// Exception type, as a number; required.
     pub exception: i32,
-    /// The code of the exception.
+    /// Exception code; required.
     pub code: u64,
-    /// The code within that code.
+    /// Exception subcode; required.
     pub subcode: u64,
-    /// The name of the exception, as `EXC_BAD_ACCESS`.
+    /// Name of the exception, such as `EXC_BAD_ACCESS`.
     pub name: Option<String>,
 }
 
@@ -27,7 +27,7 @@ impl MachException {
     ghost use Rattle.sentry_tables.specs.Defaults.{IsDefault};
     ghost use Rattle.sentry_frames.specs.Causes.{mach_cell};
 
-    /// The exception of type and codes 0, without a name.
+    /// Creates a Mach exception with type, code and subcode 0 and no name.
     #[tactic(auto, unfolding(crate::specs::Causes::mach_fields))]
     pub fn default_in(_alloc: Global) -> MachException
         ensures { IsDefault mach_fields result }
@@ -40,7 +40,7 @@ impl MachException {
         }
     }
 
-    /// The same exception. It fails where memory is refused.
+    /// Clones the exception. `AllocError` if an allocation fails.
     pub fn clone(&self) -> Result<MachException, AllocError>
         ensures { IfOk result (λ copy. mach_cell copy ≡ mach_cell self.now) }
     {
@@ -80,7 +80,7 @@ impl ReadTable for MachException {
 
 #[tactic(auto, unfolding(crate::specs::Causes::mach_fields))]
 impl CopyTable for MachException {
-    fn copied(&self, copies: &mut Copier) -> Result<MachException, AllocError> {
+    fn copy_rows(&self, copies: &mut Copier) -> Result<MachException, AllocError> {
         Ok(MachException {
             code: copies.plain(&self.code),
             exception: copies.plain(&self.exception),

@@ -1,34 +1,34 @@
-//! How exceptions come about.
+//! Exception mechanisms.
 
 ghost use Rattle.sentry_frames.specs.Mechanisms.{mechanism_fields, mechanism_in_order};
 
 use crate::mechanism_meta::{MechanismMeta, ToldOrNothing};
+use sentry_json::Node;
 use sentry_members::{Formed, Member};
 use sentry_rows::{AsTable, Copier, CopyTable, ReadTable, Reader, Sink, Table};
-use sentry_trees::Node;
-use sentry_urls::UrlText;
+use sentry_text::UrlText;
 use serde_json::{Map, Value};
 use std::alloc::{AllocError, Global};
 use url::Url;
 
-/// How an exception came about and was caught.
+/// The mechanism of an exception: how the exception was created and captured.
 ///
 /// <https://develop.sentry.dev/sdk/data-model/event-payloads/exception/#exception-mechanism>
 #[derive(Debug, Drop, PartialEq)]
 pub struct Mechanism {
-    /// The type of the mechanism, as `generic`.
+    /// Mechanism type, such as `generic` (member `type`); required.
     pub ty: String,
-    /// What happened, in words for people.
+    /// Description of the error, human-readable.
     pub description: Option<String>,
-    /// Where more is told of the error.
+    /// URL of online help for the error.
     pub help_link: Option<Url>,
     /// Whether the program handled the exception.
     pub handled: Option<bool>,
-    /// Whether the exception was made for the stack trace alone.
+    /// Whether the exception is synthetic: created only for its stack trace.
     pub synthetic: Option<bool>,
-    /// What else is known, by the type.
+    /// Additional data, by name; depends on the mechanism type (member `data`).
     pub data_: Map<String, Value>,
-    /// What the operating system or a runtime tells.
+    /// Operating system or runtime information; omitted if no field is set.
     pub meta: MechanismMeta,
 }
 
@@ -37,7 +37,7 @@ impl Mechanism {
     ghost use Rattle.sentry_tables.specs.Defaults.{IsDefault};
     ghost use Rattle.sentry_frames.specs.Mechanisms.{mechanism_cell};
 
-    /// A mechanism of an empty type, of which nothing is known.
+    /// Creates a mechanism with an empty type and no other fields set.
     #[tactic(auto, unfolding(crate::specs::Mechanisms::mechanism_fields))]
     pub fn default_in(alloc: Global) -> Mechanism
         ensures { IsDefault mechanism_fields result }
@@ -53,7 +53,7 @@ impl Mechanism {
         }
     }
 
-    /// The same mechanism. It fails where memory is refused.
+    /// Clones the mechanism. `AllocError` if an allocation fails.
     pub fn clone(&self) -> Result<Mechanism, AllocError>
         ensures { IfOk result (λ copy. mechanism_cell copy ≡ mechanism_cell self.now) }
     {
@@ -99,7 +99,7 @@ impl ReadTable for Mechanism {
 
 #[tactic(auto, unfolding(crate::specs::Mechanisms::mechanism_fields))]
 impl CopyTable for Mechanism {
-    fn copied(&self, copies: &mut Copier) -> Result<Mechanism, AllocError> {
+    fn copy_rows(&self, copies: &mut Copier) -> Result<Mechanism, AllocError> {
         Ok(Mechanism {
             data_: copies.map(&self.data_)?,
             description: copies.optional(&self.description),

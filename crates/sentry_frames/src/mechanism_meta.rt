@@ -1,4 +1,4 @@
-//! What is told of the cause of an exception.
+//! Meta information of exception mechanisms.
 
 ghost use Rattle.sentry_frames.specs.Mechanisms.{meta_fields, meta_in_order, no_meta};
 
@@ -6,23 +6,23 @@ use crate::c_error::CError;
 use crate::mach_exception::MachException;
 use crate::posix_signal::PosixSignal;
 use json::Writer;
+use sentry_json::Node;
 use sentry_members::codec::DefaultedCodec;
 use sentry_members::{Codec, Formed, Member, Way};
 use sentry_rows::{AsTable, Copier, CopyTable, ReadTable, Reader, Sink, Table};
-use sentry_trees::Node;
 use serde_json::Value;
 use std::alloc::{AllocError, Global};
 
-/// What the operating system or a runtime tells of the cause of an exception.
+/// Operating system or runtime information about the cause of an exception.
 ///
 /// <https://develop.sentry.dev/sdk/data-model/event-payloads/exception/#meta-information>
 #[derive(Debug, Drop, PartialEq)]
 pub struct MechanismMeta {
-    /// The error of the C library.
+    /// C error (`errno`).
     pub errno: Option<CError>,
-    /// The signal.
+    /// POSIX signal.
     pub signal: Option<PosixSignal>,
-    /// The Mach exception.
+    /// Mach exception.
     pub mach_exception: Option<MachException>,
 }
 
@@ -33,7 +33,7 @@ impl MechanismMeta {
     ghost use Rattle.sentry_tables.specs.Norm.{norm};
     ghost use Rattle.sentry_frames.specs.Mechanisms.{meta_cell, meta_kind};
 
-    /// Nothing told.
+    /// Creates meta information with no fields set.
     #[tactic(auto, unfolding(crate::specs::Mechanisms::meta_fields))]
     pub fn default_in(_alloc: Global) -> MechanismMeta
         ensures { IsDefault meta_fields result }
@@ -41,7 +41,7 @@ impl MechanismMeta {
         MechanismMeta::none()
     }
 
-    /// Nothing told.
+    // The value of an absent member `meta`.
     #[tactic(auto, unfolding(crate::specs::Mechanisms::meta_fields))]
     pub(crate) fn none() -> MechanismMeta
         ensures { meta_cell result ≡ no_meta }
@@ -53,7 +53,7 @@ impl MechanismMeta {
         }
     }
 
-    // Whether nothing is told.
+    // Whether no field is set; a mechanism then omits the member `meta`.
     #[tactic(auto, unfolding(crate::specs::Mechanisms::meta_fields))]
     fn is_nothing(&self) -> bool
         ensures { result ≡ same_cell (norm meta_kind (meta_cell self.now)) no_meta }
@@ -61,7 +61,7 @@ impl MechanismMeta {
         self.errno.is_none() && self.signal.is_none() && self.mach_exception.is_none()
     }
 
-    /// The same information. It fails where memory is refused.
+    /// Clones the meta information. `AllocError` if an allocation fails.
     pub fn clone(&self) -> Result<MechanismMeta, AllocError>
         ensures { IfOk result (λ copy. meta_cell copy ≡ meta_cell self.now) }
     {
@@ -99,7 +99,7 @@ impl ReadTable for MechanismMeta {
 
 #[tactic(auto, unfolding(crate::specs::Mechanisms::meta_fields))]
 impl CopyTable for MechanismMeta {
-    fn copied(&self, copies: &mut Copier) -> Result<MechanismMeta, AllocError> {
+    fn copy_rows(&self, copies: &mut Copier) -> Result<MechanismMeta, AllocError> {
         Ok(MechanismMeta {
             errno: copies.optional(&self.errno),
             mach_exception: copies.optional(&self.mach_exception),
@@ -108,7 +108,7 @@ impl CopyTable for MechanismMeta {
     }
 }
 
-/// The form of what is told as a row that is left out where nothing is told.
+// The codec of the member `meta`, which is omitted if no field is set.
 pub(crate) struct ToldOrNothing;
 
 impl Codec<MechanismMeta> for ToldOrNothing {
@@ -126,8 +126,8 @@ impl Codec<MechanismMeta> for ToldOrNothing {
         value.write(out)
     }
 
-    fn remade(value: &MechanismMeta, way: Way) -> Result<MechanismMeta, AllocError> {
-        value.remade(way)
+    fn remake(value: &MechanismMeta, way: Way) -> Result<MechanismMeta, AllocError> {
+        value.remake(way)
     }
 
     fn is_null_tree(value: &MechanismMeta) -> bool {

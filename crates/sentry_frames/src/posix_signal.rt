@@ -1,24 +1,24 @@
-//! Signals.
+//! POSIX signals.
 
 ghost use Rattle.sentry_frames.specs.Causes.{signal_fields, signal_in_order};
 
+use sentry_json::Node;
 use sentry_members::{Formed, Member};
 use sentry_rows::{AsTable, Copier, CopyTable, ReadTable, Reader, Sink, Table};
-use sentry_trees::Node;
 use std::alloc::{AllocError, Global};
 
-/// A signal of POSIX.
+/// A POSIX signal.
 ///
 /// <https://develop.sentry.dev/sdk/data-model/event-payloads/exception/#signal>
 #[derive(Debug, Drop, PartialEq, Eq)]
 pub struct PosixSignal {
-    /// The number of the signal.
+    /// Signal number; required.
     pub number: i32,
-    /// The code of the signal, on systems of Apple.
+    /// Signal code, on Apple systems.
     pub code: Option<i32>,
-    /// The name of the signal, as `SIGSEGV`.
+    /// Name of the signal, such as `SIGSEGV`.
     pub name: Option<String>,
-    /// The name of the code, as `SEGV_MAPERR`.
+    /// Name of the signal code, such as `SEGV_MAPERR`.
     pub code_name: Option<String>,
 }
 
@@ -27,7 +27,7 @@ impl PosixSignal {
     ghost use Rattle.sentry_tables.specs.Defaults.{IsDefault};
     ghost use Rattle.sentry_frames.specs.Causes.{signal_cell};
 
-    /// The signal of number 0, without a code and names.
+    /// Creates a signal with the number 0 and no code or names.
     #[tactic(auto, unfolding(crate::specs::Causes::signal_fields))]
     pub fn default_in(_alloc: Global) -> PosixSignal
         ensures { IsDefault signal_fields result }
@@ -40,7 +40,7 @@ impl PosixSignal {
         }
     }
 
-    /// The same signal. It fails where memory is refused.
+    /// Clones the signal. `AllocError` if an allocation fails.
     pub fn clone(&self) -> Result<PosixSignal, AllocError>
         ensures { IfOk result (λ copy. signal_cell copy ≡ signal_cell self.now) }
     {
@@ -55,7 +55,8 @@ impl Formed for PosixSignal {
 impl From<i32> for PosixSignal {
     ghost use Rattle.std.specs.Prelude.{◌≡◌, None};
 
-    ghost from_gives = { λ n s. (s.number ≡ n) × (s.code ≡ None) × (s.name ≡ None) × (s.code_name ≡ None) };
+    ghost from_gives = { λ n s. (s.number ≡ n) × (s.code ≡ None) × (s.name ≡ None) ×
+        (s.code_name ≡ None) };
 
     fn from(number: i32) -> PosixSignal {
         PosixSignal {
@@ -67,11 +68,12 @@ impl From<i32> for PosixSignal {
     }
 }
 
-/// Of a number and a code.
+/// Converts a signal number and a signal code.
 impl From<(i32, i32)> for PosixSignal {
     ghost use Rattle.std.specs.Prelude.{◌≡◌, Some, None};
 
-    ghost from_gives = { λ p s. (s.number ≡ p.0) × (s.code ≡ Some p.1) × (s.name ≡ None) × (s.code_name ≡ None) };
+    ghost from_gives = { λ p s. (s.number ≡ p.0) × (s.code ≡ Some p.1) × (s.name ≡ None) ×
+        (s.code_name ≡ None) };
 
     fn from(pair: (i32, i32)) -> PosixSignal {
         let (number, code) = pair;
@@ -122,7 +124,7 @@ impl ReadTable for PosixSignal {
 
 #[tactic(auto, unfolding(crate::specs::Causes::signal_fields))]
 impl CopyTable for PosixSignal {
-    fn copied(&self, copies: &mut Copier) -> Result<PosixSignal, AllocError> {
+    fn copy_rows(&self, copies: &mut Copier) -> Result<PosixSignal, AllocError> {
         Ok(PosixSignal {
             code: copies.optional(&self.code),
             code_name: copies.optional(&self.code_name),

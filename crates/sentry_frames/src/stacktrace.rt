@@ -3,23 +3,24 @@
 ghost use Rattle.sentry_frames.specs.Frames.{stacktrace_fields, stacktrace_in_order};
 
 use crate::frame::Frame;
-use sentry_addresses::RegVal;
+use sentry_json::Node;
 use sentry_members::{Formed, Member};
 use sentry_rows::{AsTable, Copier, CopyTable, ReadTable, Reader, Sink, Table};
-use sentry_trees::Node;
+use sentry_text::RegVal;
 use serde_json::Map;
 use std::alloc::{AllocError, Global};
 
-/// The calls that were going on in a thread, the oldest first.
+/// The stack trace of a thread: its calls in progress, oldest first.
 ///
 /// <https://develop.sentry.dev/sdk/data-model/event-payloads/stacktrace/>
 #[derive(Debug, Drop, PartialEq)]
 pub struct Stacktrace {
-    /// The frames, from the caller to the called.
+    /// Stack frames, from caller to callee; written even if empty.
     pub frames: Vec<Frame>,
-    /// Where frames were left out: the first of these, and the one after them.
+    /// Range of omitted frames, as a JSON array of two numbers: the first omitted frame and the
+    /// first frame after the range.
     pub frames_omitted: Option<(u64, u64)>,
-    /// The values of the registers, by name.
+    /// Register values, by register name.
     pub registers: Map<String, RegVal>,
 }
 
@@ -28,7 +29,7 @@ impl Stacktrace {
     ghost use Rattle.sentry_tables.specs.Defaults.{IsDefault};
     ghost use Rattle.sentry_frames.specs.Frames.{stacktrace_cell};
 
-    /// A stack trace without frames and registers.
+    /// Creates a stack trace without frames or registers.
     #[tactic(auto, unfolding(crate::specs::Frames::stacktrace_fields))]
     pub fn default_in(alloc: Global) -> Stacktrace
         ensures { IsDefault stacktrace_fields result }
@@ -40,9 +41,9 @@ impl Stacktrace {
         }
     }
 
-    /// The stack trace of frames that begin with the called, or `None` where there are none.
+    /// Creates a stack trace from frames in reverse order: from callee to caller.
     ///
-    /// The frames of the answer stand in reverse; nothing else is known of it.
+    /// Returns `None` if `frames` is empty. The trace has no registers and no omitted frames.
     pub fn from_frames_reversed(mut frames: Vec<Frame>) -> Option<Stacktrace>
         ensures none { result ≡ None ↔ (frames.items ≡ []) }
         ensures frames { IfSome result (λ trace. trace.frames.items ≡ reverse frames.items) }
@@ -61,7 +62,7 @@ impl Stacktrace {
         })
     }
 
-    /// The same stack trace. It fails where memory is refused.
+    /// Clones the stack trace. `AllocError` if an allocation fails.
     pub fn clone(&self) -> Result<Stacktrace, AllocError>
         ensures { IfOk result (λ copy. stacktrace_cell copy ≡ stacktrace_cell self.now) }
     {
@@ -99,7 +100,7 @@ impl ReadTable for Stacktrace {
 
 #[tactic(auto, unfolding(crate::specs::Frames::stacktrace_fields))]
 impl CopyTable for Stacktrace {
-    fn copied(&self, copies: &mut Copier) -> Result<Stacktrace, AllocError> {
+    fn copy_rows(&self, copies: &mut Copier) -> Result<Stacktrace, AllocError> {
         Ok(Stacktrace {
             frames: copies.list(&self.frames),
             frames_omitted: copies.optional(&self.frames_omitted),

@@ -1,30 +1,30 @@
-//! Places in templates.
+//! Template information: locations of errors in templates.
 
 ghost use Rattle.sentry_frames.specs.Frames.{template_fields, template_in_order};
 
+use sentry_json::Node;
 use sentry_members::{Formed, Member};
 use sentry_rows::{AsTable, Copier, CopyTable, ReadTable, Reader, Sink, Table};
-use sentry_trees::Node;
 use std::alloc::{AllocError, Global};
 
-/// Where in a template an error came about.
+/// The location of an error in a template.
 ///
 /// <https://develop.sentry.dev/sdk/data-model/event-payloads/template/>
 #[derive(Debug, Drop, PartialEq)]
 pub struct TemplateInfo {
-    /// The name of the template file.
+    /// Name of the template file.
     pub filename: Option<String>,
-    /// The absolute path of the template file.
+    /// Absolute path of the template file.
     pub abs_path: Option<String>,
-    /// The number of the line.
+    /// Line number in the template file.
     pub lineno: Option<u64>,
-    /// The number of the column.
+    /// Column number in the template line.
     pub colno: Option<u64>,
-    /// The lines before the line.
+    /// Template lines before the line `lineno`.
     pub pre_context: Vec<String>,
-    /// The line itself.
+    /// Template line at `lineno`.
     pub context_line: Option<String>,
-    /// The lines after the line.
+    /// Template lines after the line `lineno`.
     pub post_context: Vec<String>,
 }
 
@@ -33,7 +33,7 @@ impl TemplateInfo {
     ghost use Rattle.sentry_tables.specs.Defaults.{IsDefault};
     ghost use Rattle.sentry_frames.specs.Frames.{template_cell};
 
-    /// A place of which nothing is known.
+    /// Creates template information with no fields set.
     #[tactic(auto, unfolding(crate::specs::Frames::template_fields))]
     pub fn default_in(alloc: Global) -> TemplateInfo
         ensures { IsDefault template_fields result }
@@ -49,7 +49,7 @@ impl TemplateInfo {
         }
     }
 
-    /// The same place. It fails where memory is refused.
+    /// Clones the template information. `AllocError` if an allocation fails.
     pub fn clone(&self) -> Result<TemplateInfo, AllocError>
         ensures { IfOk result (λ copy. template_cell copy ≡ template_cell self.now) }
     {
@@ -95,7 +95,7 @@ impl ReadTable for TemplateInfo {
 
 #[tactic(auto, unfolding(crate::specs::Frames::template_fields))]
 impl CopyTable for TemplateInfo {
-    fn copied(&self, copies: &mut Copier) -> Result<TemplateInfo, AllocError> {
+    fn copy_rows(&self, copies: &mut Copier) -> Result<TemplateInfo, AllocError> {
         Ok(TemplateInfo {
             abs_path: copies.optional(&self.abs_path),
             colno: copies.optional(&self.colno),

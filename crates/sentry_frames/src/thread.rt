@@ -1,12 +1,12 @@
-//! Threads.
+//! Threads of the program.
 
 ghost use Rattle.sentry_frames.specs.Threads.{thread_fields, thread_in_order};
 
 use crate::stacktrace::Stacktrace;
 use crate::thread_id::ThreadId;
+use sentry_json::Node;
 use sentry_members::{Formed, Member};
 use sentry_rows::{AsTable, Copier, CopyTable, ReadTable, Reader, Sink, Table};
-use sentry_trees::Node;
 use std::alloc::{AllocError, Global};
 
 /// A thread of the program.
@@ -14,17 +14,17 @@ use std::alloc::{AllocError, Global};
 /// <https://develop.sentry.dev/sdk/data-model/event-payloads/threads/>
 #[derive(Debug, Drop, PartialEq)]
 pub struct Thread {
-    /// The id of the thread, mostly a number.
+    /// Thread id, usually a number.
     pub id: Option<ThreadId>,
-    /// The name of the thread.
+    /// Thread name.
     pub name: Option<String>,
-    /// What the thread was doing.
+    /// Stack trace of the thread.
     pub stacktrace: Option<Stacktrace>,
-    /// The same before it was worked on.
+    /// Stack trace as captured, before processing.
     pub raw_stacktrace: Option<Stacktrace>,
-    /// Whether the thread crashed.
+    /// Whether the thread crashed; defaults to `false`.
     pub crashed: bool,
-    /// Whether the thread was running when the event was made.
+    /// Whether the thread was running when the event was created; defaults to `false`.
     pub current: bool,
 }
 
@@ -33,7 +33,7 @@ impl Thread {
     ghost use Rattle.sentry_tables.specs.Defaults.{IsDefault};
     ghost use Rattle.sentry_frames.specs.Threads.{thread_cell};
 
-    /// A thread of which nothing is known.
+    /// Creates a thread with no fields set.
     #[tactic(auto, unfolding(crate::specs::Threads::thread_fields))]
     pub fn default_in(_alloc: Global) -> Thread
         ensures { IsDefault thread_fields result }
@@ -48,7 +48,7 @@ impl Thread {
         }
     }
 
-    /// The same thread. It fails where memory is refused.
+    /// Clones the thread. `AllocError` if an allocation fails.
     pub fn clone(&self) -> Result<Thread, AllocError>
         ensures { IfOk result (λ copy. thread_cell copy ≡ thread_cell self.now) }
     {
@@ -92,7 +92,7 @@ impl ReadTable for Thread {
 
 #[tactic(auto, unfolding(crate::specs::Threads::thread_fields))]
 impl CopyTable for Thread {
-    fn copied(&self, copies: &mut Copier) -> Result<Thread, AllocError> {
+    fn copy_rows(&self, copies: &mut Copier) -> Result<Thread, AllocError> {
         Ok(Thread {
             crashed: copies.plain(&self.crashed),
             current: copies.plain(&self.current),

@@ -1,23 +1,24 @@
-//! Ids of threads.
+//! Thread ids.
 
 ghost use Rattle.sentry_frames.specs.ThreadIds.{thread_id_kind, thread_id_cell};
 
 use json::Writer;
+use sentry_json::Node;
 use sentry_members::{FromTree, Member, TreeError, Way};
-use sentry_trees::Node;
 use serde_json::Value;
 use std::alloc::{AllocError, Global};
 use std::fmt;
 
-/// The id of a thread: a whole number, or a text.
+/// The id of a thread: a whole number or a string.
 ///
-/// In trees a number is a number and a text a text, even one of digits alone.
+/// In JSON, a whole number below 2^64 or a string; a string of digits stays a string.
+///
 /// <https://develop.sentry.dev/sdk/data-model/event-payloads/threads/>
 #[derive(Debug, Drop, PartialEq, Eq, PartialOrd, Ord, Hash)]
 pub enum ThreadId {
-    /// A number.
+    /// A whole number.
     Int(u64),
-    /// A text.
+    /// A string.
     String(String),
 }
 
@@ -25,14 +26,14 @@ impl ThreadId {
     ghost use Rattle.std.specs.Prelude.{◌≡◌, IfOk};
     ghost use Rattle.sentry_tables.specs.Cell.{text as text_of};
 
-    /// The id that is this text. It fails where memory is refused.
+    /// Creates a string id. `AllocError` if an allocation fails.
     pub fn from_text(alloc: Global, text: &str) -> Result<ThreadId, AllocError>
         ensures { IfOk result (λ id. thread_id_cell id ≡ text_of text.now) }
     {
         Ok(ThreadId::String(String::from_str(alloc, text)?))
     }
 
-    /// The same id. It fails where memory is refused.
+    /// Clones the id. `AllocError` if an allocation fails.
     pub fn clone(&self) -> Result<ThreadId, AllocError>
         ensures { IfOk result (λ copy. thread_id_cell copy ≡ thread_id_cell self.now) }
     {
@@ -43,7 +44,7 @@ impl ThreadId {
     }
 }
 
-/// The number 0.
+/// Defaults to the number 0.
 impl Default for ThreadId {
     ghost use Rattle.std.specs.Prelude.{◌≡◌};
     ghost use Rattle.sentry_frames.specs.declared.thread_id.ThreadId.TheVariants.{Int};
@@ -55,7 +56,7 @@ impl Default for ThreadId {
     }
 }
 
-/// The text.
+/// Converts a string to a string id, even a string of digits.
 impl From<String> for ThreadId {
     ghost use Rattle.std.specs.Prelude.{◌≡◌};
     ghost use Rattle.sentry_frames.specs.declared.thread_id.ThreadId.TheVariants.{String as Text};
@@ -67,7 +68,7 @@ impl From<String> for ThreadId {
     }
 }
 
-/// The number. A negative one stands for its 64 bits in two's complement.
+/// Converts a number; a negative number becomes its 64 bits in two's complement.
 impl From<i64> for ThreadId {
     ghost use Rattle.std.specs.Prelude.{◌≡◌};
     ghost use Rattle.std.specs.Int.{w64, cast_unsigned};
@@ -80,13 +81,13 @@ impl From<i64> for ThreadId {
     }
 }
 
-/// The number. A negative one stands for its 64 bits in two's complement.
+/// Converts a number; a negative number becomes its 64 bits in two's complement.
 impl From<i32> for ThreadId {
     ghost use Rattle.std.specs.Prelude.{◌≡◌};
     ghost use Rattle.std.specs.Int.{w64, cast_unsigned};
     ghost use Rattle.sentry_frames.specs.declared.thread_id.ThreadId.TheVariants.{Int};
 
-    // the sign is extended to 64 bits
+    // The sign is extended to 64 bits first.
     ghost from_gives = { λ n id. id ≡ Int (cast_unsigned w64 n) };
 
     fn from(number: i32) -> ThreadId {
@@ -94,7 +95,6 @@ impl From<i32> for ThreadId {
     }
 }
 
-/// The number.
 impl From<u32> for ThreadId {
     ghost use Rattle.std.specs.Prelude.{◌≡◌};
     ghost use Rattle.sentry_frames.specs.declared.thread_id.ThreadId.TheVariants.{Int};
@@ -106,7 +106,6 @@ impl From<u32> for ThreadId {
     }
 }
 
-/// The number.
 impl From<u16> for ThreadId {
     ghost use Rattle.std.specs.Prelude.{◌≡◌};
     ghost use Rattle.sentry_frames.specs.declared.thread_id.ThreadId.TheVariants.{Int};
@@ -118,7 +117,7 @@ impl From<u16> for ThreadId {
     }
 }
 
-/// The number in base 10, or the text.
+/// Formats a number in base 10 and a string as is.
 impl fmt::Display for ThreadId {
     ghost use Rattle.std.specs.Prelude.{Some};
     ghost use Rattle.sentry_frames.specs.ThreadIds.{thread_id_text};
@@ -155,7 +154,7 @@ impl Member for ThreadId {
     }
 
     #[tactic(auto, using(crate::proofs::ThreadIds::id_made))]
-    fn remade(&self, _way: Way) -> Result<ThreadId, AllocError> {
+    fn remake(&self, _way: Way) -> Result<ThreadId, AllocError> {
         self.clone()
     }
 

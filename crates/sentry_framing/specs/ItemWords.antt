@@ -1,5 +1,6 @@
 -- The types of items, and the words that stand for them in item headers.
-use Rattle.std.specs.Prelude.{ℕ, List, [], ◌∷◌, codes}
+use Rattle.std.specs.Prelude.{ℕ, List, [], ◌∷◌, Option, map, find, codes}
+use Rattle.std.specs.Str.{bytes_eq}
 use Rattle.sentry_framing.specs.declared.kind.ItemKind.{ItemKind}
 use Rattle.sentry_framing.specs.declared.kind.ItemKind.TheVariants as kind
 
@@ -17,12 +18,19 @@ kind_word kind.Logs = codes "log"
 kind_word kind.Metrics = codes "trace_metric"
 kind_word kind.ClientReport = codes "client_report"
 
--- the words of all types, in order
+-- all types, in order
+abbrev pub item_kinds : List ItemKind
+item_kinds =
+    kind.Event ∷ kind.SessionUpdate ∷ kind.SessionAggregates ∷ kind.Transaction ∷ kind.Attachment ∷ kind.MonitorCheckIn ∷
+    kind.UserReport ∷ kind.ReplayRecording ∷ kind.Logs ∷ kind.Metrics ∷ kind.ClientReport ∷ []
+
+-- their words
 abbrev pub item_words : List (List ℕ)
-item_words =
-    kind_word kind.Event ∷ kind_word kind.SessionUpdate ∷ kind_word kind.SessionAggregates ∷ kind_word kind.Transaction ∷
-    kind_word kind.Attachment ∷ kind_word kind.MonitorCheckIn ∷ kind_word kind.UserReport ∷ kind_word kind.ReplayRecording ∷
-    kind_word kind.Logs ∷ kind_word kind.Metrics ∷ kind_word kind.ClientReport ∷ []
+item_words = map kind_word item_kinds
+
+-- the type that a word stands for, if it stands for one
+abbrev pub kind_of_word : List ℕ → Option ItemKind
+kind_of_word word = find (λ k. bytes_eq word (kind_word k)) item_kinds
 
 -- where the word of a type stands in that list
 abbrev pub kind_place : ItemKind → ℕ

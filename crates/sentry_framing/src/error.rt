@@ -1,35 +1,36 @@
-// Why bytes are no envelope.
+//! The error of reading an envelope.
 use std::alloc::{AllocError, AllocFailed};
 use thiserror::Error;
 
-/// Why bytes are no envelope.
+/// The error of reading an envelope.
 ///
-/// The texts are those of Sentry's own crate `sentry-types`.
+/// The messages are those of Sentry's own crate `sentry-types`.
 #[derive(Debug, Drop, Error)]
 pub enum EnvelopeError {
-    /// Only white space is left where an item is due, fewer bytes are left than its header states, or a file can't be
-    /// read.
+    /// Only white space is left where an item is expected, fewer bytes are left than an item header
+    /// states, or a file can't be read.
     #[error("unexpected end of file")]
     UnexpectedEof,
-    /// Not answered by any call: an empty header line is an `InvalidHeader`.
+    /// Never returned: an empty header line is an `InvalidHeader`.
     #[error("missing envelope header")]
     MissingHeader,
-    /// Not answered by any call: bytes that are no item header are an `InvalidItemHeader`.
+    /// Never returned: bytes that are no item header are an `InvalidItemHeader`.
     #[error("missing item header")]
     MissingItemHeader,
-    /// Something else than a line feed or the end follows an item header, or a payload of a stated length.
+    /// An item header, or a payload of a stated length, is followed by anything but a line feed or
+    /// the end.
     #[error("missing newline after header or payload")]
     MissingNewline,
-    /// The first line isn't one JSON object without floats whose fields fit.
+    /// The first line isn't one JSON object without floats that reads as envelope headers.
     #[error("invalid envelope header")]
     InvalidHeader,
-    /// No JSON object without floats whose fields fit stands where an item begins.
+    /// An item doesn't begin with a JSON object without floats that reads as an item header.
     #[error("invalid item header")]
     InvalidItemHeader,
-    /// The payload isn't one JSON text without floats that its type reads.
+    /// A payload isn't one JSON text without floats that reads as its item type.
     #[error("invalid item payload")]
     InvalidItemPayload,
-    /// Memory was refused; the bytes may be an envelope.
+    /// An allocation failed; the bytes may be an envelope.
     #[error("out of memory")]
     OutOfMemory,
 }

@@ -1,4 +1,4 @@
-// The frames of an envelope, borrowed from its bytes.
+//! The item frames of an envelope, borrowed from its bytes.
 ghost use Rattle.std.specs.Prelude.{◌≡◌, ◌≢◌, ◌↔◌, ◌<◌, [], ℕ, IfOk, IfErr, IfSome, IsNone, Some, length};
 ghost use Rattle.sentry_framing.specs.Framing.{CutsPayload, IsFault, IsFirstFrame, IsLineAndBody, Opens, Reading};
 ghost use Rattle.sentry_framing.specs.ItemHeader.{read_header, stated_length};
@@ -11,23 +11,24 @@ use crate::header::{ItemHeader, read_item_header_into};
 use crate::lines::{end_line, skip_space, split_line};
 use crate::piece::piece_len;
 use json::Scratch;
-use sentry_trees::scratch;
+use sentry_json::scratch;
 use std::alloc::Global;
 use std::marker::Model;
 
-/// An item of an envelope: the bytes of its header, and of the payload that follows it.
+/// An item frame: the bytes of an item header and of its payload.
 #[derive(Clone, Copy, Debug)]
 pub struct ItemFrame<'a> {
-    /// The bytes of its header, from its `{` to its `}`.
+    /// Bytes of the item header, from its `{` to its `}`.
     pub header: &'a [u8],
-    /// The bytes of its payload, without the line feeds around it.
+    /// Bytes of the payload, without the line feeds around it.
     pub payload: &'a [u8],
 }
 
-/// The frames of an envelope that are still to be read.
+/// A reader of the item frames of an envelope.
 ///
-/// An envelope is a header line, and items of a header, a line feed and a payload, as
-/// <https://develop.sentry.dev/sdk/data-model/envelopes/> lays down. No header and no payload is copied.
+/// An envelope is a header line, and items of a header, a line feed and a payload:
+/// <https://develop.sentry.dev/sdk/data-model/envelopes/>. Headers and payloads are borrowed, not
+/// copied.
 #[derive(Drop)]
 pub struct Frames<'a> {
     header_line: &'a [u8],
@@ -43,7 +44,7 @@ impl<'a> Model for Frames<'a> {
 }
 
 impl<'a> Frames<'a> {
-    /// The frames of an envelope. The header line isn't read as JSON.
+    /// Creates a reader of the frames of an envelope. The header line isn't parsed.
     pub fn new(bytes: &'a [u8]) -> Frames<'a>
         ensures { IsLineAndBody bytes.now result.header_line result.rest }
     {
@@ -54,32 +55,38 @@ impl<'a> Frames<'a> {
         }
     }
 
-    /// The bytes before the first line feed, or all where there is none.
+    /// Returns the header line: the bytes before the first line feed, or all bytes if there is
+    /// none.
     pub fn header_line(&self) -> &'a [u8]
         ensures { result.now ≡ self.now.header_line }
     {
         self.header_line
     }
 
-    /// The body that is left.
+    /// Returns the bytes that are still to be read.
     pub fn rest(&self) -> &'a [u8]
         ensures { result.now ≡ self.now.rest }
     {
         self.rest
     }
 
-    /// The first frame of what is left, or the first check of it that fails.
+    /// Returns the next frame; `None` if no bytes are left. The payload isn't parsed.
     ///
-    /// None is answered where nothing is left. The payload isn't read as JSON.
+    /// # Errors
     ///
-    /// After `OutOfMemory` the reader is unchanged and may be asked again. After another error nothing is left:
+    /// The first check of the bytes left that fails:
     ///
-    /// - `UnexpectedEof` where only white space is left, or fewer bytes than the header states;
-    /// - `InvalidItemHeader` where no item header stands after white space: a `{`, what is balanced, and its `}`,
-    ///   that are one JSON object without floats, with a known `type`, and with `length`, `content_type`, `filename`
-    ///   and `attachment_type` absent, null, or a whole number below 2^64 and texts;
-    /// - `MissingNewline` where the header, or a payload of a stated length, is followed by something else than a
-    ///   line feed or the end.
+    /// - `UnexpectedEof` if only white space is left, or fewer bytes than the item header states.
+    /// - `InvalidItemHeader` if no item header follows the white space. An item header is a `{`,
+    ///   balanced content and its `}` that form one JSON object without floats, with a known
+    ///   `type`, and with `length`, a whole number below 2^64, and strings `content_type`,
+    ///   `filename` and `attachment_type`, each of which may be absent or null.
+    /// - `MissingNewline` if an item header, or a payload of a stated length, is followed by
+    ///   anything but a line feed or the end.
+    ///
+    /// After one of these errors no bytes are left.
+    ///
+    /// `OutOfMemory` if an allocation fails; `self` is unchanged, and the call can be repeated.
     pub fn next_frame(&mut self, alloc: Global) -> Option<Result<ItemFrame<'a>, EnvelopeError>>
         ensures header_line { self.new.header_line ≡ self.old.header_line }
         ensures none { IsNone result ↔ (self.old.rest ≡ []) }
@@ -99,10 +106,13 @@ impl<'a> Frames<'a> {
         }
     }
 
-    /// The first frame of what is left, with what its header says, or the first check of it that fails.
+    /// Returns the next frame with its parsed item header; `None` if no bytes are left.
     ///
-    /// It answers as [`Frames::next_frame`] does, and leaves the same. A reader of many items makes one `Scratch`
-    /// and calls [`Frames::next_item_into`].
+    /// To read many items, create one `Scratch` and call [`next_item_into`].
+    ///
+    /// # Errors
+    ///
+    /// The errors of [`Frames::next_frame`], with the same effect on `self`.
     #[inline(never)]
     pub fn next_item(
         &mut self,
@@ -123,55 +133,57 @@ impl<'a> Frames<'a> {
     {
         let mut scratch = scratch(alloc);
         let mut header = ItemHeader::new();
-        match self.next_item_into(alloc, &mut scratch, &mut header) {
+        match next_item_into(self, alloc, &mut scratch, &mut header) {
             None => None,
             Some(Ok(frame)) => Some(Ok((frame, header))),
             Some(Err(error)) => Some(Err(error)),
         }
     }
+}
 
-    /// The first frame of what is left, with `header` set to what its header says, or the first check of it that
-    /// fails.
-    ///
-    /// It answers as [`Frames::next_frame`] does, and leaves the same. The memory that reading a header needs is handed
-    /// in. After an error some fields of `header` may be set.
-    pub fn next_item_into(
-        &mut self,
-        alloc: Global,
-        scratch: &mut Scratch,
-        header: &mut ItemHeader,
-    ) -> Option<Result<ItemFrame<'a>, EnvelopeError>>
-        ensures header_line { self.new.header_line ≡ self.old.header_line }
-        ensures none { IsNone result ↔ (self.old.rest ≡ []) }
-        ensures none_left { IsNone result → self.new.rest ≡ [] }
-        ensures frame { IfSome result (λ answer. IfOk answer (λ item.
-            IsFirstFrame (stated_length item_words) self.old.rest (frame_of item) self.new.rest)) }
-        ensures header { IfSome result (λ answer. IfOk answer (λ item.
-            read_header item_words item.header.now ≡ Some (header_view header.new))) }
-        ensures fault { IfSome result (λ answer. IfErr answer (λ e. e ≢ EnvelopeError.OutOfMemory
-            → IsFault (stated_length item_words) self.old.rest e)) }
-        ensures ended { IfSome result (λ answer. IfErr answer (λ e. e ≢ EnvelopeError.OutOfMemory
-            → self.new.rest ≡ [])) }
-        ensures memory { result ≡ Some (Err EnvelopeError.OutOfMemory) → self.new ≡ self.old }
-    {
-        if self.rest.is_empty() {
-            return None;
+/// Returns the next frame, and parses its item header into `header`; `None` if no bytes are left.
+/// `scratch` is the working memory for parsing.
+///
+/// # Errors
+///
+/// The errors of [`Frames::next_frame`], with the same effect on `frames`; some fields of `header`
+/// may be set.
+pub fn next_item_into<'a>(
+    frames: &mut Frames<'a>,
+    alloc: Global,
+    scratch: &mut Scratch,
+    header: &mut ItemHeader,
+) -> Option<Result<ItemFrame<'a>, EnvelopeError>>
+    ensures header_line { frames.new.header_line ≡ frames.old.header_line }
+    ensures none { IsNone result ↔ (frames.old.rest ≡ []) }
+    ensures none_left { IsNone result → frames.new.rest ≡ [] }
+    ensures frame { IfSome result (λ answer. IfOk answer (λ item.
+        IsFirstFrame (stated_length item_words) frames.old.rest (frame_of item) frames.new.rest)) }
+    ensures header { IfSome result (λ answer. IfOk answer (λ item.
+        read_header item_words item.header.now ≡ Some (header_view header.new))) }
+    ensures fault { IfSome result (λ answer. IfErr answer (λ e. e ≢ EnvelopeError.OutOfMemory
+        → IsFault (stated_length item_words) frames.old.rest e)) }
+    ensures ended { IfSome result (λ answer. IfErr answer (λ e. e ≢ EnvelopeError.OutOfMemory
+        → frames.new.rest ≡ [])) }
+    ensures memory { result ≡ Some (Err EnvelopeError.OutOfMemory) → frames.new ≡ frames.old }
+{
+    if frames.rest.is_empty() {
+        return None;
+    }
+    match first_item(alloc, frames.rest, scratch, header) {
+        Ok((frame, rest)) => {
+            frames.rest = rest;
+            Some(Ok(frame))
         }
-        match first_item(alloc, self.rest, scratch, header) {
-            Ok((frame, rest)) => {
-                self.rest = rest;
-                Some(Ok(frame))
-            }
-            Err(EnvelopeError::OutOfMemory) => Some(Err(EnvelopeError::OutOfMemory)),
-            Err(error) => {
-                self.rest = &[];
-                Some(Err(error))
-            }
+        Err(EnvelopeError::OutOfMemory) => Some(Err(EnvelopeError::OutOfMemory)),
+        Err(error) => {
+            frames.rest = &[];
+            Some(Err(error))
         }
     }
 }
 
-/// The payload at the front, and what follows it.
+// Splits off the payload: the stated number of bytes, or the rest of the line.
 fn split_payload(stated: Option<u64>, bytes: &[u8]) -> Result<(&[u8], &[u8]), EnvelopeError>
     ensures found { IfOk result (λ x. CutsPayload stated bytes.now x.0.now x.1.now) }
     ensures short { IfErr result (λ e. (e ≡ EnvelopeError.UnexpectedEof)
@@ -185,7 +197,7 @@ fn split_payload(stated: Option<u64>, bytes: &[u8]) -> Result<(&[u8], &[u8]), En
     }
 }
 
-/// The balanced piece after the white space at the front, and what follows it.
+// Splits off the balanced piece after the white space at the front.
 fn split_header(body: &[u8]) -> Result<(&[u8], &[u8]), EnvelopeError>
     ensures found { IfOk result (λ x. Opens body.now x.0.now x.1.now) }
     ensures fault { IfErr result (λ e. (reads : Reading) → IsFault reads body.now e) }
@@ -200,15 +212,17 @@ fn split_header(body: &[u8]) -> Result<(&[u8], &[u8]), EnvelopeError>
     }
 }
 
-/// The first item of a body, with `fields` set to what its header says, and the body that follows it.
+// Returns the first frame and the bytes after the frame, and parses the item header into `fields`.
 fn first_item<'a>(
     alloc: Global,
     body: &'a [u8],
     scratch: &mut Scratch,
     fields: &mut ItemHeader,
 ) -> Result<(ItemFrame<'a>, &'a [u8]), EnvelopeError>
-    ensures frame { IfOk result (λ x. IsFirstFrame (stated_length item_words) body.now (frame_of x.0) x.1.now) }
-    ensures header { IfOk result (λ x. read_header item_words x.0.header.now ≡ Some (header_view fields.new)) }
+    ensures frame { IfOk result (λ x.
+        IsFirstFrame (stated_length item_words) body.now (frame_of x.0) x.1.now) }
+    ensures header { IfOk result (λ x.
+        read_header item_words x.0.header.now ≡ Some (header_view fields.new)) }
     ensures fault { IfErr result (λ e. e ≢ EnvelopeError.OutOfMemory
         → IsFault (stated_length item_words) body.now e) }
 {

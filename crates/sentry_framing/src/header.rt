@@ -1,7 +1,7 @@
-// What an item header says.
+//! Item headers.
 ghost use Rattle.std.specs.Prelude.{◌≡◌, [], ◌∷◌, ◌⊎◌, Some, None, IfOk, IfErr, OnOk, option_map, string_bytes};
 ghost use Rattle.serde_json.specs.Find.{as_str};
-ghost use Rattle.sentry_trees.specs.Tree.{data_at};
+ghost use Rattle.sentry_json.specs.Tree.{data_at};
 ghost use Rattle.sentry_framing.specs.ItemHeader.{header_of, kind_of, read_header, optional, whole_number};
 ghost use Rattle.sentry_framing.specs.ItemWords.{item_words, kind_place};
 ghost use Rattle.sentry_framing.specs.declared.kind.ItemKind.TheVariants as kinds;
@@ -10,8 +10,8 @@ ghost use Rattle.sentry_framing.specs.HeaderView.{header_view};
 use crate::error::EnvelopeError;
 use crate::kind::ItemKind;
 use json::Scratch;
+use sentry_json::{Branch, Line, LineError, Node, scratch};
 use sentry_members::{TreeError, read_tree};
-use sentry_trees::{Branch, Line, LineError, Node, scratch};
 use std::alloc::Global;
 
 /// The fields of an item header.
@@ -19,22 +19,29 @@ use std::alloc::Global;
 /// <https://develop.sentry.dev/sdk/data-model/envelopes/#items>
 #[derive(Debug, Drop)]
 pub struct ItemHeader {
-    /// What the item is.
+    /// Item type (`type`).
     pub kind: ItemKind,
-    /// How many bytes its payload has; without it the payload ends its line.
+    /// Payload size in bytes; if `None`, the payload ends at the next line feed or the end.
     pub length: Option<u64>,
-    /// An attachment's media type.
+    /// Media type of an attachment.
     pub content_type: Option<String>,
-    /// An attachment's name.
+    /// File name of an attachment.
     pub filename: Option<String>,
-    /// What an attachment is for.
+    /// Attachment type, such as `event.minidump`.
     pub attachment_type: Option<String>,
 }
 
 impl ItemHeader {
-    /// A header that says that the item is an attachment, and nothing else.
+    /// Creates the header of an attachment, with no other fields set.
     pub fn new() -> ItemHeader
-        ensures { header_view result ≡ record { kind = kind_place kinds.Attachment; length = None; content_type = None; filename = None; attachment_type = None } }
+        ensures { header_view result ≡
+            record {
+              kind = kind_place kinds.Attachment;
+              length = None;
+              content_type = None;
+              filename = None;
+              attachment_type = None;
+            } }
     {
         ItemHeader {
             kind: ItemKind::Attachment,
@@ -46,9 +53,9 @@ impl ItemHeader {
     }
 }
 
-/// What the word at a place stands for.
 fn kind<N: Node>(place: &Option<N>) -> Result<ItemKind, TreeError>
-    ensures ok { IfOk result (λ kind. kind_of item_words (option_map N.data_of place.now) ≡ Some (kind_place kind)) }
+    ensures ok { IfOk result (λ kind.
+        kind_of item_words (option_map N.data_of place.now) ≡ Some (kind_place kind)) }
     ensures misfit { IfErr result (λ e. (e ≡ TreeError.Misfit)
         × (kind_of item_words (option_map N.data_of place.now) ≡ None)) }
 {
@@ -61,10 +68,12 @@ fn kind<N: Node>(place: &Option<N>) -> Result<ItemKind, TreeError>
     }
 }
 
-/// A number that may be absent or null.
+// `None` if the member is absent or null.
 fn optional_number<N: Node>(place: &Option<N>) -> Result<Option<u64>, TreeError>
-    ensures ok { IfOk result (λ number. optional whole_number (option_map N.data_of place.now) ≡ Some number) }
-    ensures misfit { result ≡ Err TreeError.Misfit → optional whole_number (option_map N.data_of place.now) ≡ None }
+    ensures ok { IfOk result (λ number.
+        optional whole_number (option_map N.data_of place.now) ≡ Some number) }
+    ensures misfit { result ≡ Err TreeError.Misfit →
+        optional whole_number (option_map N.data_of place.now) ≡ None }
 {
     match place {
         None => Ok(None),
@@ -73,10 +82,12 @@ fn optional_number<N: Node>(place: &Option<N>) -> Result<Option<u64>, TreeError>
     }
 }
 
-/// A text that may be absent or null.
+// `None` if the member is absent or null.
 fn optional_text<N: Node>(alloc: Global, place: &Option<N>) -> Result<Option<String>, TreeError>
-    ensures ok { IfOk result (λ text. optional as_str (option_map N.data_of place.now) ≡ Some (option_map string_bytes text)) }
-    ensures misfit { result ≡ Err TreeError.Misfit → optional as_str (option_map N.data_of place.now) ≡ None }
+    ensures ok { IfOk result (λ text.
+        optional as_str (option_map N.data_of place.now) ≡ Some (option_map string_bytes text)) }
+    ensures misfit { result ≡ Err TreeError.Misfit →
+        optional as_str (option_map N.data_of place.now) ≡ None }
 {
     match place {
         None => Ok(None),
@@ -91,9 +102,8 @@ fn optional_text<N: Node>(alloc: Global, place: &Option<N>) -> Result<Option<Str
     }
 }
 
-/// Sets the fields to those that a tree shows. After a refusal some of them may be set.
-///
-/// Where they stand goes into `places`, which is empty before.
+// Reads the fields from a JSON node. `places` is filled with the nodes of the members. Some fields
+// may be set after an error.
 #[tactic(auto, unfolding(crate::specs::ItemHeader::header_of))]
 fn fill_header<N: Node>(
     alloc: Global,
@@ -102,8 +112,10 @@ fn fill_header<N: Node>(
     fields: &mut ItemHeader,
 ) -> Result<(), TreeError>
     requires { places.old ≡ None ∷ None ∷ None ∷ None ∷ None ∷ [] }
-    ensures ok { OnOk result (header_of item_words (N.data_of node.now) ≡ Some (header_view fields.new)) }
-    ensures misfit { result ≡ Err TreeError.Misfit → header_of item_words (N.data_of node.now) ≡ None }
+    ensures ok { OnOk result (header_of item_words (N.data_of node.now) ≡
+        Some (header_view fields.new)) }
+    ensures misfit { result ≡ Err TreeError.Misfit →
+        header_of item_words (N.data_of node.now) ≡ None }
 {
     node.get_each(
         &[
@@ -123,22 +135,21 @@ fn fill_header<N: Node>(
     Ok(())
 }
 
-/// Sets the fields to those that a place in a tape shows.
 fn fill_from_branch<'t, 'a>(
     alloc: Global,
     root: &Branch<'t, 'a>,
     fields: &mut ItemHeader,
 ) -> Result<(), TreeError>
-    ensures ok { OnOk result (header_of item_words (data_at root.now.at) ≡ Some (header_view fields.new)) }
-    ensures misfit { result ≡ Err TreeError.Misfit → header_of item_words (data_at root.now.at) ≡ None }
+    ensures ok { OnOk result (header_of item_words (data_at root.now.at) ≡
+        Some (header_view fields.new)) }
+    ensures misfit { result ≡ Err TreeError.Misfit →
+        header_of item_words (data_at root.now.at) ≡ None }
 {
     let mut places: [Option<Branch<'t, 'a>>; 5] = [None, None, None, None, None];
     fill_header(alloc, root, &mut places, fields)
 }
 
-/// Sets the fields to those that a line shows.
-///
-/// The line is read through a tape, and through a tree of values where a tape doesn't serve.
+// Reads the line by a tape, and by a tree of values if a tape can't hold the line.
 #[tactic(auto, unfolding(crate::specs::ItemHeader::read_header))]
 fn fill_from_line(
     alloc: Global,
@@ -160,7 +171,6 @@ fn fill_from_line(
     }
 }
 
-/// Sets the fields to those that a line shows, through a tree of values.
 #[cold]
 #[inline(never)]
 #[tactic(auto, unfolding(crate::specs::ItemHeader::read_header))]
@@ -172,18 +182,20 @@ fn fill_from_tree(alloc: Global, line: &[u8], fields: &mut ItemHeader) -> Result
     fill_header(alloc, &&tree, &mut [None, None, None, None, None], fields)
 }
 
-/// The fields of the item header that stands in these bytes. Other keys are ignored.
+/// Parses an item header. Members that [`ItemHeader`] has no field for are ignored.
 ///
-/// A reader of many headers makes one `Scratch` and calls [`read_item_header_into`].
+/// To read many headers, create one `Scratch` and call [`read_item_header_into`].
 ///
 /// # Errors
 ///
-/// - `InvalidItemHeader`: the bytes aren't one JSON object without floats, with a known `type`, and with `length`,
-///   `content_type`, `filename` and `attachment_type` absent, null, or a whole number below 2^64 and texts.
-/// - `OutOfMemory`: memory was refused.
+/// - `InvalidItemHeader` if the bytes aren't one JSON object without floats, with a known `type`,
+///   and with `length`, a whole number below 2^64, and strings `content_type`, `filename` and
+///   `attachment_type`, each of which may be absent or null.
+/// - `OutOfMemory` if an allocation fails.
 #[inline(never)]
 pub fn read_item_header(alloc: Global, header: &[u8]) -> Result<ItemHeader, EnvelopeError>
-    ensures ok { IfOk result (λ fields. read_header item_words header.now ≡ Some (header_view fields)) }
+    ensures ok { IfOk result (λ fields.
+        read_header item_words header.now ≡ Some (header_view fields)) }
     ensures err { IfErr result (λ e. (e ≡ EnvelopeError.OutOfMemory)
         ⊎ ((e ≡ EnvelopeError.InvalidItemHeader) × (read_header item_words header.now ≡ None))) }
 {
@@ -195,9 +207,11 @@ pub fn read_item_header(alloc: Global, header: &[u8]) -> Result<ItemHeader, Enve
     }
 }
 
-/// Sets `fields` to those of the item header that stands in these bytes, with the memory that reading needs handed in.
+/// Parses an item header into `fields`. `scratch` is the working memory for parsing.
 ///
-/// It answers as [`read_item_header`] does. After an error some of the fields may be set.
+/// # Errors
+///
+/// The errors of [`read_item_header`]; some fields may be set.
 pub fn read_item_header_into(
     alloc: Global,
     header: &[u8],

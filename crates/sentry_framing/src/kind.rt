@@ -1,23 +1,23 @@
-// The types of items.
+//! Item types.
 
-/// What an item is, by the `type` in its header.
+/// The type of an item: `type` in its item header.
 ///
 /// <https://develop.sentry.dev/sdk/data-model/envelope-items/>
 #[derive(Clone, Copy, Debug, PartialEq, Eq)]
 pub enum ItemKind {
-    /// `event`: something that happened in a program, as an error.
+    /// `event`: an event, such as an error.
     Event,
-    /// `session`: an update of one session.
+    /// `session`: a session update.
     SessionUpdate,
-    /// `sessions`: sessions that are counted in groups.
+    /// `sessions`: session aggregates, which count sessions in groups.
     SessionAggregates,
-    /// `transaction`: the spans of one piece of work.
+    /// `transaction`: a transaction, with its spans.
     Transaction,
-    /// `attachment`: a file that goes with an event.
+    /// `attachment`: a file sent along with an event.
     Attachment,
-    /// `check_in`: a monitored job reports how it goes.
+    /// `check_in`: a check-in of a monitor.
     MonitorCheckIn,
-    /// `user_report`: what a user says of an event.
+    /// `user_report`: feedback of a user on an event.
     UserReport,
     /// `replay_recording`: a part of a recorded session.
     ReplayRecording,
@@ -25,18 +25,33 @@ pub enum ItemKind {
     Logs,
     /// `trace_metric`: a container of metrics.
     Metrics,
-    /// `client_report`: what a client couldn't send.
+    /// `client_report`: counts of what a client didn't send.
     ClientReport,
 }
 
 impl ItemKind {
     ghost use Rattle.std.specs.Prelude.{◌≡◌, option_map};
     ghost use Rattle.sentry_framing.specs.ItemHeader.{place_of};
-    ghost use Rattle.sentry_framing.specs.ItemWords.{item_words, kind_place, kind_word};
+    ghost use Rattle.sentry_framing.specs.ItemWords.{item_words, kind_of_word, kind_place, kind_word};
 
-    /// The word that stands for the type in an item header.
-    pub fn word(self) -> &'static str
-        ensures { result.now ≡ kind_word self }
+    /// All item types.
+    pub const ALL: &'static [ItemKind] = &[
+        ItemKind::Event,
+        ItemKind::SessionUpdate,
+        ItemKind::SessionAggregates,
+        ItemKind::Transaction,
+        ItemKind::Attachment,
+        ItemKind::MonitorCheckIn,
+        ItemKind::UserReport,
+        ItemKind::ReplayRecording,
+        ItemKind::Logs,
+        ItemKind::Metrics,
+        ItemKind::ClientReport,
+    ];
+
+    /// Returns the word for the type in item headers.
+    pub fn as_str(&self) -> &'static str
+        ensures { result.now ≡ kind_word self.now }
     {
         match self {
             ItemKind::Event => "event",
@@ -53,9 +68,10 @@ impl ItemKind {
         }
     }
 
-    /// The type that a word stands for.
-    pub(crate) fn from_word(word: &str) -> Option<ItemKind>
-        ensures { option_map kind_place result ≡ place_of word.now item_words }
+    /// Returns the item type that a word names; `None` for an unknown word.
+    pub fn from_word(word: &str) -> Option<ItemKind>
+        ensures kind { result ≡ kind_of_word word.now }
+        ensures place { option_map kind_place result ≡ place_of word.now item_words }
     {
         match word {
             "event" => Some(ItemKind::Event),

@@ -1,4 +1,4 @@
-// Lines and white space.
+//! Lines and white space.
 ghost use Rattle.std.specs.Prelude.{◌≡◌, ◌++◌, ◌∷◌, [], List, ℕ, IfOk, IfErr, false};
 ghost use Rattle.sentry_json.specs.Line.{HasNoNewline};
 ghost use Rattle.sentry_framing.specs.Framing.{IsBlank, EndsLine, GoesOn, is_space};
@@ -12,7 +12,7 @@ fn is_space(byte: u8) -> bool
     matches!(byte, b' ' | b'\t' | b'\n' | b'\r')
 }
 
-/// What follows the white space at the front.
+/// Returns the bytes after the white space at the front.
 pub fn skip_space(bytes: &[u8]) -> &[u8]
     ensures skipped { (space : List ℕ) × IsBlank space × (bytes.now ≡ space ++ result.now) }
     ensures all { (b : ℕ) (more : List ℕ) → result.now ≡ b ∷ more → is_space b ≡ false }
@@ -25,7 +25,7 @@ pub fn skip_space(bytes: &[u8]) -> &[u8]
     &[]
 }
 
-/// The bytes before the first newline, and the rest from it on.
+/// Splits the bytes at the first line feed, which the second part begins with, or at the end.
 pub fn split_line(bytes: &[u8]) -> (&[u8], &[u8])
     ensures parts { bytes.now ≡ result.0.now ++ result.1.now }
     ensures line { HasNoNewline result.0.now }
@@ -34,7 +34,11 @@ pub fn split_line(bytes: &[u8]) -> (&[u8], &[u8])
     bytes.split_at(memchr(b'\n', bytes).unwrap_or(bytes.len()))
 }
 
-/// What is next after the newline or the end.
+/// Returns the bytes after the line feed at the front; none at the end.
+///
+/// # Errors
+///
+/// `MissingNewline` if the first byte isn't a line feed.
 pub fn end_line(bytes: &[u8]) -> Result<&[u8], EnvelopeError>
     ensures found { IfOk result (λ next. EndsLine bytes.now next.now) }
     ensures missing { IfErr result (λ e. (e ≡ EnvelopeError.MissingNewline) × GoesOn bytes.now) }

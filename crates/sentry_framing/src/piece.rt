@@ -1,15 +1,16 @@
-// The balanced piece at the front of some bytes.
+//! The length of a balanced piece: a `{`, balanced content, and its `}`.
 ghost use Rattle.std.specs.Prelude.{◌≡◌, ◌≤◌, ◌++◌, List, ℕ, IfSome, IfNone, length, take, true};
 ghost use Rattle.sentry_json.specs.Balanced.{IsBalanced, IsStringEnd};
 ghost use Rattle.sentry_framing.specs.Quotes.{even_from};
 
 use memchr::memchr3;
 
-/// The length of the balanced piece at the front. Any bytes may follow it.
+/// Returns the length of the balanced piece at the front, if any. Any bytes may follow the piece.
 pub fn piece_len(bytes: &[u8]) -> Option<usize>
     ensures within { IfSome result (λ len. len ≤ length bytes.now) }
     ensures found { IfSome result (λ len. IsBalanced (take len bytes.now)) }
-    ensures none { IfNone result ((piece rest : List ℕ) → IsBalanced piece → bytes.now ≡ piece ++ rest → ⊥) }
+    ensures none { IfNone result ((piece rest : List ℕ) → IsBalanced piece →
+        bytes.now ≡ piece ++ rest → ⊥) }
 {
     match flat_len(bytes) {
         Some(len) => Some(len),
@@ -17,9 +18,8 @@ pub fn piece_len(bytes: &[u8]) -> Option<usize>
     }
 }
 
-/// The length of the balanced piece at the front, where no brace and no backslash stands inside it.
-///
-/// None is also answered where one does, even in a string.
+// A fast path for pieces without braces and backslashes inside; `None` for all others, even if
+// these bytes are in a string.
 fn flat_len(bytes: &[u8]) -> Option<usize>
     ensures within { IfSome result (λ len. len ≤ length bytes.now) }
     ensures found { IfSome result (λ len. IsBalanced (take len bytes.now)) }
@@ -37,7 +37,6 @@ fn flat_len(bytes: &[u8]) -> Option<usize>
     }
 }
 
-/// Whether quotes come in pairs.
 fn has_even_quotes(bytes: &[u8]) -> bool
     ensures { result ≡ even_from true bytes.now }
 {
@@ -50,11 +49,12 @@ fn has_even_quotes(bytes: &[u8]) -> bool
     even
 }
 
-/// The length of the balanced piece at the front, byte by byte.
+// Finds any balanced piece, byte by byte.
 fn nested_len(bytes: &[u8]) -> Option<usize>
     ensures within { IfSome result (λ len. len ≤ length bytes.now) }
     ensures found { IfSome result (λ len. IsBalanced (take len bytes.now)) }
-    ensures none { IfNone result ((piece rest : List ℕ) → IsBalanced piece → bytes.now ≡ piece ++ rest → ⊥) }
+    ensures none { IfNone result ((piece rest : List ℕ) → IsBalanced piece →
+        bytes.now ≡ piece ++ rest → ⊥) }
 {
     let Some((b'{', inside)) = bytes.split_first() else {
         return None;
@@ -82,11 +82,12 @@ fn nested_len(bytes: &[u8]) -> Option<usize>
     None
 }
 
-/// The length of what is left of a string at the front, up to its second quote and with it.
+// The length of a string after its opening quote, with its closing quote.
 fn string_len(bytes: &[u8]) -> Option<usize>
     ensures within { IfSome result (λ len. len ≤ length bytes.now) }
     ensures found { IfSome result (λ len. IsStringEnd (take len bytes.now)) }
-    ensures none { IfNone result ((end rest : List ℕ) → IsStringEnd end → bytes.now ≡ end ++ rest → ⊥) }
+    ensures none { IfNone result ((end rest : List ℕ) → IsStringEnd end → bytes.now ≡ end ++ rest →
+        ⊥) }
 {
     let mut i = 0usize;
     while i < bytes.len() {

@@ -10,8 +10,8 @@ use Rattle.sentry_members.proofs.Spellings.{read_as_laws, spelled_laws, spelled_
 use Rattle.sentry_identifiers.specs.CodeDigits.{code_digits, is_code_digit, are_code_digits}
 use Rattle.sentry_identifiers.specs.CodeIdTree.{IsCodeCell, code_of, code_spelling, code_kind}
 use Rattle.sentry_identifiers.proofs.CodeIds.{kept_are_digits, digits_are_kept}
-use Rattle.sentry_numbers.proofs.ValueTexts.{ValueLaws, value_laws}
-use Rattle.sentry_numbers.proofs.Bounds.{small_within, small_utf8}
+use Rattle.sentry_text.proofs.ValueTexts.{ValueLaws, value_laws}
+use Rattle.sentry_text.proofs.Bounds.{small_within, small_utf8}
 
 abbrev Digits : List ℕ → Type 0
 Digits s = are_code_digits s ≡ true

@@ -14,8 +14,8 @@ use Rattle.sentry_identifiers.specs.DebugId.{IsAppendix, debug_id_of, debug_id_t
 use Rattle.sentry_identifiers.specs.DebugIdTree.{debug_cell, IsDebugCell, debug_text, debug_spelling, debug_kind}
 use Rattle.sentry_identifiers.proofs.UuidLaws.{Bytes, gives_simple, gives_hyphenated}
 use Rattle.sentry_identifiers.proofs.DebugIds.{debug_id_of_iff, written_debug_id, eight_digits}
-use Rattle.sentry_numbers.proofs.ValueTexts.{ValueLaws, value_laws}
-use Rattle.sentry_numbers.proofs.Bounds.{small_cons, small_utf8, digits_small}
+use Rattle.sentry_text.proofs.ValueTexts.{ValueLaws, value_laws}
+use Rattle.sentry_text.proofs.Bounds.{small_cons, small_utf8, digits_small}
 
 -- ---- what is read has sixteen bytes and 32 bits
 

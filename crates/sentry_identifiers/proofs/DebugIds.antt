@@ -18,9 +18,9 @@ use Rattle.std.proofs.Math.Nat.{pow-le-pow_right, pow-zero, div-lt_iff_lt-mul}
 use Rattle.std.proofs.Math.Seq.{take-append_seam, drop-append_seam}
 use Rattle.uuid.specs.Text.{lower, parsed, parsed_simple, parsed_hyphenated, hyphenated_text, is_hex_digit, has_hyphens}
 use Rattle.uuid.proofs.RoundTrips.{parses_hyphenated_text}
-use Rattle.sentry_numbers.specs.Number.{is_numeral}
+use Rattle.sentry_text.specs.Number.{is_numeral}
 use Rattle.sentry_identifiers.specs.DebugId.{IsAppendix, IsDebugId, id_size, appendix_of, debug_id_of, appendix_text, debug_id_text}
-use Rattle.sentry_numbers.proofs.NumberTexts.{numeral_tells}
+use Rattle.sentry_text.proofs.NumberTexts.{numeral_tells}
 
 -- ---- the appendix
 

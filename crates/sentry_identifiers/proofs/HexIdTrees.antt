@@ -14,7 +14,7 @@ use Rattle.sentry_members.specs.Spelling.{SpellingLaws, spelled_kind}
 use Rattle.sentry_members.proofs.Spellings.{read_as_laws, spelled_refuses_null}
 use Rattle.sentry_identifiers.specs.HexId.{hex_id_of}
 use Rattle.sentry_identifiers.specs.HexIdTree.{IsOctets, hex_text, hex_id_spelling}
-use Rattle.sentry_numbers.proofs.ValueTexts.{ValueLaws, value_laws}
+use Rattle.sentry_text.proofs.ValueTexts.{ValueLaws, value_laws}
 use Rattle.sentry_identifiers.proofs.HexIds.{digit_of, hex_id_of_iff, written_id}
 
 -- ---- the written text is ASCII

@@ -7,7 +7,7 @@ use Rattle.uuid.specs.Text.{lower, hyphenated_text}
 use Rattle.uuid.proofs.TextLemmas.{by_index_length}
 use Rattle.sentry_members.specs.Spelling.{FitsRoom}
 use Rattle.sentry_identifiers.specs.DebugId.{appendix_text, debug_id_text}
-use Rattle.sentry_numbers.proofs.Lengths.{hex_size}
+use Rattle.sentry_text.proofs.Lengths.{hex_size}
 
 pub hex_id_fits : (bytes : List ℕ) → length bytes ≤ 32 → FitsRoom (encode_lower bytes)
 hex_id_fits bytes short = omega (arith, length-encode_with lower_digits bytes)

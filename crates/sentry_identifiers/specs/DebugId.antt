@@ -3,7 +3,7 @@ use Rattle.std.specs.Prelude.{◌≡◌, ◌⊎◌, ◌≤◌, ◌==◌, ◌&&�
 use Rattle.std.specs.Fmt.{digits}
 use Rattle.std.specs.Str.Parse.{IsNumeral, digits_value}
 use Rattle.uuid.specs.Text.{lower, parsed, parsed_simple, parsed_hyphenated, hyphenated_text}
-use Rattle.sentry_numbers.specs.Number.{is_numeral}
+use Rattle.sentry_text.specs.Number.{is_numeral}
 use Rattle.sentry_identifiers.specs.declared.debug_id.DebugId.{DebugId}
 
 -- nothing, which is 0, or a hyphen and one to eight digits in base 16

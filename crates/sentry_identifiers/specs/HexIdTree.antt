@@ -9,11 +9,11 @@ use Rattle.sentry_identifiers.specs.declared.span_id.SpanId.{SpanId}
 use Rattle.sentry_identifiers.specs.declared.trace_id.TraceId.{TraceId}
 
 -- an id is its bytes
-abbrev pub span_cell : SpanId → Cell
-span_cell id = octets (span_bytes id)
+abbrev pub span_id_cell : SpanId → Cell
+span_id_cell id = octets (span_bytes id)
 
-abbrev pub trace_cell : TraceId → Cell
-trace_cell id = octets (trace_bytes id)
+abbrev pub trace_id_cell : TraceId → Cell
+trace_id_cell id = octets (trace_bytes id)
 
 -- n bytes, which may be any
 abbrev pub IsOctets : ℕ → Cell → Type 0
@@ -28,8 +28,8 @@ hex_text _ = []
 abbrev pub hex_id_spelling : ℕ → Spelling
 hex_id_spelling n = read_as (λ text. option_map octets (hex_id_of n text)) hex_text (IsOctets n)
 
-abbrev pub span_kind : Kind
-span_kind = spelled_kind (hex_id_spelling 8)
+abbrev pub span_id_kind : Kind
+span_id_kind = spelled_kind (hex_id_spelling 8)
 
-abbrev pub trace_kind : Kind
-trace_kind = spelled_kind (hex_id_spelling 16)
+abbrev pub trace_id_kind : Kind
+trace_id_kind = spelled_kind (hex_id_spelling 16)

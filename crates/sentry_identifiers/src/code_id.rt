@@ -90,7 +90,7 @@ impl Spelled for CodeId {
     }
 
     #[tactic(auto, using(sentry_members::proofs::Ways::unchanged))]
-    fn copied(&self, _way: Way) -> Result<CodeId, AllocError> {
+    fn respell(&self, _way: Way) -> Result<CodeId, AllocError> {
         self.clone()
     }
 

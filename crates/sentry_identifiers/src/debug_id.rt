@@ -2,10 +2,10 @@
 
 ghost use Rattle.std.specs.Prelude.{◌≡◌, Some};
 ghost use Rattle.sentry_identifiers.specs.DebugId.{id_size, appendix_of, debug_id_of, appendix_text, debug_id_text};
-ghost use Rattle.sentry_numbers.specs.Number.{ReadsAs};
+ghost use Rattle.sentry_text.specs.Number.{ReadsAs};
 
 use crate::bytes::are_bytes;
-use sentry_members::spelled::printed;
+use sentry_members::spelled::print_into;
 use sentry_members::{AsText, Formed, Room, Spelled, TreeError, Way};
 use std::alloc::{AllocError, Global};
 use std::fmt;
@@ -160,11 +160,11 @@ impl Spelled for DebugId {
     #[tactic(auto, using(crate::proofs::Lengths::debug_id_fits))]
     fn text<'a>(&'a self, room: &'a mut Room) -> Result<&'a str, AllocError> {
         self.hold();
-        printed(self, room)
+        print_into(self, room)
     }
 
     #[tactic(auto, using(sentry_members::proofs::Ways::unchanged))]
-    fn copied(&self, _way: Way) -> Result<DebugId, AllocError> {
+    fn respell(&self, _way: Way) -> Result<DebugId, AllocError> {
         Ok(*self)
     }
 

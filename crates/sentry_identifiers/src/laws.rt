@@ -12,7 +12,7 @@ ghost use Rattle.sentry_tables.specs.Cell.{Cell};
 ghost use Rattle.sentry_tables.specs.Kind.{draw};
 ghost use Rattle.sentry_tables.specs.Lawful.{IsNormal, RefusesNull, RuleLaws};
 ghost use Rattle.sentry_tables.specs.Laws.{HasLaws};
-ghost use Rattle.sentry_identifiers.specs.HexIdTree.{IsOctets, span_kind, trace_kind};
+ghost use Rattle.sentry_identifiers.specs.HexIdTree.{IsOctets, span_id_kind, trace_id_kind};
 ghost use Rattle.sentry_identifiers.specs.DebugIdTree.{IsDebugCell, debug_kind};
 ghost use Rattle.sentry_identifiers.specs.CodeIdTree.{IsCodeCell, code_kind};
 ghost use Rattle.sentry_identifiers.specs.CodeId.{code_text};
@@ -43,30 +43,34 @@ pub fn uuid_trees()
 
 /// Ids of spans (8 bytes) and traces (16 bytes).
 pub fn hex_ids()
-    ensures texts { (n : ℕ) (text bytes : List ℕ) → hex_id_of n text ≡ Some bytes ↔ IsHexId n text bytes }
+    ensures texts { (n : ℕ) (text bytes : List ℕ) → hex_id_of n text ≡ Some bytes ↔
+        IsHexId n text bytes }
     ensures read_back { (n : ℕ) (bytes : List ℕ) → length bytes ≡ n → IsBytes bytes
         → hex_id_of n (encode_lower bytes) ≡ Some bytes }
 {}
 
 /// Debug identifiers.
 pub fn debug_ids()
-    ensures texts { (text bytes : List ℕ) (n : ℕ) → debug_id_of text ≡ Some (bytes, n) ↔ IsDebugId text bytes n }
-    ensures read_back { (bytes : List ℕ) (n : ℕ) → length bytes ≡ 16 → All (λ b. b < 256) bytes → n < 2 ^ 32
+    ensures texts { (text bytes : List ℕ) (n : ℕ) → debug_id_of text ≡ Some (bytes, n) ↔
+        IsDebugId text bytes n }
+    ensures read_back { (bytes : List ℕ) (n : ℕ) → length bytes ≡ 16 → All (λ b. b < 256) bytes →
+        n < 2 ^ 32
         → debug_id_of (debug_id_text bytes n) ≡ Some (bytes, n) }
 {}
 
 /// Code identifiers.
 pub fn code_ids()
     ensures digits { (text : List ℕ) → IsTrue (are_code_digits (code_digits text)) }
-    ensures read_back { (digits : List ℕ) → IsTrue (are_code_digits digits) → code_digits digits ≡ digits }
+    ensures read_back { (digits : List ℕ) → IsTrue (are_code_digits digits) →
+        code_digits digits ≡ digits }
 {}
 
 /// Ids of spans and traces in trees; any bytes may be drawn, and each id is its own normal form.
 pub fn hex_id_trees()
-    ensures spans { HasLaws span_kind }
-    ensures traces { HasLaws trace_kind }
-    ensures drawn_spans { RuleLaws (draw (IsOctets 8)) span_kind }
-    ensures drawn_traces { RuleLaws (draw (IsOctets 16)) trace_kind }
+    ensures spans { HasLaws span_id_kind }
+    ensures traces { HasLaws trace_id_kind }
+    ensures drawn_spans { RuleLaws (draw (IsOctets 8)) span_id_kind }
+    ensures drawn_traces { RuleLaws (draw (IsOctets 16)) trace_id_kind }
 {}
 
 /// Debug identifiers in trees; each is its own normal form.
@@ -85,16 +89,22 @@ pub fn code_id_trees()
 
 /// Two ids are equal exactly where their bytes, parts or texts are the same.
 pub fn equal_ids()
-    ensures spans { (a b : SpanIds) → ⟦<SpanId as PartialEq>⟧.eq a b ≡ true ↔ (span_bytes a ≡ span_bytes b) }
-    ensures traces { (a b : TraceIds) → ⟦<TraceId as PartialEq>⟧.eq a b ≡ true ↔ (trace_bytes a ≡ trace_bytes b) }
-    ensures debug_ids { (a b : DebugIds) → ⟦<DebugId as PartialEq>⟧.eq a b ≡ true ↔ (debug_parts a ≡ debug_parts b) }
-    ensures code_ids { (a b : CodeIds) → ⟦<CodeId as PartialEq>⟧.eq a b ≡ true ↔ (code_text a ≡ code_text b) }
+    ensures spans { (a b : SpanIds) → ⟦<SpanId as PartialEq>⟧.eq a b ≡ true ↔
+        (span_bytes a ≡ span_bytes b) }
+    ensures traces { (a b : TraceIds) → ⟦<TraceId as PartialEq>⟧.eq a b ≡ true ↔
+        (trace_bytes a ≡ trace_bytes b) }
+    ensures debug_ids { (a b : DebugIds) → ⟦<DebugId as PartialEq>⟧.eq a b ≡ true ↔
+        (debug_parts a ≡ debug_parts b) }
+    ensures code_ids { (a b : CodeIds) → ⟦<CodeId as PartialEq>⟧.eq a b ≡ true ↔
+        (code_text a ≡ code_text b) }
 {}
 
 /// Debug identifiers are ordered by the bytes of their UUIDs, then by their appendices, and code
 /// identifiers as their texts, by bytes.
 pub fn ordered_ids()
     ensures debug_ids { (a b : DebugIds) → ⟦<DebugId as Ord>⟧.cmp a b
-        ≡ ordering_then (slice_cmp nat_cmp (debug_parts a).0 (debug_parts b).0) (nat_cmp (debug_parts a).1 (debug_parts b).1) }
-    ensures code_ids { (a b : CodeIds) → ⟦<CodeId as Ord>⟧.cmp a b ≡ slice_cmp nat_cmp (code_text a) (code_text b) }
+        ≡ ordering_then (slice_cmp nat_cmp (debug_parts a).0 (debug_parts b).0)
+        (nat_cmp (debug_parts a).1 (debug_parts b).1) }
+    ensures code_ids { (a b : CodeIds) →
+        ⟦<CodeId as Ord>⟧.cmp a b ≡ slice_cmp nat_cmp (code_text a) (code_text b) }
 {}

@@ -10,7 +10,7 @@ use crate::bytes::are_bytes;
 use crate::hex_id::read_bytes;
 use hex::FromHexError;
 use rand_core::Rng;
-use sentry_members::spelled::printed;
+use sentry_members::spelled::print_into;
 use sentry_members::{AsText, Drawn, Formed, Own, Room, Spelled, TreeError, Way};
 use std::alloc::{AllocError, Global};
 use std::str::FromStr;
@@ -115,11 +115,11 @@ impl Formed for SpanId {
 }
 
 impl Spelled for SpanId {
-    ghost use Rattle.sentry_identifiers.specs.HexIdTree.{span_cell};
+    ghost use Rattle.sentry_identifiers.specs.HexIdTree.{span_id_cell};
 
     ghost spelling = { hex_id_spelling 8 };
 
-    ghost cell_of = { span_cell };
+    ghost cell_of = { span_id_cell };
 
     #[tactic(auto, using(crate::proofs::HexIdTrees::id_spelled, crate::proofs::HexIdTrees::none_spelled))]
     fn of_text(_alloc: Global, text: &str) -> Result<SpanId, TreeError> {
@@ -132,11 +132,11 @@ impl Spelled for SpanId {
     #[tactic(auto, using(crate::proofs::Lengths::hex_id_fits))]
     fn text<'a>(&'a self, room: &'a mut Room) -> Result<&'a str, AllocError> {
         self.hold();
-        printed(self, room)
+        print_into(self, room)
     }
 
     #[tactic(auto, using(sentry_members::proofs::Ways::unchanged))]
-    fn copied(&self, _way: Way) -> Result<SpanId, AllocError> {
+    fn respell(&self, _way: Way) -> Result<SpanId, AllocError> {
         Ok(*self)
     }
 
@@ -147,12 +147,12 @@ impl Spelled for SpanId {
 
 impl Drawn<SpanId> for Own {
     ghost use Rattle.sentry_identifiers.specs.HexId.{span_bytes};
-    ghost use Rattle.sentry_identifiers.specs.HexIdTree.{span_cell};
+    ghost use Rattle.sentry_identifiers.specs.HexIdTree.{span_id_cell};
 
     ghost IsDrawn = { IsOctets 8 };
 
     fn random<R: Rng>(ids: &mut R) -> SpanId
-        ensures any { IsOctets 8 (span_cell result) }
+        ensures any { IsOctets 8 (span_id_cell result) }
         ensures next { (span_bytes result, R.stream ids.new) ≡ fill_bytes 8 (R.stream ids.old) }
     {
         let id = SpanId::random(ids);

@@ -10,7 +10,7 @@ use crate::bytes::are_bytes;
 use crate::hex_id::read_bytes;
 use hex::FromHexError;
 use rand_core::Rng;
-use sentry_members::spelled::printed;
+use sentry_members::spelled::print_into;
 use sentry_members::{AsText, Drawn, Formed, Own, Room, Spelled, TreeError, Way};
 use std::alloc::{AllocError, Global};
 use std::str::FromStr;
@@ -115,11 +115,11 @@ impl Formed for TraceId {
 }
 
 impl Spelled for TraceId {
-    ghost use Rattle.sentry_identifiers.specs.HexIdTree.{trace_cell};
+    ghost use Rattle.sentry_identifiers.specs.HexIdTree.{trace_id_cell};
 
     ghost spelling = { hex_id_spelling 16 };
 
-    ghost cell_of = { trace_cell };
+    ghost cell_of = { trace_id_cell };
 
     #[tactic(auto, using(crate::proofs::HexIdTrees::id_spelled, crate::proofs::HexIdTrees::none_spelled))]
     fn of_text(_alloc: Global, text: &str) -> Result<TraceId, TreeError> {
@@ -132,11 +132,11 @@ impl Spelled for TraceId {
     #[tactic(auto, using(crate::proofs::Lengths::hex_id_fits))]
     fn text<'a>(&'a self, room: &'a mut Room) -> Result<&'a str, AllocError> {
         self.hold();
-        printed(self, room)
+        print_into(self, room)
     }
 
     #[tactic(auto, using(sentry_members::proofs::Ways::unchanged))]
-    fn copied(&self, _way: Way) -> Result<TraceId, AllocError> {
+    fn respell(&self, _way: Way) -> Result<TraceId, AllocError> {
         Ok(*self)
     }
 
@@ -147,12 +147,12 @@ impl Spelled for TraceId {
 
 impl Drawn<TraceId> for Own {
     ghost use Rattle.sentry_identifiers.specs.HexId.{trace_bytes};
-    ghost use Rattle.sentry_identifiers.specs.HexIdTree.{trace_cell};
+    ghost use Rattle.sentry_identifiers.specs.HexIdTree.{trace_id_cell};
 
     ghost IsDrawn = { IsOctets 16 };
 
     fn random<R: Rng>(ids: &mut R) -> TraceId
-        ensures any { IsOctets 16 (trace_cell result) }
+        ensures any { IsOctets 16 (trace_id_cell result) }
         ensures next { (trace_bytes result, R.stream ids.new) ≡ fill_bytes 16 (R.stream ids.old) }
     {
         let id = TraceId::random(ids);

@@ -10,8 +10,8 @@ ghost use Rattle.sentry_members.specs.Reading.{Reads};
 use crate::bytes::are_bytes;
 use json::Writer;
 use rand_core::Rng;
+use sentry_json::Node;
 use sentry_members::{Codec, Drawn, ReadCodec, TreeError, Way};
-use sentry_trees::Node;
 use serde_json::Value;
 use std::alloc::{AllocError, Global};
 use uuid::Uuid;
@@ -44,7 +44,7 @@ impl Codec<Uuid> for Hyphenated {
     }
 
     #[tactic(auto, using(sentry_members::proofs::Ways::unchanged))]
-    fn remade(value: &Uuid, _way: Way) -> Result<Uuid, AllocError> {
+    fn remake(value: &Uuid, _way: Way) -> Result<Uuid, AllocError> {
         Ok(*value)
     }
 
@@ -76,7 +76,7 @@ impl Codec<Uuid> for Simple {
     }
 
     #[tactic(auto, using(sentry_members::proofs::Ways::unchanged))]
-    fn remade(value: &Uuid, _way: Way) -> Result<Uuid, AllocError> {
+    fn remake(value: &Uuid, _way: Way) -> Result<Uuid, AllocError> {
         Ok(*value)
     }
 
@@ -92,7 +92,8 @@ impl Codec<Uuid> for Simple {
 
 /// The UUID of a tree that is a text in one of the four forms.
 fn read_uuid<N: Node>(node: &N) -> Result<Uuid, TreeError>
-    ensures { (to_text : Cell → List ℕ) → Reads (uuid_kind to_text) octets (N.data_of node.now) result }
+    ensures { (to_text : Cell → List ℕ) →
+        Reads (uuid_kind to_text) octets (N.data_of node.now) result }
 {
     match node.as_str() {
         Some(text) => match Uuid::parse_str(text) {

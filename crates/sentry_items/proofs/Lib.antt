@@ -5,3 +5,5 @@ pub mod HeaderTokens
 pub mod Made
 pub mod Sent
 pub mod UsualHeader
+pub mod Cut
+pub mod SameLosses

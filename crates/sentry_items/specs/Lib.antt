@@ -8,3 +8,5 @@ pub mod Made
 pub mod Meets
 pub mod UsualHeader
 pub mod View
+pub mod Losses
+pub mod Sizes

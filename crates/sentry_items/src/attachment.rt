@@ -1,6 +1,9 @@
-//! Attachments.
+//! Attachments: files that are sent in an envelope.
 
-ghost use Rattle.std.specs.Prelude.{◌≡◌, IfOk};
+ghost use Rattle.std.specs.Prelude.{◌≡◌, ◌++◌, ℕ, List, IfOk, OnOk};
+ghost use Rattle.sentry_items.specs.Attached.{attachment_header};
+ghost use Rattle.sentry_items.specs.HeaderTokens.{header_text};
+ghost use Rattle.sentry_items.specs.View.{attachment_view};
 
 use crate::attachment_type::AttachmentType;
 use crate::counted::send_both;
@@ -13,34 +16,34 @@ use std::io::Write;
 use std::{fmt, mem};
 use thiserror::Error;
 
-/// A file that is sent along.
+/// A file sent in an envelope, such as a log or a minidump.
 ///
 /// <https://develop.sentry.dev/sdk/data-model/envelope-items/#attachment>
 #[derive(Drop, PartialEq)]
 pub struct Attachment {
-    /// The file's bytes.
+    /// Contents of the file.
     pub buffer: Vec<u8>,
-    /// The file's name.
+    /// File name.
     pub filename: String,
-    /// The file's media type. Where it is absent, `application/octet-stream` is written.
+    /// Media type; `None` is written as `application/octet-stream`.
     pub content_type: Option<String>,
-    /// What the file is for. Where it is absent, `event.attachment` is written.
+    /// Attachment type; `None` is written as `event.attachment`.
     pub ty: Option<AttachmentType>,
 }
 
-/// As many bytes as a header with usual names takes: room for it is made at once.
+// The initial capacity of a header line in bytes: enough for default types and a short file name.
 const USUAL_HEADER: usize = 192;
 
-/// The media type that is written where there is none.
+// The media type that is written for `content_type: None`.
 const USUAL_CONTENT_TYPE: &str = "application/octet-stream";
 
-/// Why an attachment was not written, or not in full.
+/// The error of [`Attachment::to_writer`].
 #[derive(Debug, Drop, Error)]
 pub enum AttachmentWriteError {
-    /// Memory was refused. Nothing was written.
+    /// An allocation failed; nothing was written.
     #[error("out of memory")]
     Memory,
-    /// A write failed. A beginning of the text was written, and not the whole.
+    /// A write failed; only a proper prefix of the item was written, possibly none of it.
     #[error("Io")]
     Io,
 }
@@ -57,9 +60,10 @@ impl Attachment {
     ghost use Rattle.sentry_items.specs.UsualHeader.{HasUsualHeader};
     ghost use Rattle.sentry_items.specs.View.{attachment_type_cell, attachment_view};
 
-    /// An attachment of no bytes, with an empty name and without types.
+    /// Creates an attachment of no bytes, with an empty file name and without types.
     pub fn default_in(alloc: Global) -> Attachment
-        ensures { attachment_view result ≡ record { buffer = []; filename = []; content_type = None; ty = None } }
+        ensures { attachment_view result ≡
+            record { buffer = []; filename = []; content_type = None; ty = None } }
     {
         Attachment {
             buffer: Vec::new(alloc),
@@ -69,22 +73,24 @@ impl Attachment {
         }
     }
 
-    /// The same attachment, or its normal form. It fails where memory is refused.
-    pub fn remade(&self, way: Way) -> Result<Attachment, AllocError>
-        ensures { IfOk result (λ attachment. attachment_view attachment ≡ attached_made way (attachment_view self.now)) }
+    // Copies the attachment, or makes its normal form.
+    pub(crate) fn remake(&self, way: Way) -> Result<Attachment, AllocError>
+        ensures { IfOk result (λ attachment.
+            attachment_view attachment ≡ attached_made way (attachment_view self.now)) }
     {
         Ok(Attachment {
-            buffer: copied_bytes(&self.buffer)?,
+            buffer: copy_bytes(&self.buffer)?,
             filename: self.filename.clone()?,
-            content_type: self.remade_content_type(way)?,
-            ty: self.remade_type(way)?,
+            content_type: self.remake_content_type(way)?,
+            ty: self.remake_type(way)?,
         })
     }
 
-    /// The media type of the same attachment, or of its normal form.
     #[tactic(auto, using(crate::proofs::Made::no_media_type, crate::proofs::Made::usual_media_type))]
-    fn remade_content_type(&self, way: Way) -> Result<Option<String>, AllocError>
-        ensures { IfOk result (λ text. option_map string_bytes text ≡ (attached_made way (attachment_view self.now)).content_type) }
+    fn remake_content_type(&self, way: Way) -> Result<Option<String>, AllocError>
+        ensures { IfOk result (λ text.
+            option_map string_bytes text ≡
+            (attached_made way (attachment_view self.now)).content_type) }
     {
         match &self.content_type {
             Some(text) => Ok(Some(text.clone()?)),
@@ -98,13 +104,14 @@ impl Attachment {
         }
     }
 
-    /// The type of the same attachment, or of its normal form.
     #[tactic(auto, using(crate::proofs::Made::no_type, crate::proofs::Made::usual_type))]
-    fn remade_type(&self, way: Way) -> Result<Option<AttachmentType>, AllocError>
-        ensures { IfOk result (λ ty. option_map attachment_type_cell ty ≡ (attached_made way (attachment_view self.now)).ty) }
+    fn remake_type(&self, way: Way) -> Result<Option<AttachmentType>, AllocError>
+        ensures { IfOk result (λ ty.
+            option_map attachment_type_cell ty ≡
+            (attached_made way (attachment_view self.now)).ty) }
     {
         match &self.ty {
-            Some(ty) => Ok(Some(ty.remade(way)?)),
+            Some(ty) => Ok(Some(ty.remake(way)?)),
             None => match way {
                 Way::Same => Ok(None),
                 Way::Normal(_) => Ok(Some(AttachmentType::Attachment)),
@@ -112,37 +119,40 @@ impl Attachment {
         }
     }
 
-    /// The same attachment. It fails where memory is refused.
+    /// Clones the attachment. `AllocError` if an allocation fails.
     #[tactic(auto, unfolding(crate::specs::Made::attached_made))]
     pub fn clone(&self) -> Result<Attachment, AllocError>
-        ensures { IfOk result (λ attachment. attachment_view attachment ≡ attachment_view self.now) }
+        ensures { IfOk result (λ attachment.
+            attachment_view attachment ≡ attachment_view self.now) }
     {
-        self.remade(Way::Same)
+        self.remake(Way::Same)
     }
 
-    /// The attachment's normal form: both types are given, and a custom type that spells a known one is that one.
-    /// It fails where memory is refused.
+    /// Returns the normal form: absent types are filled with their defaults, and a custom type
+    /// whose text is a known word becomes the known type. `AllocError` if an allocation fails.
     #[tactic(auto, unfolding(crate::specs::Made::attached_made))]
     pub fn normalized(&self) -> Result<Attachment, AllocError>
-        ensures { IfOk result (λ attachment. attachment_view attachment ≡ attached_norm (attachment_view self.now)) }
+        ensures { IfOk result (λ attachment.
+            attachment_view attachment ≡ attached_norm (attachment_view self.now)) }
     {
-        self.remade(Way::Normal(*self.buffer.allocator()))
+        self.remake(Way::Normal(*self.buffer.allocator()))
     }
 
-    /// Whether the attachment can be written: always, since its texts are UTF-8.
+    /// Returns whether the attachment can be written: always true, as its strings are UTF-8.
     pub fn is_plain(&self) -> bool
         ensures always { IsTrue result }
         ensures stored { IsAttachedStored (attachment_view self.now) }
     {
+        // The calls are made for their contracts, which prove the clause `stored`.
         let _filename = self.filename.as_str();
         let _content_type = self.written_content_type();
         let _ty = self.written_type();
         true
     }
 
-    /// The type that is written.
     fn written_type(&self) -> &str
-        ensures text { result.now ≡ attachment_type_text (attached_type (attachment_view self.now)) }
+        ensures text { result.now ≡
+            attachment_type_text (attached_type (attachment_view self.now)) }
         ensures stored { IsTypeOption (attachment_view self.now).ty }
     {
         match &self.ty {
@@ -151,7 +161,6 @@ impl Attachment {
         }
     }
 
-    /// The media type that is written.
     fn written_content_type(&self) -> &str
         ensures text { result.now ≡ attached_content_type (attachment_view self.now) }
         ensures stored { IsUtf8Option (attachment_view self.now).content_type }
@@ -162,10 +171,11 @@ impl Attachment {
         }
     }
 
-    /// Writes the header's text, with this word as the item's type.
+    // Writes the item header; `word` is its `type`.
     #[tactic(auto, unfolding(crate::specs::HeaderTokens::member_tokens))]
     fn write_tokens(&self, word: &str, writer: &mut Writer) -> Result<(), AllocError>
-        ensures ok { OnOk result (writer.new.tokens ≡ writer.old.tokens ++ begin_object ∷ member_tokens (attachment_header word.now (attachment_view self.now))) }
+        ensures ok { OnOk result (writer.new.tokens ≡ writer.old.tokens ++
+            begin_object ∷ member_tokens (attachment_header word.now (attachment_view self.now))) }
         ensures before { writer.new.before ≡ writer.old.before }
     {
         writer.begin_object()?;
@@ -178,39 +188,16 @@ impl Attachment {
         write_last_members(word, &self.buffer, writer)
     }
 
-    /// Appends the header of the attachment's item, with this word as the item's type.
-    ///
-    /// A header that isn't the usual one is built in `line`, in place of what that holds: a writer of JSON clears memory
-    /// ahead of what it writes. It fails where memory is refused, and may then have appended a part of the header.
-    pub fn write_header(
-        &self,
-        alloc: Global,
-        word: &str,
-        line: &mut Vec<u8>,
-        out: &mut Vec<u8>,
-    ) -> Result<(), AllocError>
-        ensures ok { OnOk result (out.new.items ≡ out.old.items ++ header_text (attachment_header word.now (attachment_view self.now))) }
-        ensures kept { (part : List ℕ) × (out.new.items ≡ out.old.items ++ part) }
-    {
-        if self.is_usual() && word == "attachment" {
-            write_usual_header(self.filename.as_str(), self.buffer.len(), out)
-        } else {
-            line.clear();
-            self.write_any_header(alloc, word, line)?;
-            out.extend_from_slice(line)
-        }
-    }
-
-    /// Whether both types are the usual ones, and the name needs no escape.
     fn is_usual(&self) -> bool
         ensures { IsTrue result → HasUsualHeader (attachment_view self.now) }
     {
         self.has_usual_type() && self.has_usual_content_type() && is_plain(self.filename.as_bytes())
     }
 
-    /// Whether the usual type is written.
     fn has_usual_type(&self) -> bool
-        ensures { IsTrue result → attachment_type_text (attached_type (attachment_view self.now)) ≡ codes "event.attachment" }
+        ensures { IsTrue result →
+            attachment_type_text (attached_type (attachment_view self.now)) ≡
+            codes "event.attachment" }
     {
         match &self.ty {
             Some(AttachmentType::Attachment) => true,
@@ -219,9 +206,10 @@ impl Attachment {
         }
     }
 
-    /// Whether no media type is given, so that the usual one is written.
+    // An explicit `application/octet-stream` gives `false`, too.
     fn has_usual_content_type(&self) -> bool
-        ensures { IsTrue result → attached_content_type (attachment_view self.now) ≡ codes "application/octet-stream" }
+        ensures { IsTrue result →
+            attached_content_type (attachment_view self.now) ≡ codes "application/octet-stream" }
     {
         match &self.content_type {
             Some(_) => false,
@@ -229,14 +217,15 @@ impl Attachment {
         }
     }
 
-    /// Appends the header, whatever it says.
+    // Appends the header by a JSON writer, for any types and file name.
     fn write_any_header(
         &self,
         alloc: Global,
         word: &str,
         out: &mut Vec<u8>,
     ) -> Result<(), AllocError>
-        ensures ok { OnOk result (out.new.items ≡ out.old.items ++ header_text (attachment_header word.now (attachment_view self.now))) }
+        ensures ok { OnOk result (out.new.items ≡ out.old.items ++
+            header_text (attachment_header word.now (attachment_view self.now))) }
         ensures kept { (part : List ℕ) × (out.new.items ≡ out.old.items ++ part) }
     {
         let mut writer = Writer::new(mem::replace(out, Vec::new(alloc)));
@@ -245,31 +234,37 @@ impl Attachment {
         outcome
     }
 
-    /// The header's line, with its line feed.
+    // Returns the item header with a line feed at the end.
     fn header_line(&self, alloc: Global) -> Result<Vec<u8>, AllocError>
-        ensures { IfOk result (λ line. line.items ++ self.now.buffer.items ≡ attachment_text (attachment_view self.now)) }
+        ensures { IfOk result (λ line.
+            line.items ++ self.now.buffer.items ≡ attachment_text (attachment_view self.now)) }
     {
         let mut line = Vec::with_capacity(alloc, USUAL_HEADER)?;
         let mut unusual = Vec::new(alloc);
-        self.write_header(alloc, "attachment", &mut unusual, &mut line)?;
+        write_header(self, alloc, "attachment", &mut unusual, &mut line)?;
         line.push(b'\n')?;
         Ok(line)
     }
 
-    /// Writes the attachment as an item of its own: its header, a line feed and its bytes.
+    /// Writes the attachment as a single item: its header, a line feed, and its bytes.
     ///
     /// # Errors
     ///
-    /// - `Memory`: memory for the header was refused. Nothing was written.
-    /// - `Io`: a write failed, was interrupted, or took no byte. A beginning was written, and not the whole.
+    /// - `Memory` if an allocation fails; nothing was written.
+    /// - `Io` if a write fails, is interrupted, or accepts 0 bytes; only a proper prefix of the
+    ///   item was written, possibly none of it.
     pub fn to_writer<W: Write>(
         &self,
         alloc: Global,
         writer: &mut W,
     ) -> Result<(), AttachmentWriteError>
-        ensures whole { OnOk result (Appends (W.contents writer.old) (W.contents writer.new) (attachment_text (attachment_view self.now))) }
-        ensures memory { result ≡ Err AttachmentWriteError.Memory → Keeps (W.contents writer.old) (W.contents writer.new) }
-        ensures io { result ≡ Err AttachmentWriteError.Io → AppendsFront (W.contents writer.old) (W.contents writer.new) (attachment_text (attachment_view self.now)) }
+        ensures whole { OnOk result (Appends (W.contents writer.old) (W.contents writer.new)
+            (attachment_text (attachment_view self.now))) }
+        ensures memory { result ≡ Err AttachmentWriteError.Memory →
+            Keeps (W.contents writer.old) (W.contents writer.new) }
+        ensures io { result ≡ Err AttachmentWriteError.Io →
+            AppendsFront (W.contents writer.old) (W.contents writer.new)
+            (attachment_text (attachment_view self.now)) }
     {
         let Ok(line) = self.header_line(alloc) else {
             return Err(AttachmentWriteError::Memory);
@@ -281,15 +276,43 @@ impl Attachment {
     }
 }
 
-/// The same bytes.
-fn copied_bytes(bytes: &Vec<u8>) -> Result<Vec<u8>, AllocError>
+/// Appends the item header of an attachment; `word` is its `type`.
+///
+/// The header is first built in `line`, in place of the contents of `line`, unless `word` is
+/// `attachment`, the media type is absent, the attachment type is absent or the default, and the
+/// file name needs no escape: a JSON writer clears memory ahead of what it writes.
+///
+/// # Errors
+///
+/// `AllocError` if an allocation fails; a part of the header may have been appended.
+pub fn write_header(
+    attachment: &Attachment,
+    alloc: Global,
+    word: &str,
+    line: &mut Vec<u8>,
+    out: &mut Vec<u8>,
+) -> Result<(), AllocError>
+    ensures ok { OnOk result (out.new.items ≡ out.old.items ++
+        header_text (attachment_header word.now (attachment_view attachment.now))) }
+    ensures kept { (part : List ℕ) × (out.new.items ≡ out.old.items ++ part) }
+{
+    if attachment.is_usual() && word == "attachment" {
+        write_usual_header(attachment.filename.as_str(), attachment.buffer.len(), out)
+    } else {
+        line.clear();
+        attachment.write_any_header(alloc, word, line)?;
+        out.extend_from_slice(line)
+    }
+}
+
+fn copy_bytes(bytes: &Vec<u8>) -> Result<Vec<u8>, AllocError>
     ensures { IfOk result (λ copy. copy.items ≡ bytes.now.items) }
 {
     bytes.clone()
 }
 
 impl fmt::Debug for Attachment {
-    /// Shows how many bytes there are in place of the bytes.
+    /// Formats the attachment, with the length of `buffer` in place of its bytes.
     fn fmt<W: fmt::Write>(&self, f: &mut fmt::Formatter<W>) -> fmt::Result {
         f.debug_struct("Attachment")
             .field("buffer", &self.buffer.len())

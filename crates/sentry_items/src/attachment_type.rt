@@ -1,20 +1,23 @@
-//! What an attachment is for.
+//! Attachment types.
 
 use sentry_members::{AsText, Formed, Room, Spelled, TreeError, Way};
 use std::alloc::{AllocError, Global};
 
-/// The type of an attachment.
+/// The type of an attachment: `attachment_type` in its item header.
 ///
-/// Sentry treats the known types apart: <https://develop.sentry.dev/sdk/data-model/envelope-items/#attachment>.
-/// Two types are equal where they are the same variant, so that a custom type whose text is a known word isn't that known type.
+/// Sentry processes each known type in its own way:
+/// <https://develop.sentry.dev/sdk/data-model/envelope-items/#attachment>.
+///
+/// Two types are equal if they are the same variant with the same text: a custom type whose text is
+/// a known word isn't equal to the known type.
 #[derive(Debug, Default, Drop, PartialEq, Eq)]
 pub enum AttachmentType {
-    /// A file without a special meaning: `event.attachment`.
+    /// A file without special meaning: `event.attachment`, the default.
     #[default]
     Attachment,
-    /// A minidump, from which Sentry makes an event: `event.minidump`.
+    /// A minidump, from which Sentry creates an event: `event.minidump`.
     Minidump,
-    /// An Apple crash report, from which Sentry makes an event: `event.applecrashreport`.
+    /// An Apple crash report, from which Sentry creates an event: `event.applecrashreport`.
     AppleCrashReport,
     /// The context file of an Unreal Engine crash: `unreal.context`.
     UnrealContext,
@@ -29,7 +32,7 @@ impl AttachmentType {
     ghost use Rattle.sentry_items.specs.AttachmentWords.{attachment_type_of, attachment_type_text, IsAttachmentType};
     ghost use Rattle.sentry_items.specs.View.{attachment_type_cell};
 
-    /// The text that stands for the type in an item header.
+    /// Returns the type's text in an item header.
     pub fn as_str(&self) -> &str
         ensures text { result.now ≡ attachment_type_text (attachment_type_cell self.now) }
         ensures stored { IsAttachmentType (attachment_type_cell self.now) }
@@ -44,9 +47,12 @@ impl AttachmentType {
         }
     }
 
-    /// The type that a text stands for: a known one where the text is its word, and else a custom one.
+    /// Returns the type that a text names: a known type if the text is its word, a custom type
+    /// otherwise.
     ///
-    /// It fails where memory for a custom text is refused.
+    /// # Errors
+    ///
+    /// `AllocError` if the allocation of a custom text fails.
     pub fn from_text(alloc: Global, text: &str) -> Result<AttachmentType, AllocError>
         ensures { IfOk result (λ ty. attachment_type_cell ty ≡ attachment_type_of text.now) }
     {
@@ -60,7 +66,7 @@ impl AttachmentType {
         }
     }
 
-    /// The same type. It fails where memory for a custom text is refused.
+    /// Clones the type. `AllocError` if the allocation of a custom text fails.
     pub fn clone(&self) -> Result<AttachmentType, AllocError>
         ensures { IfOk result (λ ty. attachment_type_cell ty ≡ attachment_type_cell self.now) }
     {
@@ -96,7 +102,7 @@ impl Spelled for AttachmentType {
     }
 
     #[tactic(auto, using(sentry_members::proofs::Ways::made_same, sentry_members::proofs::Ways::made_normal))]
-    fn copied(&self, way: Way) -> Result<AttachmentType, AllocError> {
+    fn respell(&self, way: Way) -> Result<AttachmentType, AllocError> {
         match way {
             Way::Same => self.clone(),
             Way::Normal(_) => match self {

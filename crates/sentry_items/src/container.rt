@@ -1,8 +1,10 @@
-//! Items that hold many values of one type.
+//! Containers: items that hold many logs or many metrics.
 
-ghost use Rattle.std.specs.Prelude.{◌≡◌, IfOk};
+ghost use Rattle.std.specs.Prelude.{◌≡◌, IfOk, OnOk};
 ghost use Rattle.sentry_members.specs.Made.{made};
-ghost use Rattle.sentry_items.specs.Containers.{container_kind, items_cell};
+ghost use Rattle.sentry_members.specs.Written.{written, WritesTree};
+ghost use Rattle.sentry_items.specs.Containers.{container_cell, container_kind, container_type, items_cell};
+ghost use Rattle.sentry_items.specs.View.{payload_kind};
 
 use crate::listed::Lent;
 use json::Writer;
@@ -18,22 +20,21 @@ use std::alloc::AllocError;
 /// <https://develop.sentry.dev/sdk/data-model/envelope-items/>
 #[derive(Debug, Drop, PartialEq)]
 pub enum ItemContainer {
-    /// Logs.
+    /// Logs (`log`).
     Logs(Vec<Log>),
-    /// Metrics.
+    /// Metrics (`trace_metric`).
     Metrics(Vec<Metric>),
 }
 
 impl ItemContainer {
-    ghost use Rattle.std.specs.Prelude.{◌≡◌, ◌↔◌, nat_eq, IfOk, IsTrue, OnOk};
+    ghost use Rattle.std.specs.Prelude.{◌≡◌, ◌↔◌, nat_eq, IfOk, IsTrue};
     ghost use Rattle.sentry_tables.specs.Meets.{IsPlain, IsStored};
     ghost use Rattle.sentry_members.specs.Made.{made};
-    ghost use Rattle.sentry_members.specs.Written.{written, WritesTree};
     ghost use Rattle.sentry_framing.specs.ItemWords.{kind_word};
     ghost use Rattle.sentry_items.specs.Containers.{container_cell, container_len, container_type, content_type};
     ghost use Rattle.sentry_items.specs.View.{payload_kind};
 
-    /// How many values it holds.
+    /// Returns the number of values.
     pub fn len(&self) -> usize
         ensures { result ≡ container_len self.now }
     {
@@ -43,14 +44,14 @@ impl ItemContainer {
         }
     }
 
-    /// Whether it holds no values.
+    /// Returns whether the container has no values.
     pub fn is_empty(&self) -> bool
         ensures { result ≡ nat_eq (container_len self.now) 0 }
     {
         self.len() == 0
     }
 
-    /// The type of items that it is.
+    /// Returns the item type.
     pub fn kind(&self) -> ItemKind
         ensures { result ≡ container_type self.now }
     {
@@ -60,14 +61,14 @@ impl ItemContainer {
         }
     }
 
-    /// The word of that type: `log` or `trace_metric`.
+    /// Returns the `type` in the item header: `log` or `trace_metric`.
     pub fn ty(&self) -> &'static str
         ensures { result.now ≡ kind_word (container_type self.now) }
     {
-        self.kind().word()
+        self.kind().as_str()
     }
 
-    /// The media type that the item's header states.
+    /// Returns the media type in the item header (`content_type`).
     pub fn content_type(&self) -> &'static str
         ensures { result.now ≡ content_type self.now }
     {
@@ -77,20 +78,12 @@ impl ItemContainer {
         }
     }
 
-    /// Writes the text of the payload. It fails where memory is refused, with a part of the text written.
-    pub fn write(&self, out: &mut Writer) -> Result<(), AllocError>
-        ensures { OnOk result (WritesTree (written (payload_kind (container_type self.now)) (container_cell self.now)) out.old out.new) }
-    {
-        match self {
-            ItemContainer::Logs(logs) => write_table(&Lent { items: logs }, out),
-            ItemContainer::Metrics(metrics) => write_table(&Lent { items: metrics }, out),
-        }
-    }
-
-    /// Whether no tree in the values holds a float.
+    /// Returns whether the container can be written: no JSON value in its values holds a float.
     pub fn is_plain(&self) -> bool
-        ensures plain { IsTrue result ↔ IsPlain (payload_kind (container_type self.now)) (container_cell self.now) }
-        ensures stored { IsTrue result → IsStored (payload_kind (container_type self.now)) (container_cell self.now) }
+        ensures plain { IsTrue result ↔
+            IsPlain (payload_kind (container_type self.now)) (container_cell self.now) }
+        ensures stored { IsTrue result →
+            IsStored (payload_kind (container_type self.now)) (container_cell self.now) }
     {
         match self {
             ItemContainer::Logs(logs) => rows_are_plain(&Lent { items: logs }),
@@ -98,33 +91,57 @@ impl ItemContainer {
         }
     }
 
-    /// The same container, or its normal form. It fails where memory is refused.
-    pub fn remade(&self, way: Way) -> Result<ItemContainer, AllocError>
-        ensures kind { IfOk result (λ container. container_type container ≡ container_type self.now) }
-        ensures made { IfOk result (λ container. container_cell container ≡ made way (payload_kind (container_type self.now)) (container_cell self.now)) }
+    // Copies the container, or makes its normal form.
+    pub(crate) fn remake(&self, way: Way) -> Result<ItemContainer, AllocError>
+        ensures kind { IfOk result (λ container.
+            container_type container ≡ container_type self.now) }
+        ensures made { IfOk result (λ container.
+            container_cell container ≡
+            made way (payload_kind (container_type self.now)) (container_cell self.now)) }
     {
         Ok(match self {
-            ItemContainer::Logs(logs) => ItemContainer::Logs(remade_items(logs, way)?),
-            ItemContainer::Metrics(metrics) => ItemContainer::Metrics(remade_items(metrics, way)?),
+            ItemContainer::Logs(logs) => ItemContainer::Logs(remake_items(logs, way)?),
+            ItemContainer::Metrics(metrics) => ItemContainer::Metrics(remake_items(metrics, way)?),
         })
     }
 
-    /// The same container. It fails where memory is refused.
+    /// Clones the container. `AllocError` if an allocation fails.
     #[tactic(auto, unfolding(sentry_members::specs::Made::made))]
     pub fn clone(&self) -> Result<ItemContainer, AllocError>
-        ensures kind { IfOk result (λ container. container_type container ≡ container_type self.now) }
-        ensures same { IfOk result (λ container. container_cell container ≡ container_cell self.now) }
+        ensures kind { IfOk result (λ container.
+            container_type container ≡ container_type self.now) }
+        ensures same { IfOk result (λ container.
+            container_cell container ≡ container_cell self.now) }
     {
-        self.remade(Way::Same)
+        self.remake(Way::Same)
     }
 }
 
-/// The values of a container made anew.
 #[tactic(auto, using(crate::proofs::Containers::items_made))]
-fn remade_items<T: Member>(items: &Vec<T>, way: Way) -> Result<Vec<T>, AllocError>
-    ensures { IfOk result (λ copy. items_cell T.cell_of copy.items ≡ made way (container_kind T.kind) (items_cell T.cell_of items.now.items)) }
+fn remake_items<T: Member>(items: &Vec<T>, way: Way) -> Result<Vec<T>, AllocError>
+    ensures { IfOk result (λ copy.
+        items_cell T.cell_of copy.items ≡
+        made way (container_kind T.kind) (items_cell T.cell_of items.now.items)) }
 {
-    items.remade(way)
+    items.remake(way)
+}
+
+/// Writes the payload of a container: an object with the values in the array `items`.
+///
+/// # Errors
+///
+/// `AllocError` if an allocation fails; a part of the payload may have been written.
+pub fn write_container_payload(
+    container: &ItemContainer,
+    out: &mut Writer,
+) -> Result<(), AllocError>
+    ensures { OnOk result (WritesTree (written (payload_kind (container_type container.now))
+        (container_cell container.now)) out.old out.new) }
+{
+    match container {
+        ItemContainer::Logs(logs) => write_table(&Lent { items: logs }, out),
+        ItemContainer::Metrics(metrics) => write_table(&Lent { items: metrics }, out),
+    }
 }
 
 impl From<Vec<Log>> for ItemContainer {

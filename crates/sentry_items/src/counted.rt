@@ -1,4 +1,4 @@
-//! A writer and a reader that count their failures, and sending a whole text.
+//! A writer and a reader that count failed calls, and calls that write a whole text.
 ghost use Rattle.std.specs.Prelude.{◌≡◌, ◌+◌, ◌-◌, ◌^◌, ◌<◌, ◌++◌, OnOk, OnErr, if◌then◌else◌};
 ghost use Rattle.std.specs.Io.{ReadsAtMost, WritesAtMost};
 ghost use Rattle.std.specs.Io.KnownBytes.{Appends, ReadConsumes, WriteAppends};
@@ -7,13 +7,14 @@ ghost use Rattle.sentry_items.specs.Counted.{reader_inside, reader_failures, wri
 use std::io;
 use std::io::{Read, Write};
 
-/// A write failed while a text was sent: a beginning of it was written, and not the whole.
+/// The failure to write a whole text: only a proper prefix was written, possibly none of it.
 #[derive(Debug, Drop)]
 pub struct SendFailed;
 
-/// A writer that counts the writes that fail: by an error, or by taking none of one or more bytes.
+/// A writer that counts failed writes: those that return an error, and those that accept 0 bytes of
+/// one or more.
 ///
-/// An interrupted write is a failure like any other.
+/// An interrupted write counts as failed.
 #[derive(Drop)]
 pub struct CountedWriter<W> {
     inner: W,
@@ -21,7 +22,7 @@ pub struct CountedWriter<W> {
 }
 
 impl<W> CountedWriter<W> {
-    /// A writer of which no write has failed yet.
+    /// Wraps a writer, with no failures counted.
     pub fn new(inner: W) -> Self
         ensures inside { writer_inside result ≡ inner }
         ensures failures { writer_failures result ≡ 0 }
@@ -29,14 +30,14 @@ impl<W> CountedWriter<W> {
         CountedWriter { inner, failures: 0 }
     }
 
-    /// How many writes have failed.
+    /// Returns the number of failed writes.
     pub fn failures(&self) -> u64
         ensures { result ≡ writer_failures self.now }
     {
         self.failures
     }
 
-    /// The writer inside.
+    /// Returns the wrapped writer.
     pub fn into_inner(self) -> W
         ensures { result ≡ writer_inside self }
     {
@@ -46,20 +47,24 @@ impl<W> CountedWriter<W> {
 }
 
 impl<W: Write> CountedWriter<W> {
-    /// Writes as the writer inside does, and counts a failure.
+    /// Writes to the wrapped writer once, and counts a failure. The count before has to be below
+    /// 2^64-1.
     pub fn write(&mut self, bytes: &[u8]) -> io::Result<usize>
         requires { writer_failures self.old < 2 ^ 64 - 1 }
         ensures bound { WritesAtMost result bytes.now }
-        ensures bytes { WriteAppends (W.contents (writer_inside self.old)) (W.contents (writer_inside self.new)) result bytes.now }
-        ensures failures { writer_failures self.new ≡ (if write_fails result bytes.now then writer_failures self.old + 1 else writer_failures self.old) }
+        ensures bytes { WriteAppends (W.contents (writer_inside self.old))
+            (W.contents (writer_inside self.new)) result bytes.now }
+        ensures failures { writer_failures self.new ≡
+            (if write_fails result bytes.now then writer_failures self.old + 1 else writer_failures
+            self.old) }
     {
         write_counting(bytes, &mut self.inner, &mut self.failures)
     }
 }
 
-/// A reader that counts the reads that answer an error.
+/// A reader that counts failed reads: those that return an error.
 ///
-/// An interrupted read is a failure like any other.
+/// An interrupted read counts as failed.
 #[derive(Drop)]
 pub struct CountedReader<R> {
     inner: R,
@@ -67,7 +72,7 @@ pub struct CountedReader<R> {
 }
 
 impl<R> CountedReader<R> {
-    /// A reader of which no read has failed yet.
+    /// Wraps a reader, with no failures counted.
     pub fn new(inner: R) -> Self
         ensures inside { reader_inside result ≡ inner }
         ensures failures { reader_failures result ≡ 0 }
@@ -75,14 +80,14 @@ impl<R> CountedReader<R> {
         CountedReader { inner, failures: 0 }
     }
 
-    /// How many reads have failed.
+    /// Returns the number of failed reads.
     pub fn failures(&self) -> u64
         ensures { result ≡ reader_failures self.now }
     {
         self.failures
     }
 
-    /// The reader inside.
+    /// Returns the wrapped reader.
     pub fn into_inner(self) -> R
         ensures { result ≡ reader_inside self }
     {
@@ -94,12 +99,15 @@ impl<R> CountedReader<R> {
 impl<R: Read> CountedReader<R> {
     ghost use Rattle.sentry_items.specs.Counted.{read_fails};
 
-    /// Reads as the reader inside does, and counts a failure.
+    /// Reads from the wrapped reader once, and counts a failure. The count before has to be below
+    /// 2^64-1.
     pub fn read(&mut self, buffer: &mut [u8]) -> io::Result<usize>
         requires { reader_failures self.old < 2 ^ 64 - 1 }
         ensures bound { ReadsAtMost result buffer.new }
-        ensures bytes { ReadConsumes (R.remaining (reader_inside self.old)) (R.remaining (reader_inside self.new)) result buffer.new }
-        ensures failures { reader_failures self.new ≡ (if read_fails result then reader_failures self.old + 1 else reader_failures self.old) }
+        ensures bytes { ReadConsumes (R.remaining (reader_inside self.old))
+            (R.remaining (reader_inside self.new)) result buffer.new }
+        ensures failures { reader_failures self.new ≡
+            (if read_fails result then reader_failures self.old + 1 else reader_failures self.old) }
     {
         let result = self.inner.read(buffer);
         if result.is_err() {
@@ -109,12 +117,12 @@ impl<R: Read> CountedReader<R> {
     }
 }
 
-/// Writes to a writer, and counts a failure.
 fn write_counting<W: Write>(bytes: &[u8], writer: &mut W, failures: &mut u64) -> io::Result<usize>
     requires { failures.old < 2 ^ 64 - 1 }
     ensures bound { WritesAtMost result bytes.now }
     ensures bytes { WriteAppends (W.contents writer.old) (W.contents writer.new) result bytes.now }
-    ensures failures { failures.new ≡ (if write_fails result bytes.now then failures.old + 1 else failures.old) }
+    ensures failures { failures.new ≡
+        (if write_fails result bytes.now then failures.old + 1 else failures.old) }
 {
     let result = writer.write(bytes);
     let failed = match &result {
@@ -127,7 +135,7 @@ fn write_counting<W: Write>(bytes: &[u8], writer: &mut W, failures: &mut u64) ->
     result
 }
 
-/// Sends a text by as many writes as it takes, and counts a failure.
+// Writes a whole text by as many writes as needed, and counts a failure in `failures`.
 fn send_counting<W: Write>(
     text: &[u8],
     writer: &mut W,
@@ -135,7 +143,8 @@ fn send_counting<W: Write>(
 ) -> Result<(), SendFailed>
     requires { failures.old < 2 ^ 64 - 1 }
     ensures whole { OnOk result (Appends (W.contents writer.old) (W.contents writer.new) text.now) }
-    ensures front { OnErr result (AppendsFront (W.contents writer.old) (W.contents writer.new) text.now) }
+    ensures front { OnErr result (AppendsFront (W.contents writer.old)
+        (W.contents writer.new) text.now) }
     ensures no_failure { OnOk result (failures.new ≡ failures.old) }
     ensures one_failure { OnErr result (failures.new ≡ failures.old + 1) }
 {
@@ -149,36 +158,51 @@ fn send_counting<W: Write>(
     Ok(())
 }
 
-/// Sends a text to a counted writer, by as many writes as it takes.
+/// Writes a whole text to a counted writer, by as many writes as needed. The count before has to be
+/// below 2^64-1.
 ///
-/// It fails at the first write that fails, is interrupted, or takes none of one or more bytes, and that write is counted.
+/// # Errors
+///
+/// `SendFailed` at the first write that fails, is interrupted, or accepts 0 bytes; that write is
+/// counted.
 pub fn send<W: Write>(text: &[u8], writer: &mut CountedWriter<W>) -> Result<(), SendFailed>
     requires { writer_failures writer.old < 2 ^ 64 - 1 }
-    ensures whole { OnOk result (Appends (W.contents (writer_inside writer.old)) (W.contents (writer_inside writer.new)) text.now) }
-    ensures front { OnErr result (AppendsFront (W.contents (writer_inside writer.old)) (W.contents (writer_inside writer.new)) text.now) }
+    ensures whole { OnOk result (Appends (W.contents (writer_inside writer.old))
+        (W.contents (writer_inside writer.new)) text.now) }
+    ensures front { OnErr result (AppendsFront (W.contents (writer_inside writer.old))
+        (W.contents (writer_inside writer.new)) text.now) }
     ensures no_failure { OnOk result (writer_failures writer.new ≡ writer_failures writer.old) }
-    ensures one_failure { OnErr result (writer_failures writer.new ≡ writer_failures writer.old + 1) }
+    ensures one_failure { OnErr result (writer_failures writer.new ≡
+        writer_failures writer.old + 1) }
 {
     send_counting(text, &mut writer.inner, &mut writer.failures)
 }
 
-/// Sends a text to a writer that counts nothing, by as many writes as it takes.
+/// Writes a whole text to a writer, by as many writes as needed.
 ///
-/// It fails at the first write that fails, is interrupted, or takes none of one or more bytes.
+/// # Errors
+///
+/// `SendFailed` at the first write that fails, is interrupted, or accepts 0 bytes.
 pub fn send_plain<W: Write>(text: &[u8], writer: &mut W) -> Result<(), SendFailed>
     ensures whole { OnOk result (Appends (W.contents writer.old) (W.contents writer.new) text.now) }
-    ensures front { OnErr result (AppendsFront (W.contents writer.old) (W.contents writer.new) text.now) }
+    ensures front { OnErr result (AppendsFront (W.contents writer.old)
+        (W.contents writer.new) text.now) }
 {
     let mut failures = 0;
     send_counting(text, writer, &mut failures)
 }
 
-/// Sends one text and then another, as if they were one, to a writer that counts nothing.
+/// Writes two texts to a writer, one after the other, by as many writes as needed.
 ///
-/// It fails at the first write that fails, is interrupted, or takes none of one or more bytes.
+/// # Errors
+///
+/// `SendFailed` at the first write that fails, is interrupted, or accepts 0 bytes; only a proper
+/// prefix of both texts together was written.
 pub fn send_both<W: Write>(first: &[u8], second: &[u8], writer: &mut W) -> Result<(), SendFailed>
-    ensures whole { OnOk result (Appends (W.contents writer.old) (W.contents writer.new) (first.now ++ second.now)) }
-    ensures front { OnErr result (AppendsFront (W.contents writer.old) (W.contents writer.new) (first.now ++ second.now)) }
+    ensures whole { OnOk result (Appends (W.contents writer.old) (W.contents writer.new)
+        (first.now ++ second.now)) }
+    ensures front { OnErr result (AppendsFront (W.contents writer.old) (W.contents writer.new)
+        (first.now ++ second.now)) }
 {
     send_plain(first, writer)?;
     send_plain(second, writer)

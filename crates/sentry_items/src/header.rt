@@ -1,4 +1,4 @@
-//! The headers of items of opaque bytes or of one JSON text.
+//! Item headers of payloads that are opaque bytes or one JSON text.
 ghost use Rattle.std.specs.Prelude.{◌≡◌, ℕ, List, ◌∷◌, ◌++◌, OnOk};
 ghost use Rattle.json.specs.Token.{begin_object};
 ghost use Rattle.sentry_items.specs.Attached.{short_header};
@@ -8,16 +8,20 @@ use json::Writer;
 use std::alloc::{AllocError, Global};
 use std::mem;
 
-/// Appends the header of an item of opaque bytes or of one JSON text: the payload's length and the item's type.
+/// Appends an item header with two members: `length`, the size of `payload` in bytes, and `type`,
+/// which is `word`.
 ///
-/// It fails where memory is refused, and may then have appended a part of the header.
+/// # Errors
+///
+/// `AllocError` if an allocation fails; a part of the header may have been appended.
 pub fn write_short_header(
     alloc: Global,
     word: &str,
     payload: &[u8],
     out: &mut Vec<u8>,
 ) -> Result<(), AllocError>
-    ensures ok { OnOk result (out.new.items ≡ out.old.items ++ header_text (short_header word.now payload.now)) }
+    ensures ok { OnOk result (out.new.items ≡ out.old.items ++
+        header_text (short_header word.now payload.now)) }
     ensures kept { (part : List ℕ) × (out.new.items ≡ out.old.items ++ part) }
 {
     let mut writer = Writer::new(mem::replace(out, Vec::new(alloc)));
@@ -26,23 +30,24 @@ pub fn write_short_header(
     outcome
 }
 
-/// Writes that header's text.
 fn write_short_tokens(word: &str, payload: &[u8], writer: &mut Writer) -> Result<(), AllocError>
-    ensures ok { OnOk result (writer.new.tokens ≡ writer.old.tokens ++ begin_object ∷ member_tokens (short_header word.now payload.now)) }
+    ensures ok { OnOk result (writer.new.tokens ≡ writer.old.tokens ++
+        begin_object ∷ member_tokens (short_header word.now payload.now)) }
     ensures before { writer.new.before ≡ writer.old.before }
 {
     writer.begin_object()?;
     write_last_members(word, payload, writer)
 }
 
-/// Writes the two members in which every such header ends, and its closing brace.
+// Writes `length`, `type` and the closing brace, in which short headers and attachment headers end.
 #[tactic(auto, unfolding(crate::specs::HeaderTokens::member_tokens))]
 pub(crate) fn write_last_members(
     word: &str,
     payload: &[u8],
     writer: &mut Writer,
 ) -> Result<(), AllocError>
-    ensures ok { OnOk result (writer.new.tokens ≡ writer.old.tokens ++ member_tokens (short_header word.now payload.now)) }
+    ensures ok { OnOk result (writer.new.tokens ≡ writer.old.tokens ++
+        member_tokens (short_header word.now payload.now)) }
     ensures before { writer.new.before ≡ writer.old.before }
 {
     writer.key("length")?;

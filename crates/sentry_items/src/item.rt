@@ -1,4 +1,4 @@
-//! What an envelope holds.
+//! Envelope items.
 
 ghost use Rattle.std.specs.Prelude.{◌≡◌, IfOk};
 ghost use Rattle.sentry_members.specs.Made.{made};
@@ -13,32 +13,33 @@ use sentry_records::{Log, Metric, MonitorCheckIn, SessionAggregates, SessionUpda
 use sentry_reports::Report;
 use std::alloc::{AllocError, Global};
 
-/// One item of an envelope.
+/// An item of an envelope.
 ///
 /// <https://develop.sentry.dev/sdk/data-model/envelope-items/>
 #[derive(Debug, Drop, PartialEq)]
 pub enum EnvelopeItem {
-    /// An event, in a box.
+    /// An event (`event`), boxed.
     Event(Box<Event<'static>>),
-    /// An update of a session.
+    /// A session update (`session`).
     SessionUpdate(SessionUpdate<'static>),
-    /// Sessions that are counted in groups.
+    /// Session aggregates (`sessions`): sessions counted in groups.
     SessionAggregates(SessionAggregates<'static>),
-    /// A transaction, in a box.
+    /// A transaction (`transaction`), boxed.
     Transaction(Box<Transaction<'static>>),
-    /// An attachment.
+    /// An attachment (`attachment`).
     Attachment(Attachment),
-    /// A check-in of a monitor.
+    /// A check-in of a monitor (`check_in`).
     MonitorCheckIn(MonitorCheckIn),
-    /// What a user says of an event.
+    /// A user report (`user_report`): feedback of a user on an event.
     UserReport(UserReport),
-    /// The recording of a replay.
+    /// A replay recording (`replay_recording`).
     ReplayRecording(ReplayRecording),
-    /// Logs, or metrics.
+    /// A container of logs (`log`) or of metrics (`trace_metric`).
     ItemContainer(ItemContainer),
-    /// What a client couldn't send.
+    /// A client report (`client_report`): counts of what a client didn't send.
     ClientReport(Report),
-    /// Stands for a whole envelope of bytes that nothing read. The envelope keeps the bytes.
+    /// A placeholder for the unread bytes of a raw envelope, which the envelope keeps; never
+    /// written.
     Raw,
 }
 
@@ -48,7 +49,7 @@ impl EnvelopeItem {
     ghost use Rattle.sentry_items.specs.Meets.{IsItemPlain, IsItemStored};
     ghost use Rattle.sentry_items.specs.View.{item_held, kind_held, IsEvent, IsTransaction};
 
-    /// An event as an item, in a box. Where memory is refused it is handed back.
+    /// Boxes an event as an item; returns the event unchanged if the allocation fails.
     pub fn event(alloc: Global, event: Event<'static>) -> Result<EnvelopeItem, Event<'static>>
         ensures boxed { IfOk result (IsEvent event.entry) }
         ensures handed_back { IfErr result (λ back. back ≡ event.entry) }
@@ -59,7 +60,7 @@ impl EnvelopeItem {
         }
     }
 
-    /// A transaction as an item, in a box. Where memory is refused it is handed back.
+    /// Boxes a transaction as an item; returns the transaction unchanged if the allocation fails.
     pub fn transaction(
         alloc: Global,
         transaction: Transaction<'static>,
@@ -73,7 +74,7 @@ impl EnvelopeItem {
         }
     }
 
-    /// The type of the item. A raw one has none.
+    /// Returns the item type; `None` for `Raw`.
     pub fn kind(&self) -> Option<ItemKind>
         ensures { result ≡ kind_held (item_held self.now) }
     {
@@ -92,8 +93,9 @@ impl EnvelopeItem {
         }
     }
 
-    /// Whether the item's trees hold no floats, and no member that no row names clashes with a row.
-    /// Of a raw item, which isn't written, nothing is asked.
+    /// Returns whether the item can be written: no JSON value in the item holds a float, and no
+    /// additional member has the key of a field. Always true for `Raw`, which is left out of what
+    /// is written.
     pub fn is_plain(&self) -> bool
         ensures plain { IsTrue result ↔ IsItemPlain (item_held self.now) }
         ensures stored { IsTrue result → IsItemStored (item_held self.now) }
@@ -112,62 +114,62 @@ impl EnvelopeItem {
         }
     }
 
-    /// The same item, or its normal form. It fails where memory is refused.
+    // Copies the item, or makes its normal form.
     #[tactic(auto, using(crate::proofs::Made::value_made, crate::proofs::Made::attachment_made, crate::proofs::Made::recording_made, crate::proofs::Made::raw_made))]
-    pub fn remade(&self, way: Way) -> Result<EnvelopeItem, AllocError>
+    fn remake(&self, way: Way) -> Result<EnvelopeItem, AllocError>
         ensures { IfOk result (λ item. item_held item ≡ item_made way (item_held self.now)) }
     {
         Ok(match self {
-            EnvelopeItem::Event(event) => EnvelopeItem::Event(remade_box(event, way)?),
+            EnvelopeItem::Event(event) => EnvelopeItem::Event(remake_box(event, way)?),
             EnvelopeItem::SessionUpdate(session) => {
-                EnvelopeItem::SessionUpdate(session.remade(way)?)
+                EnvelopeItem::SessionUpdate(session.remake(way)?)
             }
             EnvelopeItem::SessionAggregates(groups) => {
-                EnvelopeItem::SessionAggregates(groups.remade(way)?)
+                EnvelopeItem::SessionAggregates(groups.remake(way)?)
             }
             EnvelopeItem::Transaction(transaction) => {
-                EnvelopeItem::Transaction(remade_box(transaction, way)?)
+                EnvelopeItem::Transaction(remake_box(transaction, way)?)
             }
             EnvelopeItem::Attachment(attachment) => {
-                EnvelopeItem::Attachment(attachment.remade(way)?)
+                EnvelopeItem::Attachment(attachment.remake(way)?)
             }
             EnvelopeItem::MonitorCheckIn(check_in) => {
-                EnvelopeItem::MonitorCheckIn(check_in.remade(way)?)
+                EnvelopeItem::MonitorCheckIn(check_in.remake(way)?)
             }
-            EnvelopeItem::UserReport(report) => EnvelopeItem::UserReport(report.remade(way)?),
+            EnvelopeItem::UserReport(report) => EnvelopeItem::UserReport(report.remake(way)?),
             EnvelopeItem::ReplayRecording(recording) => {
-                EnvelopeItem::ReplayRecording(recording.remade(way)?)
+                EnvelopeItem::ReplayRecording(recording.remake(way)?)
             }
             EnvelopeItem::ItemContainer(container) => {
-                EnvelopeItem::ItemContainer(container.remade(way)?)
+                EnvelopeItem::ItemContainer(container.remake(way)?)
             }
-            EnvelopeItem::ClientReport(report) => EnvelopeItem::ClientReport(report.remade(way)?),
+            EnvelopeItem::ClientReport(report) => EnvelopeItem::ClientReport(report.remake(way)?),
             EnvelopeItem::Raw => EnvelopeItem::Raw,
         })
     }
 
-    /// The same item. It fails where memory is refused.
+    /// Clones the item. `AllocError` if an allocation fails.
     #[tactic(auto, unfolding(crate::specs::Made::item_made))]
     pub fn clone(&self) -> Result<EnvelopeItem, AllocError>
         ensures { IfOk result (λ item. item_held item ≡ item_held self.now) }
     {
-        self.remade(Way::Same)
+        self.remake(Way::Same)
     }
 
-    /// The item's normal form. It fails where memory is refused.
+    /// Returns the normal form: the item that is read back after writing. `AllocError` if an
+    /// allocation fails.
     #[tactic(auto, unfolding(crate::specs::Made::item_made))]
     pub fn normalized(&self, alloc: Global) -> Result<EnvelopeItem, AllocError>
         ensures { IfOk result (λ item. item_held item ≡ item_norm (item_held self.now)) }
     {
-        self.remade(Way::Normal(alloc))
+        self.remake(Way::Normal(alloc))
     }
 }
 
-/// The value in a box made anew, in a box of its own.
-fn remade_box<T: Member>(boxed: &Box<T>, way: Way) -> Result<Box<T>, AllocError>
+fn remake_box<T: Member>(boxed: &Box<T>, way: Way) -> Result<Box<T>, AllocError>
     ensures { IfOk result (λ b. T.cell_of b.value ≡ made way T.kind (T.cell_of boxed.now.value)) }
 {
-    Ok(Box::new(*Box::allocator(boxed), boxed.as_ref().remade(way)?)?)
+    Ok(Box::new(*Box::allocator(boxed), boxed.as_ref().remake(way)?)?)
 }
 
 impl From<SessionUpdate<'static>> for EnvelopeItem {
@@ -264,7 +266,8 @@ impl From<Vec<Metric>> for EnvelopeItem {
     ghost use Rattle.sentry_items.specs.declared.item.EnvelopeItem.TheVariants as variants;
     ghost use Rattle.sentry_items.specs.declared.container.ItemContainer.TheVariants as containers;
 
-    ghost from_gives = { λ metrics item. item ≡ variants.ItemContainer (containers.Metrics metrics) };
+    ghost from_gives = { λ metrics item.
+        item ≡ variants.ItemContainer (containers.Metrics metrics) };
 
     fn from(metrics: Vec<Metric>) -> EnvelopeItem {
         EnvelopeItem::ItemContainer(ItemContainer::Metrics(metrics))

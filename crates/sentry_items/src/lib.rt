@@ -1,4 +1,4 @@
-//! The items of envelopes, and sending bytes.
+//! Envelope items and their losses, and calls that write a whole text.
 #![tactic(auto)]
 
 pub mod attachment;
@@ -8,8 +8,10 @@ pub mod counted;
 pub mod header;
 pub mod item;
 pub mod laws;
-pub mod listed;
+mod listed;
+pub mod loss;
 pub mod replay_recording;
+mod sizes;
 mod usual;
 
 pub use attachment::{Attachment, AttachmentWriteError};
@@ -18,4 +20,11 @@ pub use container::ItemContainer;
 pub use counted::{CountedReader, CountedWriter};
 pub use item::EnvelopeItem;
 pub use listed::Listed;
+pub use loss::{ItemLossIter, LossSlice, LossSource};
 pub use replay_recording::ReplayRecording;
+pub use sentry_records::{
+    DynamicSamplingContext, Log, LogAttribute, Metric, MonitorCheckIn, MonitorConfig,
+    MonitorSchedule, ScheduleError, SessionAggregateItem, SessionAggregates, SessionAttributes,
+    SessionUpdate, UserReport,
+};
+pub use sentry_reports::{Category, Item, ItemLoss, Reason, Report};

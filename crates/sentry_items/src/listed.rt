@@ -1,14 +1,15 @@
-//! The object that a container's payload is.
+//! The payload of a container: an object with an array `items`.
 
+use sentry_json::Node;
 use sentry_members::{Formed, FromTree, Member};
 use sentry_rows::{AsTable, Copier, CopyTable, ReadTable, Reader, Sink, Table};
-use sentry_trees::Node;
 use std::alloc::AllocError;
 
-/// The object that a container's payload is: its values at the key `items`. Other keys are ignored.
+/// The payload of a container: an object with its values in the array `items`. Other members are
+/// ignored.
 #[derive(Drop)]
 pub struct Listed<T: Drop> {
-    /// The values, in order.
+    /// Values, in order.
     pub items: Vec<T>,
 }
 
@@ -37,14 +38,14 @@ impl<T: FromTree> ReadTable for Listed<T> {
 }
 
 impl<T: Member> CopyTable for Listed<T> {
-    fn copied(&self, copies: &mut Copier) -> Result<Listed<T>, AllocError> {
+    fn copy_rows(&self, copies: &mut Copier) -> Result<Listed<T>, AllocError> {
         Ok(Listed {
             items: copies.list(&self.items),
         })
     }
 }
 
-/// The same object of values that are lent.
+// A `Listed` that borrows its values.
 #[derive(Drop)]
 pub(crate) struct Lent<'s, T: Drop> {
     pub items: &'s Vec<T>,

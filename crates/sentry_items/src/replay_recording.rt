@@ -1,21 +1,21 @@
-//! Recordings of replays.
+//! Replay recordings.
 
 use sentry_members::Way;
 use std::alloc::{AllocError, Global};
 
-/// The recording of a replay: bytes that nothing here reads.
+/// A replay recording: opaque bytes.
 ///
 /// <https://develop.sentry.dev/sdk/data-model/envelope-items/#replay-recording>
 #[derive(Debug, Drop, PartialEq)]
 pub struct ReplayRecording {
-    /// The bytes.
+    /// Contents of the recording.
     pub buffer: Vec<u8>,
 }
 
 impl ReplayRecording {
     ghost use Rattle.std.specs.Prelude.{◌≡◌, [], IfOk};
 
-    /// A recording of no bytes.
+    /// Creates a recording of no bytes.
     pub fn default_in(alloc: Global) -> ReplayRecording
         ensures { result.buffer.items ≡ [] }
     {
@@ -24,8 +24,8 @@ impl ReplayRecording {
         }
     }
 
-    /// The same recording, which is its own normal form. It fails where memory is refused.
-    pub fn remade(&self, _way: Way) -> Result<ReplayRecording, AllocError>
+    // A recording is its own normal form, so both ways give a copy.
+    pub(crate) fn remake(&self, _way: Way) -> Result<ReplayRecording, AllocError>
         ensures { IfOk result (λ recording. recording.buffer.items ≡ self.now.buffer.items) }
     {
         Ok(ReplayRecording {
@@ -33,17 +33,17 @@ impl ReplayRecording {
         })
     }
 
-    /// The same recording. It fails where memory is refused.
+    /// Clones the recording. `AllocError` if an allocation fails.
     pub fn clone(&self) -> Result<ReplayRecording, AllocError>
         ensures { IfOk result (λ recording. recording.buffer.items ≡ self.now.buffer.items) }
     {
-        self.remade(Way::Same)
+        self.remake(Way::Same)
     }
 
-    /// The recording's normal form, which is the same. It fails where memory is refused.
+    /// Returns the normal form, which is a copy. `AllocError` if an allocation fails.
     pub fn normalized(&self) -> Result<ReplayRecording, AllocError>
         ensures { IfOk result (λ recording. recording.buffer.items ≡ self.now.buffer.items) }
     {
-        self.remade(Way::Normal(*self.buffer.allocator()))
+        self.remake(Way::Normal(*self.buffer.allocator()))
     }
 }

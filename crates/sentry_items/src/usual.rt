@@ -1,4 +1,4 @@
-//! The header of an attachment with the usual types, whose name needs no escape.
+//! The item header of an attachment with default types and a file name without escapes.
 ghost use Rattle.std.specs.Prelude.{◌≡◌, ℕ, List, ◌++◌, OnOk, length};
 ghost use Rattle.std.specs.Bool.{OnTrue};
 ghost use Rattle.json.specs.Print.{escape};
@@ -8,24 +8,20 @@ ghost use Rattle.sentry_items.specs.UsualHeader.{usual_header};
 
 use std::alloc::AllocError;
 
-/// What stands before the name.
 const BEFORE_NAME: &[u8] =
     b"{\"attachment_type\":\"event.attachment\",\"content_type\":\"application/octet-stream\",\"filename\":\"";
 
-/// What stands between the name and the length.
 const AFTER_NAME: &[u8] = b"\",\"length\":";
 
-/// What stands after the length.
 const AFTER_LENGTH: &[u8] = b",\"type\":\"attachment\"}";
 
-/// Whether a text needs no escape in JSON.
+// Whether a text needs no escape in JSON.
 pub(crate) fn is_plain(text: &[u8]) -> bool
     ensures { OnTrue result (escape text.now ≡ text.now) }
 {
     has_no_special(text)
 }
 
-/// Whether a text has no quote, no backslash and no control character.
 fn has_no_special(text: &[u8]) -> bool
     ensures { OnTrue result (PlainBetween text.now 0 (length text.now)) }
 {
@@ -37,16 +33,17 @@ fn has_no_special(text: &[u8]) -> bool
     true
 }
 
-/// Appends the header of an attachment with the usual types, a name that needs no escape, and so many bytes.
-///
-/// It fails where memory is refused, and may then have appended a part of the header.
+// Appends the item header of an attachment of `len` bytes with default types and a file name
+// without escapes. `AllocError` if an allocation fails; a part of the header may have been
+// appended.
 pub(crate) fn write_usual_header(
     filename: &str,
     len: usize,
     out: &mut Vec<u8>,
 ) -> Result<(), AllocError>
     requires { escape filename.now ≡ filename.now }
-    ensures ok { OnOk result (out.new.items ≡ out.old.items ++ header_text (usual_header filename.now len)) }
+    ensures ok { OnOk result (out.new.items ≡ out.old.items ++
+        header_text (usual_header filename.now len)) }
     ensures kept { (part : List ℕ) × (out.new.items ≡ out.old.items ++ part) }
 {
     let mut digits = itoa::Buffer::new();

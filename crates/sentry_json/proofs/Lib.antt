@@ -8,3 +8,11 @@ pub mod Puts
 pub mod Regular
 pub mod Sound
 pub mod Lines
+pub mod Deeper
+pub mod Gathered
+pub mod Latest
+pub mod Trees
+pub mod Numbers
+pub mod Tokens
+pub mod Beside
+pub mod Each

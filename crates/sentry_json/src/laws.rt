@@ -19,7 +19,8 @@ pub fn what_a_line_is()
 pub fn what_a_line_is_read_as()
     ensures sound { (line : List ℕ) (d : Data) → tree_of line ≡ Some d → IsSound d }
     ensures depth { (line : List ℕ) (d : Data) → tree_of line ≡ Some d → depth d ≤ 127 }
-    ensures again { (line : List ℕ) (d : Data) → tree_of line ≡ Some d → tree_of (compact_text d) ≡ Some d }
+    ensures again { (line : List ℕ) (d : Data) → tree_of line ≡ Some d →
+        tree_of (compact_text d) ≡ Some d }
 {}
 
 /// The compact text of a sound tree, nested at most 127 deep, is a line with that tree.

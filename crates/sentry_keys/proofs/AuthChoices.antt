@@ -3,8 +3,8 @@ use Rattle.std.proofs.Common.{◌≡◌, ◌==◌, ◌⊎◌, ◌+◌, ◌*◌, 
 use Rattle.std.specs.Prelude.{unwrap_or}
 use Rattle.std.specs.List.{AllByRecursion, Contains, last_or, before_first}
 use Rattle.std.proofs.lemmas.Bool.{cases_lt}
-use Rattle.sentry_numbers.specs.Number.{number_of}
-use Rattle.sentry_numbers.proofs.NumberTexts.{number_of_iff}
+use Rattle.sentry_text.specs.Number.{number_of}
+use Rattle.sentry_text.proofs.NumberTexts.{number_of_iff}
 use Rattle.sentry_moments.specs.Decimal.{Worth, Billionths, BelowZero, IsDecimal, IsNoDecimal}
 use Rattle.sentry_moments.proofs.DecimalTexts.{one_worth, is_decided}
 use Rattle.sentry_keys.specs.Auth.{Pair, Time, Parts, values_at, last_at, timestamp_key, client_key, version_key, key_key, secret_key, IsReadable, IsUnreadable, VersionIs, TimestampIs, VersionsAreReadable, Tell, IsAuth, HasUnreadableVersion, HasNoKey}

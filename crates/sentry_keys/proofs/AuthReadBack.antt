@@ -4,8 +4,8 @@ use Rattle.std.specs.Fmt.{decimal}
 use Rattle.std.specs.List.{filter_map, cons_option, after_first}
 use Rattle.std.specs.Str.{trim, trim_start, trim_end, chars}
 use Rattle.std.proofs.lemmas.Fmt.{decimal_is_IsNumeral}
-use Rattle.sentry_numbers.specs.Number.{IsNumber}
-use Rattle.sentry_numbers.proofs.NumberTexts.{number_of_iff, written_number}
+use Rattle.sentry_text.specs.Number.{IsNumber}
+use Rattle.sentry_text.proofs.NumberTexts.{number_of_iff, written_number}
 use Rattle.sentry_moments.specs.Digits.{fraction_text, digits_without_closing_zeros}
 use Rattle.sentry_moments.specs.Rfc3339.{IsMomentTime}
 use Rattle.sentry_moments.proofs.DecimalReadBack.{decimal_reads_back}

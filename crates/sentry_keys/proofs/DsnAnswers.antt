@@ -8,7 +8,7 @@ use Rattle.url.specs.Host.{host_text}
 use Rattle.url.specs.Input.{is_empty}
 use Rattle.url.specs.Parts.{Parts, nonempty_host}
 use Rattle.url.specs.Parser.{Parsed, parse_url}
-use Rattle.sentry_numbers.specs.declared.project_id.ParseProjectIdError.TheVariants as project
+use Rattle.sentry_text.specs.declared.project_id.ParseProjectIdError.TheVariants as project
 use Rattle.sentry_keys.specs.declared.scheme.Scheme.{Scheme}
 use Rattle.sentry_keys.specs.declared.scheme.Scheme.TheVariants.{Http, Https}
 use Rattle.sentry_keys.specs.declared.dsn_error.ParseDsnError.{ParseDsnError}

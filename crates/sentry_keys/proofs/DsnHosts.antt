@@ -10,10 +10,10 @@ use Rattle.std.proofs.lemmas.List.Splits.{slice_split_none, slice_split_first, j
 use Rattle.std.proofs.lemmas.Slice.Eq.{bytes_eq-Decides}
 use Rattle.std.proofs.lemmas.Str.Parse.{without_leading_plus_none}
 use Rattle.std.proofs.lemmas.Str.Pattern.{IsSplitOnceResult, split_parts, split_once_first}
-use Rattle.sentry_numbers.specs.declared.project_id.OrganizationId.{OrganizationId}
-use Rattle.sentry_numbers.specs.Number.{number_of}
-use Rattle.sentry_numbers.specs.ProjectId.{organization_value}
-use Rattle.sentry_numbers.proofs.NumberTexts.{number_of_iff, no_plus}
+use Rattle.sentry_text.specs.declared.project_id.OrganizationId.{OrganizationId}
+use Rattle.sentry_text.specs.Number.{number_of}
+use Rattle.sentry_text.specs.ProjectId.{organization_value}
+use Rattle.sentry_text.proofs.NumberTexts.{number_of_iff, no_plus}
 use Rattle.sentry_keys.specs.DsnOrganization.{labels, sentry, IsIngestHost, IsDigits, NamesOrganization}
 
 others : (text : List ℕ) → ((i : ℕ) → i < length text → get_or text i 0 ≢ 46) → All (λ b. (b == 46) ≡ false) text

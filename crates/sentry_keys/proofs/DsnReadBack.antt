@@ -23,7 +23,7 @@ use Rattle.url.proofs.SchemeLemmas.{IsAscii-scheme}
 use Rattle.url.proofs.SetterLemmas.{own_host}
 use Rattle.url.proofs.TextLemmas.{All_kept}
 use Rattle.url.proofs.ValidLemmas.{segment_list_kept, hierarchical, special_has_authority, base_from_authority}
-use Rattle.sentry_urls.proofs.UrlTrees.{named_valid}
+use Rattle.sentry_text.proofs.UrlTrees.{named_valid}
 use Rattle.sentry_keys.specs.declared.dsn.Dsn.{Dsn}
 use Rattle.sentry_keys.specs.declared.scheme.Scheme.{Scheme}
 use Rattle.sentry_keys.specs.declared.scheme.Scheme.TheVariants.{Http, Https}

@@ -1,7 +1,7 @@
 -- What pairs of a key and a value say of an authentication.
 use Rattle.std.specs.Prelude.{◌≡◌, ℕ, ◌+◌, ◌*◌, ◌^◌, ◌<◌, ◌==◌, List, [], map, filter, codes, length, bytes_eq, Option, Some, None, option_map, unwrap_or, Result, Ok, Err, string_bytes}
 use Rattle.std.specs.List.{AllByRecursion, Contains, last_or, before_first}
-use Rattle.sentry_numbers.specs.Number.{IsNumber}
+use Rattle.sentry_text.specs.Number.{IsNumber}
 use Rattle.sentry_moments.specs.Decimal.{IsDecimal, Billionths}
 use Rattle.sentry_moments.specs.Rfc3339.{IsMomentTime}
 use Rattle.sentry_moments.specs.declared.moment.Moment.{Moment}

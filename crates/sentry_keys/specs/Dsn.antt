@@ -4,8 +4,8 @@ use Rattle.url.specs.Input.{is_empty}
 use Rattle.url.specs.Host.{host_text}
 use Rattle.url.specs.Parts.{Parts, nonempty_host}
 use Rattle.url.specs.Parser.{Parsed, parse_url}
-use Rattle.sentry_numbers.specs.ProjectId.{project_text}
-use Rattle.sentry_numbers.specs.declared.project_id.ParseProjectIdError.TheVariants as project
+use Rattle.sentry_text.specs.ProjectId.{project_text}
+use Rattle.sentry_text.specs.declared.project_id.ParseProjectIdError.TheVariants as project
 use Rattle.sentry_keys.specs.declared.scheme.Scheme.{Scheme}
 use Rattle.sentry_keys.specs.declared.dsn.Dsn.{Dsn}
 use Rattle.sentry_keys.specs.declared.dsn_error.ParseDsnError.{ParseDsnError}

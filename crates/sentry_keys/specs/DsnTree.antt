@@ -6,7 +6,7 @@ use Rattle.sentry_members.specs.Cells.{natural_cell, option_cell}
 use Rattle.sentry_members.specs.Spelling.{Spelling, spelled_kind}
 use Rattle.sentry_members.specs.declared.error.TreeError.{TreeError}
 use Rattle.sentry_members.specs.declared.error.TreeError.TheVariants as tree
-use Rattle.sentry_urls.specs.CellParts.{cells_of, first, others}
+use Rattle.sentry_text.specs.CellParts.{cells_of, first, others}
 use Rattle.sentry_keys.specs.declared.dsn_error.ParseDsnError.{ParseDsnError}
 use Rattle.sentry_keys.specs.declared.dsn_error.ParseDsnError.TheVariants.{Memory}
 use Rattle.sentry_keys.specs.declared.dsn.Dsn.{Dsn}

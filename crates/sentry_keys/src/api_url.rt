@@ -1,4 +1,4 @@
-//! Where a DSN's events are sent.
+//! URLs of a DSN's store and envelope endpoints.
 
 ghost use Rattle.std.specs.Prelude.{◌≡◌, IfOk, MatchResult, None, Ok, Some, string_bytes};
 ghost use Rattle.url.specs.Parser.{parse_url};
@@ -11,13 +11,13 @@ use std::alloc::{AllocError, Global};
 use thiserror::Error;
 use url::{ParseError, Url};
 
-/// The text of an API address became no URL.
+/// An error of making the URL of an API endpoint.
 #[derive(Debug, Drop, Error)]
 pub enum ApiUrlError {
-    /// The parser of URLs refuses the text.
+    /// The text of the endpoint is no URL.
     #[error("NotAUrl")]
     NotAUrl,
-    /// There was no memory, or the URL would take 4 GB.
+    /// An allocation failed, or the URL would take 4 GB.
     #[error("out of memory")]
     Memory,
 }
@@ -31,7 +31,8 @@ impl From<AllocError> for ApiUrlError {
 }
 
 fn parse(alloc: Global, text: &str) -> Result<Url, ApiUrlError>
-    ensures { MatchResult result (λ url. parse_url None text.now ≡ Ok url) (spec.IsApiRefusal text.now) }
+    ensures { MatchResult result (λ url.
+        parse_url None text.now ≡ Ok url) (spec.IsApiRefusal text.now) }
 {
     match Url::parse(alloc, text) {
         Ok(url) => Ok(url),
@@ -41,7 +42,7 @@ fn parse(alloc: Global, text: &str) -> Result<Url, ApiUrlError>
 }
 
 impl Dsn {
-    // The port that is written in an API address.
+    // Returns the port of an endpoint's URL; `None` if the port is the scheme's default.
     fn api_port(&self) -> PortText
         ensures { port_text result.0 ≡ spec.api_port_text (dsn_parts self.now) }
     {
@@ -53,12 +54,13 @@ impl Dsn {
         }
     }
 
-    /// The address that takes single events, as text: the scheme, `://`, the host, `:` and the port
-    /// unless it is the scheme's own, the path, `api/`, the project and `/store/`.
+    /// Returns the text of the store endpoint's URL, which accepts single events:
+    /// `SCHEME://HOST:PORT/PATH/api/PROJECT_ID/store/`. `:PORT` is omitted if the port is the
+    /// scheme's default, and `/PATH` if the DSN's path is `/`.
     ///
     /// # Errors
     ///
-    /// `AllocError` where there is no memory for the text.
+    /// `AllocError` if an allocation fails.
     pub fn store_api_url_text(&self, alloc: Global) -> Result<String, AllocError>
         ensures { IfOk result (λ s. string_bytes s ≡ spec.store_text (dsn_parts self.now)) }
     {
@@ -67,12 +69,13 @@ impl Dsn {
         format!(in alloc; "{scheme}://{host}{port}{path}api/{project}/store/")
     }
 
-    /// The address that takes envelopes, as text: that of [`Dsn::store_api_url_text`] with
-    /// `/envelope/` at its end.
+    /// Returns the text of the envelope endpoint's URL:
+    /// `SCHEME://HOST:PORT/PATH/api/PROJECT_ID/envelope/`. `:PORT` is omitted if the port is the
+    /// scheme's default, and `/PATH` if the DSN's path is `/`.
     ///
     /// # Errors
     ///
-    /// `AllocError` where there is no memory for the text.
+    /// `AllocError` if an allocation fails.
     pub fn envelope_api_url_text(&self, alloc: Global) -> Result<String, AllocError>
         ensures { IfOk result (λ s. string_bytes s ≡ spec.envelope_text (dsn_parts self.now)) }
     {
@@ -81,11 +84,12 @@ impl Dsn {
         format!(in alloc; "{scheme}://{host}{port}{path}api/{project}/envelope/")
     }
 
-    /// The address that takes single events: the URL of [`Dsn::store_api_url_text`].
+    /// Returns the URL of the store endpoint, by parsing [`Dsn::store_api_url_text`].
     ///
     /// # Errors
     ///
-    /// `NotAUrl` only where the parser of URLs refuses that text, and `Memory` where there is no memory.
+    /// - `NotAUrl` if the text is no URL.
+    /// - `Memory` if an allocation fails, or if the URL would take 4 GB.
     pub fn store_api_url(&self, alloc: Global) -> Result<Url, ApiUrlError>
         ensures { MatchResult result
             (λ url. parse_url None (spec.store_text (dsn_parts self.now)) ≡ Ok url)
@@ -94,11 +98,12 @@ impl Dsn {
         parse(alloc, self.store_api_url_text(alloc)?.as_str())
     }
 
-    /// The address that takes envelopes: the URL of [`Dsn::envelope_api_url_text`].
+    /// Returns the URL of the envelope endpoint, by parsing [`Dsn::envelope_api_url_text`].
     ///
     /// # Errors
     ///
-    /// `NotAUrl` only where the parser of URLs refuses that text, and `Memory` where there is no memory.
+    /// - `NotAUrl` if the text is no URL.
+    /// - `Memory` if an allocation fails, or if the URL would take 4 GB.
     pub fn envelope_api_url(&self, alloc: Global) -> Result<Url, ApiUrlError>
         ensures { MatchResult result
             (λ url. parse_url None (spec.envelope_text (dsn_parts self.now)) ≡ Ok url)

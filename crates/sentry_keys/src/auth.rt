@@ -1,4 +1,4 @@
-//! What a client authenticates itself with: the header `X-Sentry-Auth`, or the query of a URL.
+//! Client authentication: the `X-Sentry-Auth` header, or the query string of a URL.
 //!
 //! <https://develop.sentry.dev/sdk/overview/#authentication>
 
@@ -17,22 +17,22 @@ use std::alloc::{AllocError, Global};
 use std::fmt;
 use thiserror::Error;
 
-/// The version of the protocol that clients speak now.
+/// The latest protocol version.
 pub const LATEST: u16 = 7;
 
-/// Why a text or a list of pairs is no authentication.
+/// An error of parsing client authentication.
 #[derive(Clone, Copy, Debug, PartialEq, Eq, Error)]
 pub enum ParseAuthError {
-    /// The header doesn't begin with the word `sentry`.
+    /// The header doesn't begin with the word `sentry`, in any ASCII case.
     #[error("non sentry auth")]
     NonSentryAuth,
-    /// A version isn't a whole number of 16 bits.
+    /// A `sentry_version` isn't a whole number of 16 bits.
     #[error("invalid value for version")]
     InvalidVersion,
-    /// There is no public key, or it is empty.
+    /// The public key (`sentry_key`) is absent or empty.
     #[error("missing public key in auth header")]
     MissingPublicKey,
-    /// Memory was refused.
+    /// An allocation failed.
     #[error("out of memory")]
     Memory,
 }
@@ -47,17 +47,17 @@ impl From<AllocError> for ParseAuthError {
     }
 }
 
-/// What a client authenticates itself with: a public key, and maybe a secret one.
+/// Client authentication: the public key and the protocol version, with an optional secret key,
+/// client name and version, and timestamp.
 ///
-/// It also tells the version of the protocol, and may tell the client's name and the moment at which
-/// it was made. It is printed as the text of a header, and read from that text.
+/// Parsed from an `X-Sentry-Auth` header or a query string, and printed as the header's value:
 ///
 /// ```text
-/// Sentry sentry_key=b70a31b3510c4cf793964a185cfe1fd0, sentry_version=7, sentry_client=sentry.python/1.9.10
+/// Sentry sentry_key=b70a31b3510c4cf793964a185cfe1fd0, sentry_version=7, sentry_client=my-sdk/1.0
 /// ```
 ///
-/// As JSON it is an object of `sentry_client`, `sentry_key`, `sentry_secret` and `sentry_version`;
-/// the moment never stands in it.
+/// The JSON form is an object of `sentry_client`, `sentry_key`, `sentry_secret` and
+/// `sentry_version`, without the timestamp.
 #[derive(Debug, Drop)]
 pub struct Auth {
     timestamp: Option<Moment>,
@@ -67,7 +67,7 @@ pub struct Auth {
     secret: Option<String>,
 }
 
-// The text before the first such character, or the whole text.
+// Returns the text before the first `at`; the whole text if absent.
 fn before(text: &str, at: char) -> &str
     requires { at < 128 }
     ensures { result.now ≡ before_first (λ b. b == at) text.now }
@@ -78,7 +78,7 @@ fn before(text: &str, at: char) -> &str
     }
 }
 
-// The number up to the first point.
+// Parses the number before the first `.`.
 fn read_version(text: &str) -> Option<u16>
     ensures found { IfSome result (IsVersion text.now) }
     ensures only { (n : ℕ) → IsVersion text.now n → result ≡ Some n }
@@ -86,7 +86,7 @@ fn read_version(text: &str) -> Option<u16>
     before(text, '.').parse::<u16>().ok()
 }
 
-// The pair that an item is, cut at its first two `=`.
+// Splits an item into key and value, trimmed; a second `=` ends the value.
 fn item_pair(item: &str) -> Option<(&str, &str)>
     ensures { option_map pair_text result ≡ item_pair item.now }
 {
@@ -95,7 +95,6 @@ fn item_pair(item: &str) -> Option<(&str, &str)>
 }
 
 impl Auth {
-    /// The authentication of these parts.
     pub(crate) fn from_parts(
         timestamp: Option<Moment>,
         client: Option<String>,
@@ -118,14 +117,14 @@ impl Auth {
         }
     }
 
-    // What no pair tells.
+    // Returns the defaults, which an empty list of pairs gives: no key, version `LATEST`.
     fn untold(alloc: Global) -> Auth
         ensures { Tell [] (parts_of result) }
     {
         Auth::from_parts(None, None, LATEST, String::new(alloc), None)
     }
 
-    // Takes what one more pair tells.
+    // Applies one more pair, which replaces an earlier pair of its key; ignores an unknown key.
     fn tell(&mut self, alloc: Global, key: &str, value: &str) -> Result<(), ParseAuthError>
         ensures ok { OnOk result ((pairs : List Pair) → Tell pairs (parts_of self.old) →
             Tell (pairs ++ (key.now, value.now) ∷ []) (parts_of self.new)) }
@@ -148,7 +147,7 @@ impl Auth {
         Ok(())
     }
 
-    // The authentication, if it has a key.
+    // Checks that the public key isn't empty.
     fn with_key(self) -> Result<Auth, ParseAuthError>
         ensures { (pairs : List Pair) → Tell pairs (parts_of self) → ReadsPairs pairs result }
     {
@@ -158,19 +157,22 @@ impl Auth {
         Ok(self)
     }
 
-    /// The authentication that pairs of a key and a value tell.
+    /// Parses pairs of a key and a value.
     ///
-    /// Of each key the last pair counts, and other keys than those of the printed text are ignored.
-    /// `sentry_version` is a whole number of 16 bits up to the first point, and 7 where it is absent.
-    /// `sentry_timestamp` is a decimal of seconds since 1970-01-01T00:00:00Z; where the last one
-    /// isn't the text of a moment, there is none.
+    /// The keys are `sentry_key`, `sentry_version`, `sentry_timestamp`, `sentry_client` and
+    /// `sentry_secret`; the last pair of a key counts, and other keys are ignored.
+    ///
+    /// - `sentry_version`: a whole number of 16 bits; a `.` and the text after it are ignored.
+    ///   Defaults to 7.
+    /// - `sentry_timestamp`: a decimal of seconds since 1970-01-01T00:00:00Z. The timestamp is
+    ///   `None` if the last one isn't the decimal text of a [`Moment`].
     ///
     /// # Errors
     ///
-    /// - [`ParseAuthError::InvalidVersion`] where a version isn't such a number, also one that a
-    ///   later pair takes the place of.
-    /// - [`ParseAuthError::MissingPublicKey`] where `sentry_key` is absent or empty.
-    /// - [`ParseAuthError::Memory`] where memory is refused.
+    /// - [`ParseAuthError::InvalidVersion`] if a `sentry_version` isn't a whole number of 16 bits,
+    ///   also if a later pair replaces the version.
+    /// - [`ParseAuthError::MissingPublicKey`] if `sentry_key` is absent or empty.
+    /// - [`ParseAuthError::Memory`] if an allocation fails.
     pub fn from_pairs(alloc: Global, pairs: &[(&str, &str)]) -> Result<Auth, ParseAuthError>
         ensures { ReadsPairs (map pair_text pairs.now) result }
     {
@@ -181,13 +183,15 @@ impl Auth {
         auth.with_key()
     }
 
-    /// The authentication that the query of a URL tells, whose pairs are written as in a web form.
+    /// Parses the query string of a URL (`application/x-www-form-urlencoded`).
+    ///
+    /// The keys and values are those of [`Auth::from_pairs`].
     ///
     /// <https://url.spec.whatwg.org/#urlencoded-parsing>
     ///
     /// # Errors
     ///
-    /// As [`Auth::from_pairs`].
+    /// The errors of [`Auth::from_pairs`].
     pub fn from_querystring(alloc: Global, query: &[u8]) -> Result<Auth, ParseAuthError>
         ensures { ReadsPairs (query_pairs query.now) result }
     {
@@ -199,16 +203,17 @@ impl Auth {
         auth.with_key()
     }
 
-    /// The authentication that a header's text tells.
+    /// Parses the value of an `X-Sentry-Auth` header.
     ///
-    /// It is the word `sentry` in any ASCII case, a space, and items with commas between them. An
-    /// item is a key, `=` and a value, without the white space around them; a second `=` ends the
-    /// value. An item without `=` is ignored.
+    /// The header is the word `sentry` in any ASCII case, a space, and items separated by commas.
+    /// An item is a key, `=` and a value; white space around the key and the value is trimmed, and
+    /// a second `=` ends the value. An item without `=` is ignored. The keys and values are those
+    /// of [`Auth::from_pairs`].
     ///
     /// # Errors
     ///
-    /// [`ParseAuthError::NonSentryAuth`] where what stands before the first space is another word,
-    /// and else as [`Auth::from_pairs`].
+    /// - [`ParseAuthError::NonSentryAuth`] if the text before the first space isn't `sentry`.
+    /// - Otherwise the errors of [`Auth::from_pairs`].
     pub fn from_str(alloc: Global, text: &str) -> Result<Auth, ParseAuthError>
         ensures { ReadsHeader text.now result }
     {
@@ -219,7 +224,7 @@ impl Auth {
         Auth::from_items(alloc, items)
     }
 
-    // The authentication that a list of items tells.
+    // Parses the comma-separated items of a header.
     fn from_items(alloc: Global, items: &str) -> Result<Auth, ParseAuthError>
         ensures { ReadsPairs (list_pairs items.now) result }
     {
@@ -232,49 +237,49 @@ impl Auth {
         auth.with_key()
     }
 
-    /// The moment that the client told, if it told one.
+    /// Returns the client's timestamp, if given.
     pub fn timestamp(&self) -> Option<Moment>
         ensures { option_map time_of result ≡ (parts_of self.now).timestamp }
     {
         self.timestamp
     }
 
-    /// The version of the protocol that the client speaks.
+    /// Returns the protocol version of the client.
     pub fn version(&self) -> u16
         ensures { result ≡ (parts_of self.now).version }
     {
         self.version
     }
 
-    /// The public key.
+    /// Returns the public key.
     pub fn public_key(&self) -> &str
         ensures { result.now ≡ (parts_of self.now).key }
     {
         self.key.as_str()
     }
 
-    /// The secret key, if the client has one.
+    /// Returns the secret key, if given.
     pub fn secret_key(&self) -> Option<&str>
         ensures { option_map (λ text. text.now) result ≡ (parts_of self.now).secret }
     {
         self.secret.as_deref()
     }
 
-    /// Whether there is no secret key.
+    /// Returns whether the secret key is absent.
     pub fn is_public(&self) -> bool
         ensures { result ≡ not (is_some (parts_of self.now).secret) }
     {
         self.secret.is_none()
     }
 
-    /// The client's name and version, if it told them.
+    /// Returns the client's name and version, if given.
     pub fn client_agent(&self) -> Option<&str>
         ensures { option_map (λ text. text.now) result ≡ (parts_of self.now).client }
     {
         self.client.as_deref()
     }
 
-    /// The same authentication. It fails where memory is refused.
+    /// Clones the authentication. `AllocError` if an allocation fails.
     pub fn clone(&self) -> Result<Auth, AllocError>
         ensures { IfOk result (λ auth. parts_of auth ≡ parts_of self.now) }
     {
@@ -288,7 +293,7 @@ impl Auth {
     }
 }
 
-// A moment among the parts of the printed text, or nothing.
+// The `sentry_timestamp` item of a printed header; `None` prints nothing.
 #[derive(Drop)]
 struct TimePart {
     moment: Option<Moment>,
@@ -297,7 +302,8 @@ struct TimePart {
 impl fmt::Display for TimePart {
     ghost use Rattle.sentry_keys.specs.Auth.{timestamp_key};
 
-    ghost output = { λ p. Some (part_text timestamp_key (option_map (λ m. time_text (time_of m)) p.moment)) };
+    ghost output = { λ p.
+        Some (part_text timestamp_key (option_map (λ m. time_text (time_of m)) p.moment)) };
 
     fn fmt<W: fmt::Write>(&self, f: &mut fmt::Formatter<W>) -> fmt::Result {
         let Some(moment) = self.moment else {
@@ -311,7 +317,7 @@ impl fmt::Display for TimePart {
     }
 }
 
-// A text among the parts of the printed text, or nothing.
+// A text item of a printed header; `None` prints nothing.
 #[derive(Drop)]
 struct TextPart<'a> {
     name: &'a str,

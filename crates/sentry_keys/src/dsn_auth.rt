@@ -1,4 +1,4 @@
-//! What a client with a DSN authenticates itself with.
+//! Client authentication from a DSN.
 
 ghost use Rattle.std.specs.Prelude.{◌≡◌, IfOk, option_copied};
 
@@ -12,19 +12,20 @@ impl Dsn {
     ghost use Rattle.sentry_keys.specs.Dsn.{dsn_parts};
     ghost use Rattle.sentry_keys.specs.DsnAuth.{auth_of};
 
-    /// What a client authenticates itself with at the moment `now`: the DSN's keys, version
-    /// [`LATEST`], and the client's name, if one is given.
+    /// Returns the authentication of a client: the DSN's keys, version [`LATEST`], the timestamp
+    /// `now`, and the client's name and version, if given.
     ///
     /// # Errors
     ///
-    /// `AllocError` where there is no memory for the texts.
+    /// `AllocError` if an allocation fails.
     pub fn to_auth(
         &self,
         alloc: Global,
         now: Moment,
         client_agent: Option<&str>,
     ) -> Result<Auth, AllocError>
-        ensures { IfOk result (λ auth. parts_of auth ≡ auth_of (dsn_parts self.now) now (option_copied client_agent.entry)) }
+        ensures { IfOk result (λ auth.
+            parts_of auth ≡ auth_of (dsn_parts self.now) now (option_copied client_agent.entry)) }
     {
         let key = String::from_str(alloc, self.public_key())?;
         let secret = copy_text(alloc, self.secret_key())?;

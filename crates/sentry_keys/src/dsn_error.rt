@@ -1,31 +1,31 @@
-//! Why a text is no DSN.
+//! Errors of parsing a DSN.
 
 ghost use Rattle.std.specs.Prelude.{◌≡◌};
 ghost use Rattle.sentry_keys.specs.declared.dsn_error.ParseDsnError.TheVariants.{InvalidProjectId, Memory};
 
-use sentry_numbers::ParseProjectIdError;
+use sentry_text::ParseProjectIdError;
 use std::alloc::AllocError;
 use thiserror::Error;
 
-/// A text was refused as a [`Dsn`](crate::Dsn).
+/// An error of parsing a [`Dsn`](crate::Dsn).
 #[derive(Debug, Drop, Error)]
 pub enum ParseDsnError {
-    /// The text is no URL, or its URL has no host.
+    /// The text is no URL, or the URL has no host.
     #[error("no valid url provided")]
     InvalidUrl,
     /// The URL's scheme is neither `http` nor `https`.
     #[error("no valid scheme")]
     InvalidScheme,
-    /// The URL has no user name, where the public key stands.
+    /// The URL has no user name, which is the public key.
     #[error("username is empty")]
     NoUsername,
     /// The URL's path is `/`.
     #[error("empty path")]
     NoProjectId,
-    /// The URL's path has no segment for the project.
+    /// The URL's path has no project id.
     #[error("invalid project id")]
     InvalidProjectId(ParseProjectIdError),
-    /// There was no memory, or the URL would take 4 GB.
+    /// An allocation failed, or the URL would take 4 GB.
     #[error("out of memory")]
     Memory,
 }

@@ -1,14 +1,15 @@
-//! The organization that the host of a DSN names.
+//! The organization id in the host of a DSN.
 
 ghost use Rattle.std.specs.Prelude.{◌≡◌, ◌↔◌, ◌∷◌, [], ℕ, List, IsTrue, MatchOption};
-ghost use Rattle.sentry_numbers.specs.ProjectId.{organization_value};
+ghost use Rattle.sentry_text.specs.ProjectId.{organization_value};
 ghost use Rattle.sentry_keys.specs.DsnOrganization.{labels, sentry, IsSentry, IsIngestHost, IsDigits, NamesOrganization};
 
-use sentry_numbers::OrganizationId;
+use sentry_text::OrganizationId;
 
-// The first label of a host, and the others.
+// Splits the first label off a host; `None` if the host has one label only.
 fn first_label(host: &str) -> Option<(&str, &str)>
-    ensures { MatchOption result (labels host.now ≡ host.now ∷ []) (λ x. labels host.now ≡ x.0.now ∷ labels x.1.now) }
+    ensures { MatchOption result (labels host.now ≡ host.now ∷ []) (λ x.
+        labels host.now ≡ x.0.now ∷ labels x.1.now) }
 {
     host.split_once('.')
 }
@@ -19,7 +20,7 @@ fn is_sentry_io(host: &str) -> bool
     host == "sentry.io"
 }
 
-// Whether the host is `sentry.io`, with or without a label before it.
+// Whether the host is `sentry.io` or `X.sentry.io`, where `X` is one label.
 fn is_sentry(host: &str) -> bool
     ensures { IsTrue result ↔ IsSentry (labels host.now) }
 {
@@ -32,9 +33,10 @@ fn is_sentry(host: &str) -> bool
     }
 }
 
-// The number in a host that takes events, without the `o` before it.
+// Returns `N` of a host `oN.ingest.sentry.io` or `oN.ingest.X.sentry.io`; `N` may be any text.
 fn ingest_number(host: &str) -> Option<&str>
-    ensures { MatchOption result ((n : List ℕ) → IsIngestHost (labels host.now) n → ⊥) (λ n. IsIngestHost (labels host.now) n.now) }
+    ensures { MatchOption result ((n : List ℕ) → IsIngestHost (labels host.now) n → ⊥) (λ n.
+        IsIngestHost (labels host.now) n.now) }
 {
     let (first, rest) = first_label(host)?;
     let number = first.strip_prefix('o')?;
@@ -46,9 +48,10 @@ fn ingest_number(host: &str) -> Option<&str>
     }
 }
 
-// The organization of this number.
-fn numbered(text: &str) -> Option<OrganizationId>
-    ensures { MatchOption result ((n : ℕ) → IsDigits text.now n → ⊥) (λ id. IsDigits text.now (organization_value id)) }
+// Parses an organization id of digits only: a leading `+`, which `parse` accepts, is rejected.
+fn organization_number(text: &str) -> Option<OrganizationId>
+    ensures { MatchOption result ((n : ℕ) → IsDigits text.now n → ⊥) (λ id.
+        IsDigits text.now (organization_value id)) }
 {
     if text.starts_with('+') {
         return None;
@@ -56,9 +59,10 @@ fn numbered(text: &str) -> Option<OrganizationId>
     text.parse::<OrganizationId>().ok()
 }
 
-// The organization that the host names.
+// Returns the organization id in a host.
 pub(crate) fn organization_of(host: &str) -> Option<OrganizationId>
-    ensures { MatchOption result ((n : ℕ) → NamesOrganization host.now n → ⊥) (λ id. NamesOrganization host.now (organization_value id)) }
+    ensures { MatchOption result ((n : ℕ) → NamesOrganization host.now n → ⊥) (λ id.
+        NamesOrganization host.now (organization_value id)) }
 {
-    numbered(ingest_number(host)?)
+    organization_number(ingest_number(host)?)
 }

@@ -1,4 +1,4 @@
-//! The path of a DSN's URL.
+//! The path of a DSN's URL: the part before the project id, and the project id.
 
 ghost use Rattle.std.specs.Prelude.{◌≡◌, ◌++◌, ◌∷◌, MatchOption, IfOk, string_bytes};
 ghost use Rattle.url.specs.Ascii.{slash};
@@ -6,7 +6,7 @@ ghost use Rattle.sentry_keys.specs.DsnPath.{cut_front, cut_end, inner, IsSegment
 
 use std::alloc::{AllocError, Global};
 
-// The text without the slashes at its front.
+// Strips all leading slashes.
 fn without_front(text: &str) -> &str
     ensures { result.now ≡ cut_front text.now }
 {
@@ -17,7 +17,7 @@ fn without_front(text: &str) -> &str
     rest
 }
 
-// The text without the slashes at its end.
+// Strips all trailing slashes.
 fn without_end(text: &str) -> &str
     ensures { result.now ≡ cut_end text.now }
 {
@@ -28,7 +28,7 @@ fn without_end(text: &str) -> &str
     rest
 }
 
-// What stands before the last slash and after it.
+// Splits a text at its last slash.
 fn last_cut(text: &str) -> Option<(&str, &str)>
     ensures { MatchOption result (IsSegment text.now)
         (λ x. (text.now ≡ x.0.now ++ slash ∷ x.1.now) × IsSegment x.1.now) }
@@ -36,7 +36,7 @@ fn last_cut(text: &str) -> Option<(&str, &str)>
     text.rsplit_once('/')
 }
 
-// The path before the project, and the project.
+// Splits a path into the part before the project id, with a slash at both ends, and the project id.
 pub(crate) fn split_path(alloc: Global, path: &str) -> Result<(String, &str), AllocError>
     ensures { IfOk result (λ x. IsSplit (inner path.now) (string_bytes x.0) x.1.now) }
 {

@@ -1,4 +1,4 @@
-//! DSNs in trees of JSON, as their texts.
+//! DSNs as JSON strings.
 
 ghost use Rattle.std.specs.Prelude.{◌≡◌, IsUtf8};
 ghost use Rattle.sentry_members.specs.Spelling.{ReadsSpelling};
@@ -9,13 +9,13 @@ ghost use Rattle.sentry_keys.specs.DsnTree.{dsn_cell, dsn_kind, dsn_spelling};
 use crate::dsn::Dsn;
 use crate::dsn_error::ParseDsnError;
 use json::Writer;
+use sentry_json::Node;
 use sentry_members::{FromTree, Member, TreeError, Way};
-use sentry_trees::Node;
 use serde_json::Value;
 use std::alloc::{AllocError, Global};
 
 impl Dsn {
-    // Nothing; the parts of a DSN are texts.
+    // Does nothing at run time; states that the text of a DSN is UTF-8.
     fn hold(&self)
         ensures { IsUtf8 (dsn_text (dsn_parts self.now)) }
     {
@@ -23,7 +23,7 @@ impl Dsn {
     }
 }
 
-// The error of a tree with a text that was refused.
+// Converts an error of parsing: `Memory` stays, any other error becomes `Misfit`.
 fn tree_error(error: ParseDsnError) -> TreeError
     ensures { result ≡ spec.tree_error error }
 {
@@ -37,7 +37,7 @@ fn tree_error(error: ParseDsnError) -> TreeError
     }
 }
 
-// The DSN of a text in a tree.
+// Parses a DSN in a JSON string.
 fn dsn_of_text(alloc: Global, text: &str) -> Result<Dsn, TreeError>
     ensures { ReadsSpelling dsn_spelling dsn_cell text.now result }
 {
@@ -62,7 +62,7 @@ impl Member for Dsn {
     }
 
     #[tactic(auto, using(sentry_members::proofs::Ways::unchanged))]
-    fn remade(&self, _way: Way) -> Result<Dsn, AllocError> {
+    fn remake(&self, _way: Way) -> Result<Dsn, AllocError> {
         self.clone()
     }
 

@@ -1,4 +1,4 @@
-//! Keys of the Sentry protocol: where envelopes are sent, and with which key.
+//! DSNs and client authentication of the Sentry protocol.
 #![tactic(auto)]
 
 mod api_url;

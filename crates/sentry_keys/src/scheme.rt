@@ -1,4 +1,4 @@
-//! The schemes of a DSN.
+//! URL schemes of DSNs.
 
 ghost use Rattle.std.specs.Prelude.{◌≡◌, ◌≢◌, MatchOption, Some};
 ghost use Rattle.sentry_keys.specs.declared.scheme.Scheme.{Scheme};
@@ -6,18 +6,19 @@ ghost use Rattle.sentry_keys.specs.DsnScheme as spec;
 
 use std::fmt;
 
-/// The scheme of a DSN: one of the two schemes by which Sentry takes events.
+/// The URL scheme of a DSN.
 #[derive(Clone, Copy, Debug, PartialEq, Eq, PartialOrd, Ord, Hash)]
 pub enum Scheme {
-    /// Without encryption.
+    /// `http`: without encryption.
     Http,
-    /// With encryption.
+    /// `https`: with encryption.
     Https,
 }
 
 impl Scheme {
-    /// The port that the scheme stands for by the [URL Standard](https://url.spec.whatwg.org/#special-scheme):
-    /// 80 or 443.
+    /// Returns the default port by the URL Standard: 80 or 443.
+    ///
+    /// <https://url.spec.whatwg.org/#special-scheme>
     pub fn default_port(self) -> u16
         ensures { result ≡ spec.default_port self }
     {
@@ -27,7 +28,7 @@ impl Scheme {
         }
     }
 
-    // The word of the scheme.
+    // Returns `http` or `https`.
     pub(crate) fn as_str(self) -> &'static str
         ensures { result.now ≡ spec.scheme_text self }
     {
@@ -37,9 +38,10 @@ impl Scheme {
         }
     }
 
-    // The scheme of this word.
+    // Parses `http` or `https`, in lower case only.
     pub(crate) fn of_word(word: &str) -> Option<Scheme>
-        ensures { MatchOption result ((s : Scheme) → word.now ≢ spec.scheme_text s) (λ s. word.now ≡ spec.scheme_text s) }
+        ensures { MatchOption result ((s : Scheme) → word.now ≢ spec.scheme_text s) (λ s.
+            word.now ≡ spec.scheme_text s) }
     {
         match word {
             "http" => Some(Scheme::Http),

@@ -1,7 +1,7 @@
 -- The losses of the items that a filter is handed, as steps of a ledger.
 use Rattle.std.specs.Prelude.{◌≡◌, ℕ, ◌+◌, ◌-◌, ◌^◌, min, Bool, true, false, List, map, count_by, fold, if◌then◌else◌, Option}
 use Rattle.sentry_items.specs.declared.item.EnvelopeItem.{EnvelopeItem}
-use Rattle.sentry_losses.specs.Losses.{losses_of_item, losses_of_items}
+use Rattle.sentry_items.specs.Losses.{losses_of_item, losses_of_items}
 use Rattle.sentry_reports.specs.declared.item_loss.ItemLoss.{ItemLoss}
 use Rattle.sentry_reports.specs.declared.reason.Reason.{Reason}
 use Rattle.sentry_envelope.specs.EnvelopeView.{no_fields}

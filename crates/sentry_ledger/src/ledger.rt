@@ -9,14 +9,14 @@ use sentry_words::IndexedEnum;
 use std::alloc::{AllocError, Global};
 use thiserror::Error;
 
-/// The rejected loss: recording it would exceed 2^64-1.
+/// The error of [`Ledger::record`], with the loss: the sum would exceed 2^64-1.
 #[derive(Clone, Copy, Debug, Error)]
 #[error("the ledger is full")]
 pub struct LedgerFull(pub ItemLoss);
 
 /// Losses that are not reported yet: for each category and reason, a quantity of at most 2^64-1.
 ///
-/// A ledger is a plain value of fixed size; it allocates only in [`Ledger::flush`].
+/// A ledger is a value of fixed size, and allocates only in [`Ledger::flush`].
 #[derive(Debug, Drop)]
 pub struct Ledger {
     row: [u64; SUMS],
@@ -62,14 +62,15 @@ impl Ledger {
         self.holds_nothing()
     }
 
-    /// Records a loss under its own reason, or under `reason` if it has none.
+    /// Records a loss under its own reason, or under `reason` if the loss has none.
     ///
     /// # Errors
     ///
     /// [`LedgerFull`] with the loss, exactly if the quantity held for that category and reason plus
-    /// the loss's own exceeds 2^64-1; the ledger is unchanged.
+    /// the loss's own exceeds 2^64-1; `self` is unchanged.
     pub fn record(&mut self, loss: ItemLoss, reason: Reason) -> Result<(), LedgerFull>
-        ensures answered { IsAnswered (quantity_held self.old) (entry_of_record loss reason result) }
+        ensures answered { IsAnswered (quantity_held self.old)
+            (entry_of_record loss reason result) }
         ensures held { Holds self.new (quantity_held self.old)
             (entry_of_record loss reason result ∷ []) }
         ensures full { IfErr result (λ full. (full.0 ≡ loss) × (self.new ≡ self.old)) }
@@ -84,17 +85,17 @@ impl Ledger {
         }
     }
 
-    /// Moves everything that is held into a client report of the moment `now`; `None` if the ledger
-    /// is empty.
+    /// Moves all losses into a client report of the moment `now`; returns `None` if the ledger is
+    /// empty.
     ///
     /// The report has one item for each category and reason with a quantity above 0, sorted by
     /// category and then by reason, in the order of their `VARIANTS`. Afterwards the ledger is
-    /// empty. A report that is lost afterwards is not held anywhere: if it can't be sent, record
-    /// its losses again.
+    /// empty, and the losses are only in the report: if a report can't be sent, record its losses
+    /// again.
     ///
     /// # Errors
     ///
-    /// `AllocError` if an allocation fails; the ledger is unchanged.
+    /// `AllocError` if an allocation fails; `self` is unchanged.
     pub fn flush(&mut self, alloc: Global, now: Moment) -> Result<Option<Report>, AllocError>
         ensures answered { IsAnswered (quantity_held self.old) (entry_of_flush now result) }
         ensures held { Holds self.new (quantity_held self.old) (entry_of_flush now result ∷ []) }
@@ -111,7 +112,7 @@ impl Ledger {
         Ok(Some(Report::new(now, items)))
     }
 
-    // The second clause is for `flush`: of an array's elements no other says that they fit in 64 bits.
+    // The clause `bounded` is for `flush`: no other clause says that array elements fit in 64 bits.
     fn holds_nothing(&self) -> bool
         ensures nothing { IsTrue result ↔ HoldsNothing (quantity_held self.now) }
         ensures bounded { (category : Categories) (reason : Reasons) →
@@ -184,7 +185,7 @@ impl Ledger {
     }
 }
 
-/// An empty ledger.
+/// The default ledger is empty.
 impl Default for Ledger {
     ghost use Rattle.sentry_ledger.specs.Held.{quantity_held, HoldsNothing};
 

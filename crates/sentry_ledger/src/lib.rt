@@ -1,4 +1,4 @@
-//! A ledger that holds losses until they are reported, and loses none that it accepts.
+//! A ledger that holds losses until they are reported, and keeps each loss that it accepts.
 #![tactic(auto)]
 
 pub mod laws;

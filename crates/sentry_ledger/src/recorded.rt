@@ -5,14 +5,13 @@ ghost use Rattle.sentry_ledger.specs.Recorded.{FiltersRecorded};
 
 use crate::ledger::Ledger;
 use sentry_envelope::{Envelope, EnvelopeFilter};
-use sentry_items::EnvelopeItem;
-use sentry_losses::LossSource;
+use sentry_items::{EnvelopeItem, LossSource};
 use sentry_reports::{ItemLoss, Reason};
 use std::alloc::Global;
 use std::mem;
 
-// A ledger with the reason under which losses are recorded, and the number of those that it refused,
-// cut at 2^64-1.
+// A ledger, the reason under which losses are recorded, and the number of losses that the ledger
+// refused, capped at 2^64-1.
 #[derive(Drop)]
 struct Recording {
     ledger: Ledger,
@@ -22,7 +21,7 @@ struct Recording {
 
 impl Recording {
     ghost use Rattle.std.specs.Prelude.{◌∷◌, []};
-    ghost use Rattle.sentry_losses.specs.Losses.{losses_of_item};
+    ghost use Rattle.sentry_items.specs.Losses.{losses_of_item};
     ghost use Rattle.sentry_ledger.specs.Recorded.{RecordsMore};
 
     fn add(&mut self, loss: ItemLoss)
@@ -42,7 +41,7 @@ impl Recording {
     }
 }
 
-// Passes each call on to a filter, and records the losses of the items that it is handed.
+// Passes each call on to a filter, and records the losses of the items that are removed.
 #[derive(Drop)]
 struct RecordingFilter<F> {
     filter: F,
@@ -74,15 +73,16 @@ impl<F: EnvelopeFilter> EnvelopeFilter for RecordingFilter<F> {
     }
 }
 
-/// Filters an envelope as [`Envelope::filter_by`] does, and records the losses of each item that is
-/// handed over, in order, each under its own reason, or under `reason` if it has none.
+/// Filters an envelope as [`Envelope::filter_by`] does, and records the losses of each removed
+/// item, in order, each under its own reason, or under `reason` if the loss has none.
 ///
-/// Returns what is left of the envelope, and the number of losses that the ledger refused because
-/// they would exceed its limit, cut at 2^64-1. A refused loss is not recorded.
+/// Returns what is left of the envelope, and the number of losses that the ledger refused because a
+/// quantity would exceed 2^64-1; that number is capped at 2^64-1. A refused loss is not recorded.
 ///
 /// # Errors
 ///
-/// The envelope if an allocation fails; the filter is not called, and the ledger is unchanged.
+/// The envelope, unchanged, if an allocation fails; the filter was not called, and the ledger is
+/// unchanged.
 pub fn filter_recorded<F: EnvelopeFilter>(
     alloc: Global,
     envelope: Envelope,

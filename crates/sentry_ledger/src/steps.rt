@@ -12,10 +12,10 @@ use sentry_moments::Moment;
 use sentry_reports::{ItemLoss, Reason, Report};
 use std::alloc::{AllocError, Global};
 
-/// One step of a ledger's history.
+/// A step of a ledger's history.
 #[derive(Clone, Copy, Debug)]
 pub enum Step {
-    /// Records a loss under its own reason, or under this one if it has none.
+    /// Records a loss under its own reason, or under this one if the loss has none.
     Add(ItemLoss, Reason),
     /// Flushes the ledger at this moment.
     Flush(Moment),
@@ -28,9 +28,9 @@ pub enum StepAnswer {
     Accepted,
     /// The loss would exceed the limit of 2^64-1 and is not recorded.
     Refused,
-    /// The report of everything that was held; the ledger is empty.
+    /// The report of all losses that were held; the ledger is empty.
     Flushed(Report),
-    /// The ledger was empty already: there is nothing to report.
+    /// The ledger was empty, and no report was made.
     Nothing,
     /// An allocation failed during the flush; the ledger is unchanged.
     NoMemory,
@@ -67,9 +67,9 @@ impl Ledger {
 
 /// Applies steps to a ledger, one after another, and returns their answers.
 ///
-/// A loss that is refused and a flush that runs into a failed allocation change nothing; the steps
-/// after them are applied all the same. For each category and reason, the quantities of all flushed
-/// reports plus what is held afterwards equal what was held before plus all accepted quantities.
+/// A refused loss and a flush whose allocation fails change nothing; the steps after them are
+/// applied all the same. For each category and reason, the quantities of all flushed reports plus
+/// what is held afterwards equal what was held before plus all accepted quantities.
 ///
 /// # Errors
 ///

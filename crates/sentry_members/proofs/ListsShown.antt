@@ -11,7 +11,7 @@ use Rattle.std.proofs.lemmas.Map.Text.{is_eq-slice_cmp}
 use Rattle.std.proofs.lemmas.Slice.Eq.{bytes_eq-Decides}
 use Rattle.serde_json.specs.Data.{Data, Members, no_members, member, put}
 use Rattle.serde_json.specs.Find.{get_member, as_array, as_object}
-use Rattle.sentry_trees.specs.Nodes.{items_by}
+use Rattle.sentry_json.specs.Nodes.{items_by}
 use Rattle.sentry_tables.specs.Cell.{Cell, sequence, mapping, Cells, no_cells, cell, Entries, no_entries, entry}
 use Rattle.sentry_tables.specs.Kind.{Kind, list, map}
 use Rattle.sentry_tables.specs.Shows.{Shows, ItemsShow, MembersShow, IsSequence, IsMapping}

@@ -30,7 +30,7 @@ impl Member for Value {
     }
 
     #[tactic(auto, using(crate::proofs::Ways::unchanged))]
-    fn remade(&self, _way: Way) -> Result<Value, AllocError> {
+    fn remake(&self, _way: Way) -> Result<Value, AllocError> {
         self.clone()
     }
 

@@ -32,7 +32,7 @@ pub trait Codec<T> {
         ensures { OnOk result (WritesTree (written kind (cell_of value.now)) out.old out.new) };
 
     /// The same value, or its normal form. It fails where memory runs out.
-    fn remade(value: &T, way: Way) -> Result<T, AllocError>
+    fn remake(value: &T, way: Way) -> Result<T, AllocError>
         ensures { IfOk result (λ v. cell_of v ≡ made way kind (cell_of value.now)) };
 
     /// Whether the value is the tree null.
@@ -44,7 +44,7 @@ pub trait Codec<T> {
     final fn copy(value: &T) -> Result<T, AllocError>
         ensures { IfOk result (λ v. cell_of v ≡ cell_of value.now) }
     {
-        Self::remade(value, Way::Same)
+        Self::remake(value, Way::Same)
     }
 
     /// Whether the value's trees hold no floats, and no member that no row names clashes with a row.
@@ -69,8 +69,8 @@ impl<T: Member> Codec<T> for Own {
         value.write(out)
     }
 
-    fn remade(value: &T, way: Way) -> Result<T, AllocError> {
-        value.remade(way)
+    fn remake(value: &T, way: Way) -> Result<T, AllocError> {
+        value.remake(way)
     }
 
     fn is_null_tree(value: &T) -> bool {
@@ -101,18 +101,19 @@ impl<T: Defaulted> DefaultedCodec<T> for Own {
 
 /// A row that may be absent or null, made anew. It fails where memory runs out.
 #[tactic(auto, using(crate::proofs::Ways::null_made, crate::proofs::Ways::there_made, crate::proofs::Ways::absent_made))]
-pub fn remade_option_as<F: Codec<T>, T>(
+pub fn remake_option_as<F: Codec<T>, T>(
     value: &Option<T>,
     way: Way,
 ) -> Result<Option<T>, AllocError>
-    ensures { IfOk result (λ v. option_cell F.cell_of v ≡ row_made way may F.kind (option_cell F.cell_of value.now)) }
+    ensures { IfOk result (λ v.
+        option_cell F.cell_of v ≡ row_made way may F.kind (option_cell F.cell_of value.now)) }
 {
     match value {
         Some(value) => {
             if way.is_normal() && F::is_null_tree(value) {
                 Ok(None)
             } else {
-                Ok(Some(F::remade(value, way)?))
+                Ok(Some(F::remake(value, way)?))
             }
         }
         None => Ok(None),
@@ -121,14 +122,16 @@ pub fn remade_option_as<F: Codec<T>, T>(
 
 /// A row that may be absent, but not null, made anew. It fails where memory runs out.
 #[tactic(auto, using(crate::proofs::Ways::strict_made, crate::proofs::Ways::strict_absent_made))]
-pub fn remade_strict_as<F: Codec<T>, T>(
+pub fn remake_strict_as<F: Codec<T>, T>(
     value: &Option<T>,
     way: Way,
 ) -> Result<Option<T>, AllocError>
-    ensures { IfOk result (λ v. option_cell F.cell_of v ≡ row_made way may_strict F.kind (option_cell F.cell_of value.now)) }
+    ensures { IfOk result (λ v.
+        option_cell F.cell_of v ≡
+        row_made way may_strict F.kind (option_cell F.cell_of value.now)) }
 {
     match value {
-        Some(value) => Ok(Some(F::remade(value, way)?)),
+        Some(value) => Ok(Some(F::remake(value, way)?)),
         None => Ok(None),
     }
 }

@@ -28,7 +28,7 @@ impl Member for String {
     }
 
     #[tactic(auto, using(crate::proofs::Ways::unchanged))]
-    fn remade(&self, _way: Way) -> Result<String, AllocError> {
+    fn remake(&self, _way: Way) -> Result<String, AllocError> {
         self.clone()
     }
 
@@ -58,7 +58,7 @@ impl Member for bool {
     }
 
     #[tactic(auto, using(crate::proofs::Ways::unchanged))]
-    fn remade(&self, _way: Way) -> Result<bool, AllocError> {
+    fn remake(&self, _way: Way) -> Result<bool, AllocError> {
         Ok(*self)
     }
 
@@ -87,7 +87,7 @@ impl Member for u8 {
     }
 
     #[tactic(auto, using(crate::proofs::Ways::unchanged))]
-    fn remade(&self, _way: Way) -> Result<u8, AllocError> {
+    fn remake(&self, _way: Way) -> Result<u8, AllocError> {
         Ok(*self)
     }
 
@@ -117,7 +117,7 @@ impl Member for u16 {
     }
 
     #[tactic(auto, using(crate::proofs::Ways::unchanged))]
-    fn remade(&self, _way: Way) -> Result<u16, AllocError> {
+    fn remake(&self, _way: Way) -> Result<u16, AllocError> {
         Ok(*self)
     }
 
@@ -147,7 +147,7 @@ impl Member for u32 {
     }
 
     #[tactic(auto, using(crate::proofs::Ways::unchanged))]
-    fn remade(&self, _way: Way) -> Result<u32, AllocError> {
+    fn remake(&self, _way: Way) -> Result<u32, AllocError> {
         Ok(*self)
     }
 
@@ -177,7 +177,7 @@ impl Member for u64 {
     }
 
     #[tactic(auto, using(crate::proofs::Ways::unchanged))]
-    fn remade(&self, _way: Way) -> Result<u64, AllocError> {
+    fn remake(&self, _way: Way) -> Result<u64, AllocError> {
         Ok(*self)
     }
 
@@ -207,7 +207,7 @@ impl Member for i32 {
     }
 
     #[tactic(auto, using(crate::proofs::Ways::unchanged))]
-    fn remade(&self, _way: Way) -> Result<i32, AllocError> {
+    fn remake(&self, _way: Way) -> Result<i32, AllocError> {
         Ok(*self)
     }
 
@@ -237,7 +237,7 @@ impl Member for i64 {
     }
 
     #[tactic(auto, using(crate::proofs::Ways::unchanged))]
-    fn remade(&self, _way: Way) -> Result<i64, AllocError> {
+    fn remake(&self, _way: Way) -> Result<i64, AllocError> {
         Ok(*self)
     }
 
@@ -273,7 +273,7 @@ impl Member for (u64, u64) {
     }
 
     #[tactic(auto, using(crate::proofs::Ways::unchanged))]
-    fn remade(&self, _way: Way) -> Result<(u64, u64), AllocError> {
+    fn remake(&self, _way: Way) -> Result<(u64, u64), AllocError> {
         Ok(*self)
     }
 
@@ -304,7 +304,7 @@ impl<'a> Member for CowStr<'a> {
     }
 
     #[tactic(auto, using(crate::proofs::Ways::unchanged))]
-    fn remade(&self, _way: Way) -> Result<CowStr<'a>, AllocError> {
+    fn remake(&self, _way: Way) -> Result<CowStr<'a>, AllocError> {
         self.clone()
     }
 

@@ -19,6 +19,7 @@ pub mod spelled;
 pub mod text;
 pub mod tree;
 pub mod way;
+pub mod word;
 
 pub use codec::{Codec, Own};
 pub use draw::Drawn;
@@ -29,3 +30,4 @@ pub use read::{FromTree, ReadCodec};
 pub use spelled::{AsText, Room, Spelled};
 pub use text::{text_of, write_text};
 pub use way::Way;
+pub use word::{AsWord, Word};

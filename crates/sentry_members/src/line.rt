@@ -12,7 +12,7 @@ use crate::error::TreeError;
 use crate::read::FromTree;
 use crate::tree::has_float;
 use json::Scratch;
-use sentry_trees::{Line, LineError, Node, scratch};
+use sentry_json::{Line, LineError, Node, scratch};
 use serde_json::Value;
 use std::alloc::Global;
 

@@ -31,10 +31,10 @@ impl<T: Member> Member for Vec<T> {
         out.end_array()
     }
 
-    fn remade(&self, way: Way) -> Result<Vec<T>, AllocError> {
+    fn remake(&self, way: Way) -> Result<Vec<T>, AllocError> {
         let mut list = Vec::with_capacity(*self.allocator(), self.len())?;
         for item in self {
-            list.push(item.remade(way)?)?;
+            list.push(item.remake(way)?)?;
         }
         Ok(list)
     }
@@ -75,11 +75,11 @@ impl<T: Member> Member for Map<String, T> {
         out.end_object()
     }
 
-    fn remade(&self, way: Way) -> Result<Map<String, T>, AllocError> {
+    fn remake(&self, way: Way) -> Result<Map<String, T>, AllocError> {
         let mut map = Map::emptied(self)?;
         for (key, value) in self.iter() {
             let name = key.clone()?;
-            drop(map.insert(name, value.remade(way)?)?);
+            drop(map.insert(name, value.remake(way)?)?);
         }
         Ok(map)
     }

@@ -30,7 +30,7 @@ pub trait Member: Sized + Drop {
         ensures { OnOk result (WritesTree (written kind (cell_of self.now)) out.old out.new) };
 
     /// The same value, or its normal form. It fails where memory runs out.
-    fn remade(&self, way: Way) -> Result<Self, AllocError>
+    fn remake(&self, way: Way) -> Result<Self, AllocError>
         ensures { IfOk result (λ v. cell_of v ≡ made way kind (cell_of self.now)) };
 
     /// Whether the value is the tree null.
@@ -42,7 +42,7 @@ pub trait Member: Sized + Drop {
     final fn copy(&self) -> Result<Self, AllocError>
         ensures { IfOk result (λ v. cell_of v ≡ cell_of self.now) }
     {
-        self.remade(Way::Same)
+        self.remake(Way::Same)
     }
 
     /// The value's normal form. It fails where memory runs out.
@@ -50,7 +50,7 @@ pub trait Member: Sized + Drop {
     final fn normal(&self, alloc: Global) -> Result<Self, AllocError>
         ensures { IfOk result (λ v. cell_of v ≡ norm kind (cell_of self.now)) }
     {
-        self.remade(Way::Normal(alloc))
+        self.remake(Way::Normal(alloc))
     }
 
     /// Whether the value's trees hold no floats, and no member that no row names clashes with a row.
@@ -80,8 +80,8 @@ where
         <T::Form as Codec<T>>::write(self, out)
     }
 
-    fn remade(&self, way: Way) -> Result<T, AllocError> {
-        <T::Form as Codec<T>>::remade(self, way)
+    fn remake(&self, way: Way) -> Result<T, AllocError> {
+        <T::Form as Codec<T>>::remake(self, way)
     }
 
     fn is_null_tree(&self) -> bool {
@@ -97,7 +97,8 @@ where
 pub trait Usual: Member {
     /// Whether the value is written as the usual one is.
     fn is(&self, usual: &Self) -> bool
-        ensures { result ≡ same_cell (norm Self.kind (Self.cell_of self.now)) (Self.cell_of usual.now) };
+        ensures { result ≡
+            same_cell (norm Self.kind (Self.cell_of self.now)) (Self.cell_of usual.now) };
 }
 
 impl Usual for bool {

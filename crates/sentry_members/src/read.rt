@@ -3,7 +3,7 @@
 ghost use Rattle.std.specs.Prelude.{◌≡◌, ◌^◌, option_map, option_and_then};
 ghost use Rattle.serde_json.specs.Find.{as_number};
 ghost use Rattle.serde_json.specs.View.{view};
-ghost use Rattle.sentry_trees.specs.Nodes.{items_by};
+ghost use Rattle.sentry_json.specs.Nodes.{items_by};
 ghost use Rattle.sentry_tables.specs.Basic.{signed_at, pair_of};
 ghost use Rattle.sentry_tables.specs.Cell.{whole};
 ghost use Rattle.sentry_tables.specs.Kind.{values as values_kind};
@@ -13,7 +13,7 @@ ghost use Rattle.sentry_members.specs.Reading.{Reads};
 use crate::codec::{Codec, Own};
 use crate::error::TreeError;
 use crate::member::{Formed, Member};
-use sentry_trees::Node;
+use sentry_json::Node;
 use serde_json::{Map, Value};
 use std::alloc::Global;
 use std::borrow::CowStr;
@@ -136,7 +136,7 @@ impl FromTree for u64 {
 }
 
 /// The whole number of a tree, if it is one that 64 bits hold with its sign.
-fn signed<N: Node>(node: &N) -> Option<i64>
+fn node_as_i64<N: Node>(node: &N) -> Option<i64>
     ensures { option_map whole result
         ≡ option_and_then (signed_at (2 ^ 63)) (as_number (N.data_of node.now)) }
 {
@@ -145,7 +145,7 @@ fn signed<N: Node>(node: &N) -> Option<i64>
 
 impl FromTree for i32 {
     fn from_node<N: Node>(_alloc: Global, node: &N) -> Result<i32, TreeError> {
-        match signed(node) {
+        match node_as_i64(node) {
             Some(number) => match i32::try_from(number) {
                 Ok(number) => Ok(number),
                 Err(_) => Err(TreeError::Misfit),
@@ -157,7 +157,7 @@ impl FromTree for i32 {
 
 impl FromTree for i64 {
     fn from_node<N: Node>(_alloc: Global, node: &N) -> Result<i64, TreeError> {
-        match signed(node) {
+        match node_as_i64(node) {
             Some(number) => Ok(number),
             None => Err(TreeError::Misfit),
         }
@@ -213,7 +213,7 @@ impl<T: FromTree> FromTree for Vec<T> {
 /// Of members of one key the last one counts, so they are read from the last to the first.
 impl<T: FromTree> FromTree for Map<String, T> {
     fn from_node<N: Node>(alloc: Global, node: &N) -> Result<Map<String, T>, TreeError> {
-        let members = match node.named(alloc)? {
+        let members = match node.members(alloc)? {
             Some(members) => members,
             None => return Err(TreeError::Misfit),
         };
@@ -237,7 +237,8 @@ impl<T: FromTree> FromTree for Map<String, T> {
 /// Fails with `Misfit` where the tree shows none, and with `Memory` where memory is refused.
 #[tactic(auto, using(crate::proofs::ValuesShown::bare_read, crate::proofs::ValuesShown::no_values))]
 pub fn read_values<T: FromTree, N: Node>(alloc: Global, node: &N) -> Result<Vec<T>, TreeError>
-    ensures { Reads (values_kind T.kind) (λ v. list_cell T.cell_of v.items) (N.data_of node.now) result }
+    ensures { Reads (values_kind T.kind) (λ v.
+        list_cell T.cell_of v.items) (N.data_of node.now) result }
 {
     if node.is_array() {
         return FromTree::from_node(alloc, node);

@@ -11,7 +11,7 @@ use crate::read::ReadCodec;
 use crate::way::Way;
 use arrayvec::ArrayString;
 use json::Writer;
-use sentry_trees::Node;
+use sentry_json::Node;
 use serde_json::Value;
 use std::alloc::{AllocError, Global};
 use std::fmt::{Display, Write};
@@ -42,11 +42,13 @@ pub trait Spelled: Sized + Drop {
     /// It never fails for want of room: where it fails, the text would have fitted.
     fn text<'a>(&'a self, room: &'a mut Room) -> Result<&'a str, AllocError>
         ensures ok { IfOk result (λ s. s.now ≡ Self.spelling.written (Self.cell_of self.now)) }
-        ensures fits { IfErr result (λ _. FitsRoom (Self.spelling.written (Self.cell_of self.now))) };
+        ensures fits { IfErr result (λ _.
+            FitsRoom (Self.spelling.written (Self.cell_of self.now))) };
 
     /// The same value, or its normal form. It fails where memory runs out.
-    fn copied(&self, way: Way) -> Result<Self, AllocError>
-        ensures { IfOk result (λ v. Self.cell_of v ≡ made way (spelled_kind Self.spelling) (Self.cell_of self.now)) };
+    fn respell(&self, way: Way) -> Result<Self, AllocError>
+        ensures { IfOk result (λ v.
+            Self.cell_of v ≡ made way (spelled_kind Self.spelling) (Self.cell_of self.now)) };
 
     /// Nothing; a value has what its type holds.
     fn hold(&self)
@@ -73,8 +75,8 @@ impl<T: Spelled> Codec<T> for AsText {
         out.string(value.text(&mut room)?)
     }
 
-    fn remade(value: &T, way: Way) -> Result<T, AllocError> {
-        value.copied(way)
+    fn remake(value: &T, way: Way) -> Result<T, AllocError> {
+        value.respell(way)
     }
 
     fn is_null_tree(_value: &T) -> bool {
@@ -98,7 +100,7 @@ impl<T: Spelled> ReadCodec<T> for AsText {
 }
 
 /// The text that a value prints, which has to fit. It fails only where the value's `fmt` does by itself.
-pub fn printed<'a, T: Display>(value: &T, room: &'a mut Room) -> Result<&'a str, AllocError>
+pub fn print_into<'a, T: Display>(value: &T, room: &'a mut Room) -> Result<&'a str, AllocError>
     requires { IfSome (T.output value.now) FitsRoom }
     ensures text { IfOk result (λ s. IfSome (T.output value.now) (λ text. s.now ≡ text)) }
     ensures fits { IfErr result (λ _. IfSome (T.output value.now) FitsRoom) }

@@ -13,7 +13,8 @@ use std::mem;
 pub fn text_of<T: Member>(alloc: Global, value: &T) -> Result<Vec<u8>, AllocError>
     ensures text { IfOk result (λ b. has_float (written T.kind (T.cell_of value.now)) ≡ false
         → b.items ≡ compact_text (written T.kind (T.cell_of value.now))) }
-    ensures utf8 { IfOk result (λ b. has_float (written T.kind (T.cell_of value.now)) ≡ false → IsUtf8 b.items) }
+    ensures utf8 { IfOk result (λ b. has_float (written T.kind (T.cell_of value.now)) ≡ false →
+        IsUtf8 b.items) }
 {
     let mut out = Writer::new(Vec::with_capacity(alloc, 128)?);
     value.write(&mut out)?;

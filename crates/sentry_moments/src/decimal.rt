@@ -1,5 +1,5 @@
-//! Decimal texts: an optional sign, digits with an optional point, and an optional exponent of up to
-//! three digits. They are read exactly, in billionths that are cut off below.
+//! Decimal texts: an optional sign, digits with an optional point, and an optional exponent of one
+//! to three digits. Values are exact in billionths; smaller parts are truncated.
 
 ghost use Rattle.std.specs.Prelude.{◌≡◌, ◌+◌, ◌*◌, ◌^◌, ◌<◌, ◌≤◌, ◌++◌, ◌&&◌, nat_lt, min, length, IfSome, Some};
 ghost use Rattle.std.specs.Str.Parse.{AllDigits, digits_value};
@@ -12,22 +12,22 @@ use crate::fraction::Fraction;
 use std::fmt;
 use thiserror::Error;
 
-/// Why a text is no decimal in the range that is wanted.
+/// An error of parsing a decimal text.
 #[derive(Debug, Drop, Error)]
 pub enum DecimalError {
     /// The text isn't an optional sign, digits with an optional point, and an optional exponent of
     /// one to three digits.
     #[error("InvalidText")]
     InvalidText,
-    /// The value is below 0 or too large.
+    /// The value is below 0, or too large for the type.
     #[error("OutOfRange")]
     OutOfRange,
 }
 
-/// Values from here on are all the same: no reader takes one.
+// Values saturate at this bound; no reader accepts a value this high.
 pub(crate) const LIMIT: u128 = 1_000_000_000_000_000_000_000_000_000_000;
 
-// The value with one more digit.
+// Appends a digit, saturating at `LIMIT`.
 fn with_digit(value: u128, digit: u8) -> u128
     requires value_in { value ≤ LIMIT }
     requires digit_in { digit < 10 }
@@ -37,11 +37,12 @@ fn with_digit(value: u128, digit: u8) -> u128
     (value * 10 + u128::from(digit)).min(LIMIT)
 }
 
-// The value with these digits after it.
+// Appends digits, saturating at `LIMIT`.
 fn with_digits(value: u128, digits: &[u8]) -> u128
     requires value_in { value ≤ LIMIT }
     requires are_digits { AllDigits 10 digits.now }
-    ensures value { result ≡ min (value * 10 ^ length digits.now + digits_value 10 digits.now) LIMIT }
+    ensures value { result ≡
+        min (value * 10 ^ length digits.now + digits_value 10 digits.now) LIMIT }
     ensures bound { result ≤ LIMIT }
 {
     let mut sum = value;
@@ -51,7 +52,7 @@ fn with_digits(value: u128, digits: &[u8]) -> u128
     sum
 }
 
-// The value with so many zeros after it.
+// Appends `count` zeros, saturating at `LIMIT`.
 fn with_zeros(value: u128, count: usize) -> u128
     requires value_in { value ≤ LIMIT }
     ensures value { result ≡ min (value * 10 ^ count) LIMIT }
@@ -64,12 +65,15 @@ fn with_zeros(value: u128, count: usize) -> u128
     product
 }
 
-// The digits before and after a point, times a power of ten, in billionths that are cut off below.
+// Returns the digits around a point times a power of ten, in billionths: truncated, and saturating
+// at `LIMIT`. The exponent is negative if `down` is set.
 fn billionths(whole: &[u8], fraction: &[u8], down: bool, exponent: u16) -> u128
     requires whole_digits { AllDigits 10 whole.now }
     requires fraction_digits { AllDigits 10 fraction.now }
     requires exponent_in { exponent < 1000 }
-    ensures { result ≡ min (billionths_of (digits_value 10 (whole.now ++ fraction.now)) (length fraction.now) down exponent) LIMIT }
+    ensures { result ≡
+        min (billionths_of (digits_value 10 (whole.now ++ fraction.now))
+        (length fraction.now) down exponent) LIMIT }
 {
     let places = whole.len() + 9;
     let shift = usize::from(exponent);
@@ -85,7 +89,7 @@ fn billionths(whole: &[u8], fraction: &[u8], down: bool, exponent: u16) -> u128
     with_zeros(value, kept - whole_kept - fraction_kept)
 }
 
-// Whether a minus sign stands first.
+// Whether the text begins with `-`.
 #[tactic(auto, unfolding(crate::specs::DecimalScan::is_minus))]
 fn is_minus(text: &[u8]) -> bool
     ensures { result ≡ spec.is_minus text.now }
@@ -93,9 +97,9 @@ fn is_minus(text: &[u8]) -> bool
     matches!(text, [b'-', ..])
 }
 
-// The text after its sign.
+// Skips a leading `+` or `-`.
 #[tactic(auto, unfolding(crate::specs::DecimalScan::unsigned))]
-fn unsigned(text: &[u8]) -> &[u8]
+fn skip_sign(text: &[u8]) -> &[u8]
     ensures { result.now ≡ spec.unsigned text.now }
 {
     match text {
@@ -104,7 +108,8 @@ fn unsigned(text: &[u8]) -> &[u8]
     }
 }
 
-// The digits after the point that a text begins with, if it does, and what follows them.
+// Returns the digits after a leading point, and the rest. Without a leading point: no digits, and
+// the whole text.
 #[tactic(auto, unfolding(crate::specs::DecimalScan::places, crate::specs::DecimalScan::after_places))]
 fn split_places(text: &[u8]) -> (&[u8], &[u8])
     ensures front { result.0.now ≡ spec.places text.now }
@@ -117,7 +122,7 @@ fn split_places(text: &[u8]) -> (&[u8], &[u8])
     }
 }
 
-// The number that one to three digits write.
+// Parses a text of one to three digits.
 #[tactic(auto, unfolding(crate::specs::DecimalScan::short_number))]
 fn short_number(text: &[u8]) -> Option<u16>
     ensures value { result ≡ spec.short_number text.now }
@@ -130,7 +135,8 @@ fn short_number(text: &[u8]) -> Option<u16>
     Some(with_digits(0, digits) as u16)
 }
 
-// An exponent, to the end of the text: whether it is below 0, and its number.
+// Parses an exponent up to the end of the text: whether it is negative, and its absolute value. An
+// empty text is the exponent 0.
 #[tactic(auto, unfolding(crate::specs::DecimalScan::exponent))]
 fn exponent(text: &[u8]) -> Option<(bool, u16)>
     ensures value { result ≡ spec.exponent text.now }
@@ -138,12 +144,12 @@ fn exponent(text: &[u8]) -> Option<(bool, u16)>
 {
     match text {
         [] => Some((false, 0)),
-        [b'E' | b'e', rest @ ..] => Some((is_minus(rest), short_number(unsigned(rest))?)),
+        [b'E' | b'e', rest @ ..] => Some((is_minus(rest), short_number(skip_sign(rest))?)),
         _ => None,
     }
 }
 
-// The digits before and after the point, and what follows them.
+// Skips the sign; returns the digits before the point, the digits after the point, and the rest.
 fn split(text: &[u8]) -> (&[u8], &[u8], &[u8])
     ensures whole { result.0.now ≡ front_digits (spec.unsigned text.now) }
     ensures fraction { result.1.now ≡ spec.places (after_digits (spec.unsigned text.now)) }
@@ -151,12 +157,12 @@ fn split(text: &[u8]) -> (&[u8], &[u8], &[u8])
     ensures whole_digits { AllDigits 10 result.0.now }
     ensures fraction_digits { AllDigits 10 result.1.now }
 {
-    let (whole, rest) = split_digits(unsigned(text));
+    let (whole, rest) = split_digits(skip_sign(text));
     let (fraction, rest) = split_places(rest);
     (whole, fraction, rest)
 }
 
-// Whether a minus sign stands before digits that are not all 0.
+// Whether the number is negative; `-0` isn't.
 fn is_below_zero(negative: bool, whole: &[u8], fraction: &[u8]) -> bool
     requires whole_digits { AllDigits 10 whole.now }
     requires fraction_digits { AllDigits 10 fraction.now }
@@ -165,7 +171,8 @@ fn is_below_zero(negative: bool, whole: &[u8], fraction: &[u8]) -> bool
     negative && (with_digits(0, whole) > 0 || with_digits(0, fraction) > 0)
 }
 
-/// The billionths that a decimal text is worth, cut off below, where they are fewer than `limit`.
+// Parses a decimal text to billionths, truncated. `InvalidText` if the text is no decimal;
+// `OutOfRange` if the value is below 0, or is `limit` billionths or more.
 pub(crate) fn read(text: &str, limit: u128) -> Result<u128, DecimalError>
     requires { limit ≤ LIMIT }
     ensures { ReadsDecimal limit text.now result }
@@ -189,15 +196,14 @@ pub(crate) fn read(text: &str, limit: u128) -> Result<u128, DecimalError>
     }
 }
 
-/// A number that is printed as a decimal of at most nine places, without closing zeros: `1`, `1.5`,
-/// `0.00000021`.
+/// A decimal of at most nine places, printed without trailing zeros: `1`, `1.5`, `0.00000021`.
 ///
-/// So the seconds of moments and sample rates are printed.
+/// The seconds of moments and sample rates are printed in this form.
 #[derive(Clone, Copy, Debug, PartialEq, Eq)]
 pub struct Decimal {
-    /// The whole units.
+    /// Whole units.
     pub whole: u64,
-    /// The billionths of a unit, fewer than 10^9.
+    /// Billionths of a unit; below 10^9.
     pub billionths: u32,
     pub ghost small: { billionths < 10 ^ 9 },
 }

@@ -1,4 +1,4 @@
-//! The digits at the front of a text.
+//! Splits leading ASCII digits off a text.
 
 ghost use Rattle.std.specs.Prelude.{◌≡◌, ◌≤◌, length};
 ghost use Rattle.std.specs.Char.{is_ascii_digit};
@@ -13,7 +13,7 @@ fn digits_len(text: &[u8]) -> usize
     text.iter().take_while(|b| b.is_ascii_digit()).count()
 }
 
-/// The digits that a text begins with, and what follows them.
+// Splits a text into its leading ASCII digits and the rest.
 pub(crate) fn split_digits(text: &[u8]) -> (&[u8], &[u8])
     ensures front { result.0.now ≡ front_digits text.now }
     ensures rest { result.1.now ≡ after_digits text.now }

@@ -1,4 +1,4 @@
-//! The forms of moments in trees.
+//! JSON forms of moments: RFC 3339 strings, and whole seconds.
 
 ghost use Rattle.std.specs.Prelude.{◌≡◌, IfOk};
 ghost use Rattle.sentry_moments.specs.Moments.{moment_cell};
@@ -6,32 +6,33 @@ ghost use Rattle.sentry_moments.specs.MomentForms.{moment_text, rfc3339_kind, se
 
 use crate::moment::Moment;
 use json::Writer;
-use sentry_members::spelled::{Room, printed};
+use sentry_json::Node;
+use sentry_members::spelled::{Room, print_into};
 use sentry_members::{Codec, ReadCodec, TreeError, Way};
-use sentry_trees::Node;
 use serde_json::Value;
 use std::alloc::{AllocError, Global};
 
-/// The form of a moment that is an RFC 3339 text.
+/// The JSON form of a moment as an RFC 3339 string.
 ///
-/// It is read as [`Moment::from_rfc3339`] reads it, and is written as the moment is printed.
+/// A string is read by [`Moment::from_rfc3339`], and written as the moment is printed.
 ///
 /// <https://www.rfc-editor.org/rfc/rfc3339>
 pub struct Rfc3339;
 
-/// The form of a moment that is the whole seconds since 1970-01-01T00:00:00Z, or an RFC 3339 text.
+/// The JSON form of a moment as whole seconds since 1970-01-01T00:00:00Z, or as an RFC 3339 string.
 ///
-/// It is written as a number where it has no nanoseconds, and else as a text.
+/// A moment of whole seconds is written as a number, any other as a string. A negative number, a
+/// number with a fraction, and a number past the year 9999 are rejected.
 ///
 /// <https://develop.sentry.dev/sdk/data-model/event-payloads/#required-attributes>
 pub struct Seconds;
 
-// The RFC 3339 text of a moment.
+// Prints a moment as RFC 3339.
 #[tactic(auto, using(crate::proofs::Lengths::rfc3339_fits))]
 fn text<'a>(moment: &Moment, room: &'a mut Room) -> Result<&'a str, AllocError>
     ensures { IfOk result (λ s. s.now ≡ moment_text (moment_cell moment.now)) }
 {
-    printed(moment, room)
+    print_into(moment, room)
 }
 
 impl Codec<Moment> for Rfc3339 {
@@ -52,7 +53,7 @@ impl Codec<Moment> for Rfc3339 {
     }
 
     #[tactic(auto, using(sentry_members::proofs::Ways::unchanged))]
-    fn remade(value: &Moment, _way: Way) -> Result<Moment, AllocError> {
+    fn remake(value: &Moment, _way: Way) -> Result<Moment, AllocError> {
         Ok(*value)
     }
 
@@ -103,7 +104,7 @@ impl Codec<Moment> for Seconds {
     }
 
     #[tactic(auto, using(sentry_members::proofs::Ways::unchanged))]
-    fn remade(value: &Moment, _way: Way) -> Result<Moment, AllocError> {
+    fn remake(value: &Moment, _way: Way) -> Result<Moment, AllocError> {
         Rfc3339::copy(value)
     }
 

@@ -1,18 +1,18 @@
-//! The places after a point, without closing zeros.
+//! Decimal fractions of at most nine places, printed without trailing zeros.
 
 ghost use Rattle.std.specs.Prelude.{◌≡◌, ◌<◌, ◌^◌, Some};
 ghost use Rattle.sentry_moments.specs.Digits.{digits, digits_without_closing_zeros, fraction_text};
 
 use std::fmt;
 
-/// A point and the places of billionths up to the last that is not 0; nothing where all are 0.
+// A fraction in billionths, printed as a point and places without trailing zeros; 0 prints nothing.
 #[derive(Drop)]
 pub(crate) struct Fraction {
     pub(crate) billionths: u32,
     pub ghost small: { billionths < 10 ^ 9 },
 }
 
-// The places up to the last that is not 0, as a number, and how many they are.
+// Returns the places without trailing zeros, as a number, and their count.
 fn without_closing_zeros(billionths: u32) -> (u32, usize)
     requires some { 0 < billionths }
     requires small { billionths < 10 ^ 9 }

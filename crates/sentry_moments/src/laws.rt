@@ -1,7 +1,6 @@
-//! Laws of the texts: what is printed is read back, and no text names two values. Of the forms in trees:
-//! the tree and the line that are written of a value show its normal form and nothing else, and what is
-//! shown is written as its normal form is. Of values: they are equal by what they hold, and moments
-//! stand in the order of time.
+//! Laws of texts (printed values read back, no text has two values), of JSON forms (a written tree
+//! or line shows the normal form of the value and nothing else; a shown value is written as its
+//! normal form is), of equality (by content), and of order (moments by time).
 
 ghost use Rattle.std.specs.Prelude.{ℕ, ◌≡◌, ◌+◌, ◌*◌, ◌/◌, ◌%◌, ◌^◌, ◌<◌, ◌≤◌, ◌⊎◌, ◌↔◌, true, List, Some, IsUtf8};
 ghost use Rattle.std.specs.declared.cmp.Ordering.TheVariants.{Less, Equal, Greater};
@@ -22,19 +21,21 @@ ghost use Rattle.sentry_moments.specs.declared.sample_rate.SampleRate.{SampleRat
 
 use crate::{Decimal, Moment, SampleRand, SampleRate};
 
-/// RFC 3339 texts: the text of a moment names it and is UTF-8, no text names two moments, and each
-/// names one or none.
+/// RFC 3339 texts: the text of a moment names that moment and is UTF-8; each text names one moment
+/// or none.
 pub fn rfc3339_texts()
-    ensures read_back { (secs nanos : ℕ) → IsMomentTime secs nanos → IsRfc3339 (rfc3339_text secs nanos) secs nanos }
+    ensures read_back { (secs nanos : ℕ) → IsMomentTime secs nanos →
+        IsRfc3339 (rfc3339_text secs nanos) secs nanos }
     ensures are_texts { (secs nanos : ℕ) → IsUtf8 (rfc3339_text secs nanos) }
-    ensures one { (text : List ℕ) (secs nanos s n : ℕ) → IsRfc3339 text secs nanos → IsRfc3339 text s n →
+    ensures one { (text : List ℕ) (secs nanos s n : ℕ) → IsRfc3339 text secs nanos →
+        IsRfc3339 text s n →
         (secs ≡ s) × (nanos ≡ n) }
     ensures decided { (text : List ℕ) → ((secs : ℕ) × (nanos : ℕ) × IsRfc3339 text secs nanos) ⊎
         ((secs nanos : ℕ) → IsRfc3339 text secs nanos → ⊥) }
 {}
 
-/// Decimal texts: the text of a moment is worth its seconds and is UTF-8, no text is worth two things,
-/// and each is a decimal or none.
+/// Decimal texts: the text of a moment has the value of its seconds and is UTF-8; each text has one
+/// value, or is no decimal.
 pub fn decimal_texts()
     ensures read_back { (secs nanos : ℕ) → IsMomentTime secs nanos →
         IsDecimal (decimal_text secs nanos) (Billionths (secs * 10 ^ 9 + nanos)) }
@@ -43,8 +44,8 @@ pub fn decimal_texts()
     ensures decided { (text : List ℕ) → ((w : Worth) × IsDecimal text w) ⊎ IsNoDecimal text }
 {}
 
-/// The printed text of a value reads as the printed millionths: half to even, and 0.999999 from
-/// 0.9999995 on. What was read from a printed text is printed as that text again.
+/// Printed `sample_rand` values: the text reads as the value rounded to millionths, half to even,
+/// and as 0.999999 from 0.9999995 on. The rounded value is printed as the same text.
 pub fn printed_sample_rands()
     ensures nearest { (b : ℕ) → b < 999_999_500 → IsNearestEven b (millionths_of b) }
     ensures last { (b : ℕ) → 999_999_500 ≤ b → millionths_of b ≡ 999_999 }
@@ -53,56 +54,66 @@ pub fn printed_sample_rands()
     ensures again { (b : ℕ) → millionths_of (1000 * millionths_of b) ≡ millionths_of b }
 {}
 
-/// The printed text of each rate reads as that rate.
+/// Round trip of sample rates: the printed text of each rate reads as that rate.
 pub fn printed_sample_rates_read_back()
-    ensures { (n : ℕ) → n < 2 ^ 64 → IsDecimal (decimal_text (n / 10 ^ 9) (n % 10 ^ 9)) (Billionths n) }
+    ensures { (n : ℕ) → n < 2 ^ 64 →
+        IsDecimal (decimal_text (n / 10 ^ 9) (n % 10 ^ 9)) (Billionths n) }
 {}
 
-/// Moments as RFC 3339 texts; a row of this form may stand for the moment of reading where it is absent.
+/// Moments as RFC 3339 strings; an absent row of this form may default to the moment of reading.
 pub fn rfc3339_trees()
     ensures laws { HasLaws rfc3339_kind }
     ensures at_once { RuleLaws at_once rfc3339_kind }
 {}
 
-/// Moments as whole seconds or RFC 3339 texts; a row of this form may stand for the moment of reading
-/// where it is absent.
+/// Moments as whole seconds or RFC 3339 strings; an absent row of this form may default to the
+/// moment of reading.
 pub fn seconds_trees()
     ensures laws { HasLaws seconds_kind }
     ensures at_once { RuleLaws at_once seconds_kind }
 {}
 
-/// Random sampling values: the normal form is the value that is printed, in whole millionths.
+/// `sample_rand` values in JSON: the normal form is the printed value, in whole millionths; null is
+/// rejected.
 pub fn sample_rand_trees()
     ensures laws { HasLaws sample_rand_kind }
     ensures not_null { RefusesNull sample_rand_kind }
 {}
 
-/// Sample rates.
+/// Sample rates in JSON; null is rejected.
 pub fn sample_rate_trees()
     ensures laws { HasLaws sample_rate_kind }
     ensures not_null { RefusesNull sample_rate_kind }
 {}
 
-/// Two moments are equal exactly where their seconds and their nanoseconds are the same.
+/// Two moments are equal exactly if their seconds and their nanoseconds are equal.
 pub fn equal_moments()
-    ensures { (a b : Moments) → ⟦<Moment as PartialEq>⟧.eq a b ≡ true ↔ ((a.secs ≡ b.secs) × (a.nanos ≡ b.nanos)) }
+    ensures { (a b : Moments) → ⟦<Moment as PartialEq>⟧.eq a b ≡ true ↔
+        ((a.secs ≡ b.secs) × (a.nanos ≡ b.nanos)) }
 {}
 
-/// Moments stand in the order of time, by `partial_cmp` as by `cmp`.
+/// `cmp` and `partial_cmp` order moments by time.
 pub fn ordered_moments()
-    ensures less { (a b : Moments) → ⟦<Moment as Ord>⟧.cmp a b ≡ Less ↔ (elapsed_nanoseconds a < elapsed_nanoseconds b) }
-    ensures equal { (a b : Moments) → ⟦<Moment as Ord>⟧.cmp a b ≡ Equal ↔ (elapsed_nanoseconds a ≡ elapsed_nanoseconds b) }
-    ensures greater { (a b : Moments) → ⟦<Moment as Ord>⟧.cmp a b ≡ Greater ↔ (elapsed_nanoseconds b < elapsed_nanoseconds a) }
-    ensures partial { (a b : Moments) → ⟦<Moment as PartialOrd>⟧.partial_cmp a b ≡ Some (⟦<Moment as Ord>⟧.cmp a b) }
+    ensures less { (a b : Moments) → ⟦<Moment as Ord>⟧.cmp a b ≡ Less ↔
+        (elapsed_nanoseconds a < elapsed_nanoseconds b) }
+    ensures equal { (a b : Moments) → ⟦<Moment as Ord>⟧.cmp a b ≡ Equal ↔
+        (elapsed_nanoseconds a ≡ elapsed_nanoseconds b) }
+    ensures greater { (a b : Moments) → ⟦<Moment as Ord>⟧.cmp a b ≡ Greater ↔
+        (elapsed_nanoseconds b < elapsed_nanoseconds a) }
+    ensures partial { (a b : Moments) →
+        ⟦<Moment as PartialOrd>⟧.partial_cmp a b ≡ Some (⟦<Moment as Ord>⟧.cmp a b) }
 {}
 
-/// Two decimals are equal exactly where their whole units and their billionths are the same.
+/// Two decimals are equal exactly if their whole units and their billionths are equal.
 pub fn equal_decimals()
-    ensures { (a b : Decimals) → ⟦<Decimal as PartialEq>⟧.eq a b ≡ true ↔ ((a.whole ≡ b.whole) × (a.billionths ≡ b.billionths)) }
+    ensures { (a b : Decimals) → ⟦<Decimal as PartialEq>⟧.eq a b ≡ true ↔
+        ((a.whole ≡ b.whole) × (a.billionths ≡ b.billionths)) }
 {}
 
-/// Two sampling values are equal exactly where their billionths are the same.
+/// Two sampling values are equal exactly if their billionths are equal.
 pub fn equal_sampling_values()
-    ensures sample_rands { (a b : SampleRands) → ⟦<SampleRand as PartialEq>⟧.eq a b ≡ true ↔ (a.billionths ≡ b.billionths) }
-    ensures sample_rates { (a b : SampleRates) → ⟦<SampleRate as PartialEq>⟧.eq a b ≡ true ↔ (a.0 ≡ b.0) }
+    ensures sample_rands { (a b : SampleRands) → ⟦<SampleRand as PartialEq>⟧.eq a b ≡ true ↔
+        (a.billionths ≡ b.billionths) }
+    ensures sample_rates { (a b : SampleRates) → ⟦<SampleRate as PartialEq>⟧.eq a b ≡ true ↔
+        (a.0 ≡ b.0) }
 {}

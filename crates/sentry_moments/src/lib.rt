@@ -1,4 +1,4 @@
-//! Small texts of the protocol: moments, decimals and sampling values.
+//! Timestamps, decimals and sampling values of the Sentry protocol, and their texts.
 #![tactic(auto)]
 
 pub mod decimal;

@@ -1,4 +1,4 @@
-//! Moments and their texts.
+//! Moments (timestamps), and their RFC 3339 and decimal texts.
 
 ghost use Rattle.std.specs.Prelude.{ℕ, ◌≡◌, ◌↔◌, ◌≤◌, ◌<◌, ◌^◌, ◌*◌, ◌+◌, ◌/◌, IsSome, IfSome, IsSomeAnd, IfOk, Some, pos, string_bytes};
 ghost use Rattle.sentry_moments.specs.Decimal.{IsDecimal, Billionths, decimal_text};
@@ -12,10 +12,9 @@ use jiff_core::civil::Date;
 use std::alloc::{AllocError, Global};
 use std::fmt;
 
-/// A moment from 1970-01-01T00:00:00Z to 9999-12-31T23:59:59.999999999Z.
+/// A timestamp in nanoseconds, from 1970-01-01T00:00:00Z to 9999-12-31T23:59:59.999999999Z.
 ///
-/// Moments are equal, and come before one another, by their seconds and then their nanoseconds.
-/// They are printed as RFC 3339 texts.
+/// Moments are compared by their seconds, then by their nanoseconds, and printed as RFC 3339 texts.
 #[derive(Clone, Copy, Debug, PartialEq, Eq, PartialOrd, Ord, Hash)]
 pub struct Moment {
     secs: u64,
@@ -24,13 +23,13 @@ pub struct Moment {
     pub ghost nanos_in_range: { nanos < 10 ^ 9 },
 }
 
-/// The billionths of a second from 1970 to the end of the year 9999.
+// Nanoseconds from the beginning of 1970 to the end of the year 9999.
 const ALL_BILLIONTHS: u128 = 253_402_300_800_000_000_000;
 
 impl Moment {
-    /// The moment this many seconds and nanoseconds after 1970-01-01T00:00:00Z.
+    /// Returns the moment `secs` seconds and `nanos` nanoseconds after 1970-01-01T00:00:00Z.
     ///
-    /// `None` past the year 9999, and for a full second or more of nanoseconds.
+    /// `None` past the year 9999, and if `nanos` is 10^9 or more.
     pub fn new(secs: u64, nanos: u32) -> Option<Moment>
         ensures exactly { IsSome result ↔ ((secs ≤ 253_402_300_799) × (nanos < 10 ^ 9)) }
         ensures same { IfSome result (λ m. (m.secs ≡ secs) × (m.nanos ≡ nanos)) }
@@ -42,7 +41,7 @@ impl Moment {
         }
     }
 
-    // The same for a number of seconds that may be negative.
+    // Calls `Moment::new` with seconds that may be negative; `None` if they are.
     fn from_signed(secs: i64, nanos: u32) -> Option<Moment>
         requires { nanos < 10 ^ 9 }
         ensures found { IfSome result (λ m. (pos m.secs ≡ secs) × (m.nanos ≡ nanos)) }
@@ -55,26 +54,28 @@ impl Moment {
         Moment::new(secs as u64, nanos)
     }
 
-    /// The whole seconds since 1970-01-01T00:00:00Z.
+    /// Returns the whole seconds since 1970-01-01T00:00:00Z.
     pub fn secs(&self) -> u64
         ensures { result ≡ self.now.secs }
     {
         self.secs
     }
 
-    /// The nanoseconds of the second.
+    /// Returns the nanoseconds within the second; below 10^9.
     pub fn nanos(&self) -> u32
         ensures { result ≡ self.now.nanos }
     {
         self.nanos
     }
 
-    /// The moment that an RFC 3339 text names.
+    /// Parses an RFC 3339 text.
     ///
-    /// The date and the time are parted by `T`, `t` or one space; a fraction has one digit or more
-    /// and is cut off after nine; then stands `Z`, `z`, or an offset, as `+01:00` or `-01:00`.
-    /// `None` for any other text, for second 60, for a date that the calendar doesn't have, and for a
-    /// moment before 1970 or past the year 9999. Takes no memory.
+    /// The date and the time are separated by `T`, `t` or one space. An optional fraction has one
+    /// digit or more and is truncated to nine. The text ends with `Z`, `z` or an offset such as
+    /// `+01:00` or `-01:00`.
+    ///
+    /// `None` for any other text, for second 60, for a date that the calendar doesn't have, and for
+    /// a moment before 1970 or past the year 9999. Doesn't allocate.
     ///
     /// <https://www.rfc-editor.org/rfc/rfc3339>
     pub fn from_rfc3339(text: &str) -> Option<Moment>
@@ -86,24 +87,26 @@ impl Moment {
         Moment::from_signed(secs, nanos)
     }
 
-    /// The RFC 3339 text of the moment, as `2020-07-20T14:51:14.296Z`: in UTC, and with a fraction
-    /// without closing zeros where it isn't 0.
+    /// Returns the RFC 3339 text in UTC, such as `2020-07-20T14:51:14.296Z`; the fraction has no
+    /// trailing zeros, and is omitted if 0.
     ///
-    /// Fails where memory is refused.
+    /// # Errors
+    ///
+    /// `AllocError` if an allocation fails.
     pub fn to_rfc3339(&self, alloc: Global) -> Result<String, AllocError>
         ensures { IfOk result (λ t. string_bytes t ≡ rfc3339_text self.now.secs self.now.nanos) }
     {
         self.to_string(alloc)
     }
 
-    /// The moment so many seconds after 1970-01-01T00:00:00Z as a decimal text says, cut off to
-    /// nanoseconds.
+    /// Parses a decimal text of seconds since 1970-01-01T00:00:00Z, truncated to nanoseconds.
     ///
-    /// `None` where the text is no decimal, and where it is below 0 or past the year 9999. Takes no
-    /// memory.
+    /// `None` if the text is no decimal, is below 0, or is past the year 9999. Doesn't allocate.
     pub fn from_decimal(text: &str) -> Option<Moment>
-        ensures found { IfSome result (λ m. IsDecimal text.now (Billionths (m.secs * 10 ^ 9 + m.nanos))) }
-        ensures only { (secs nanos : ℕ) → IsMomentTime secs nanos → IsDecimal text.now (Billionths (secs * 10 ^ 9 + nanos)) →
+        ensures found { IfSome result (λ m.
+            IsDecimal text.now (Billionths (m.secs * 10 ^ 9 + m.nanos))) }
+        ensures only { (secs nanos : ℕ) → IsMomentTime secs nanos →
+            IsDecimal text.now (Billionths (secs * 10 ^ 9 + nanos)) →
             IsSomeAnd result (λ m. (m.secs ≡ secs) × (m.nanos ≡ nanos)) }
     {
         let billionths = decimal::read(text, ALL_BILLIONTHS).ok()?;
@@ -111,10 +114,12 @@ impl Moment {
         Moment::new(secs as u64, nanos as u32)
     }
 
-    /// The seconds since 1970-01-01T00:00:00Z as a decimal of at most nine places, without closing
-    /// zeros.
+    /// Returns the seconds since 1970-01-01T00:00:00Z as a decimal text of at most nine places,
+    /// without trailing zeros.
     ///
-    /// Fails where memory is refused.
+    /// # Errors
+    ///
+    /// `AllocError` if an allocation fails.
     pub fn to_decimal(&self, alloc: Global) -> Result<String, AllocError>
         ensures { IfOk result (λ t. string_bytes t ≡ decimal_text self.now.secs self.now.nanos) }
     {
@@ -125,7 +130,7 @@ impl Moment {
         seconds.to_string(alloc)
     }
 
-    // The day of the calendar.
+    // Returns the date in UTC. 1970-01-01 is 4_371_587 days after the first date, -9999-01-01.
     fn day(&self) -> Day
         ensures year { result.year ≡ (day_after (self.now.secs / 86_400)).year }
         ensures month { result.month ≡ (day_after (self.now.secs / 86_400)).month }
@@ -140,7 +145,7 @@ impl Moment {
     }
 }
 
-// A day as the calendar shows it.
+// A calendar date, printed as `2020-07-20`.
 #[derive(Drop)]
 struct Day {
     year: u16,
@@ -151,7 +156,7 @@ struct Day {
     ghost day_in: { day < 100 },
 }
 
-// The hour, the minute and the second, in two digits each.
+// A time of day, printed as `14:51:14`.
 #[derive(Drop)]
 struct Clock {
     hour: u64,

@@ -1,4 +1,4 @@
-//! Reads the front of a slice, and gives the value and the rest.
+//! Parses RFC 3339 texts. Most readers take the front of a slice and return a value and the rest.
 ghost use Rattle.std.specs.Prelude.{◌≡◌, ◌+◌, ◌*◌, ◌<◌, ◌+ℤ◌, ◌-ℤ◌, ◌*ℤ◌, pos, neg_ℤ, slice_index, IfSome, option_map, replicate, ◌++◌};
 ghost use Rattle.std.specs.Char.{digit_value};
 ghost use Rattle.std.specs.Str.Parse.{AllDigits};
@@ -10,6 +10,7 @@ ghost use Rattle.sentry_moments.specs.Rfc3339 as texts;
 use crate::digits::split_digits;
 use jiff_core::civil::Date;
 
+// Returns the text after a leading `byte`.
 #[tactic(auto, unfolding(crate::specs::Rfc3339Scan::after))]
 fn after(byte: u8, text: &[u8]) -> Option<&[u8]>
     ensures { option_map (λ r. r.now) result ≡ spec.after byte text.now }
@@ -43,6 +44,7 @@ fn four_digits(text: &[u8]) -> Option<(u16, &[u8])>
     Some((u16::from(century) * 100 + u16::from(year), rest))
 }
 
+// Reads two digits of a number below `limit`.
 #[tactic(auto, unfolding(crate::specs::Rfc3339Scan::below))]
 fn below(limit: u8, text: &[u8]) -> Option<(u8, &[u8])>
     ensures value { spec.view result ≡ spec.below limit text.now }
@@ -55,7 +57,7 @@ fn below(limit: u8, text: &[u8]) -> Option<(u8, &[u8])>
     Some((number, rest))
 }
 
-// The day number of a date, if the calendar has it.
+// Returns the days from 1970-01-01 to a date; `None` if the calendar doesn't have the date.
 fn day_number(year: u16, month: u8, day: u8) -> Option<i32>
     requires year_in { year < 10_000 }
     requires month_in { month < 100 }
@@ -67,6 +69,7 @@ fn day_number(year: u16, month: u8, day: u8) -> Option<i32>
     Some(date.to_unix_epoch_day())
 }
 
+// Reads a date, as the days since 1970-01-01.
 #[tactic(auto, unfolding(crate::specs::Rfc3339Scan::day))]
 fn day(text: &[u8]) -> Option<(i32, &[u8])>
     ensures value { spec.view result ≡ spec.day text.now }
@@ -88,6 +91,7 @@ fn after_separator(text: &[u8]) -> Option<&[u8]>
     }
 }
 
+// Reads a time of day, as the seconds since midnight.
 #[tactic(auto, unfolding(crate::specs::Rfc3339Scan::clock))]
 fn clock(text: &[u8]) -> Option<(u32, &[u8])>
     ensures value { spec.view result ≡ spec.clock text.now }
@@ -102,11 +106,12 @@ fn clock(text: &[u8]) -> Option<(u32, &[u8])>
     ))
 }
 
-// The digit at a place, and 0 past the end.
+// Returns the digit at a place, or 0 past the end.
 fn digit_at(digits: &[u8], place: usize) -> u8
     requires are_digits { AllDigits 10 digits.now }
     requires within { place < 9 }
-    ensures value { result ≡ digit_value (slice_index (digits.now ++ replicate 9 zero_digit) place) }
+    ensures value { result ≡
+        digit_value (slice_index (digits.now ++ replicate 9 zero_digit) place) }
     ensures bound { result < 10 }
 {
     if place < digits.len() {
@@ -116,7 +121,7 @@ fn digit_at(digits: &[u8], place: usize) -> u8
     }
 }
 
-// The first nine digits, as nanoseconds.
+// Returns the first nine digits of a fraction as nanoseconds; missing digits count as 0.
 fn nanoseconds(digits: &[u8]) -> u32
     requires { AllDigits 10 digits.now }
     ensures value { result ≡ texts.nanoseconds digits.now }
@@ -129,6 +134,7 @@ fn nanoseconds(digits: &[u8]) -> u32
     nanos
 }
 
+// Reads an optional fraction, as nanoseconds.
 #[tactic(auto, unfolding(crate::specs::Rfc3339Scan::fraction))]
 fn fraction(text: &[u8]) -> Option<(u32, &[u8])>
     ensures value { spec.view result ≡ spec.fraction text.now }
@@ -144,6 +150,7 @@ fn fraction(text: &[u8]) -> Option<(u32, &[u8])>
     Some((nanoseconds(digits), rest))
 }
 
+// Parses the rest of an offset, in seconds.
 #[tactic(auto, unfolding(crate::specs::Rfc3339Scan::hour_and_minute))]
 fn hour_and_minute(text: &[u8]) -> Option<i32>
     ensures value { result ≡ option_map pos (spec.hour_and_minute text.now) }
@@ -157,6 +164,7 @@ fn hour_and_minute(text: &[u8]) -> Option<i32>
     Some(i32::from(hour) * 3_600 + i32::from(minute) * 60)
 }
 
+// Parses `Z`, `z` or an offset, as the seconds that the clock is ahead of UTC.
 #[tactic(auto, unfolding(crate::specs::Rfc3339Scan::zone))]
 fn zone(text: &[u8]) -> Option<i32>
     ensures value { result ≡ spec.zone text.now }
@@ -170,7 +178,7 @@ fn zone(text: &[u8]) -> Option<i32>
     }
 }
 
-// The seconds from 1970-01-01T00:00:00Z, where the clock is `offset` seconds ahead.
+// Returns the seconds since 1970-01-01T00:00:00Z of a local time `offset` seconds ahead of UTC.
 fn seconds(day: i32, second: u32, offset: i32) -> i64
     requires day_in { IsEpochDay day }
     requires second_in { second < 86_400 }
@@ -181,7 +189,8 @@ fn seconds(day: i32, second: u32, offset: i32) -> i64
     i64::from(day) * 86_400 + i64::from(second) - i64::from(offset)
 }
 
-/// The seconds since 1970-01-01T00:00:00Z, which may be before it, and the nanoseconds.
+// Parses an RFC 3339 text: the seconds since 1970-01-01T00:00:00Z, which are negative before 1970,
+// and the nanoseconds.
 #[tactic(auto, unfolding(crate::specs::Rfc3339Scan::moment))]
 pub(crate) fn read(text: &[u8]) -> Option<(i64, u32)>
     ensures value { result ≡ spec.moment text.now }

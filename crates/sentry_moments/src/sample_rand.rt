@@ -1,17 +1,20 @@
-//! The random value that a trace is sampled by.
+//! The random value (`sample_rand`) that sampling decisions of a trace are made with.
 
 ghost use Rattle.std.specs.Prelude.{◌≡◌, ◌^◌, ◌<◌, ◌↔◌, IsOk, IfOk, IfErr, Some};
 ghost use Rattle.sentry_moments.specs.SampleRand.{millionths as millionths_of, sample_rand_text};
 
 use crate::decimal::{self, DecimalError};
-use sentry_members::spelled::printed;
+use sentry_members::spelled::print_into;
 use sentry_members::{AsText, Formed, Room, Spelled, TreeError, Way};
 use std::alloc::{AllocError, Global};
 use std::fmt;
 use std::str::FromStr;
 use thiserror::Error;
 
-/// A random number from 0 to below 1, drawn once where a trace begins, in billionths.
+/// The random value (`sample_rand`) of a trace, drawn once when the trace begins: from 0 to below
+/// 1, in billionths.
+///
+/// Printed with six decimal places, rounded half to even, and at most `0.999999`.
 ///
 /// <https://develop.sentry.dev/sdk/telemetry/traces/#propagated-random-value>
 #[derive(Clone, Copy, Debug, PartialEq)]
@@ -20,7 +23,7 @@ pub struct SampleRand {
     pub ghost below_one: { billionths < 10 ^ 9 },
 }
 
-/// Why a value is no [`SampleRand`].
+/// An error of making a [`SampleRand`].
 #[derive(Debug, Drop, Error)]
 pub enum InvalidSampleRandError {
     /// The text is no decimal.
@@ -36,7 +39,7 @@ impl From<DecimalError> for InvalidSampleRandError {
 
     ghost from_gives = { λ error e. e ≡ sample_rand_error error };
 
-    /// `InvalidFloat` for a text that is no decimal, and `OutOfRange` for a value out of range.
+    /// Converts `InvalidText` to `InvalidFloat`, and `OutOfRange` to `OutOfRange`.
     fn from(error: DecimalError) -> InvalidSampleRandError {
         match error {
             DecimalError::InvalidText => InvalidSampleRandError::InvalidFloat,
@@ -46,11 +49,11 @@ impl From<DecimalError> for InvalidSampleRandError {
 }
 
 impl SampleRand {
-    /// The value of so many billionths.
+    /// Returns the value of a number of billionths.
     ///
     /// # Errors
     ///
-    /// `OutOfRange` from a whole unit on.
+    /// `OutOfRange` if `billionths` is 10^9 or more.
     pub fn from_billionths(billionths: u64) -> Result<SampleRand, InvalidSampleRandError>
         ensures exactly { IsOk result ↔ (billionths < 10 ^ 9) }
         ensures same { IfOk result (λ r. r.billionths ≡ billionths) }
@@ -63,7 +66,7 @@ impl SampleRand {
         }
     }
 
-    /// The value in billionths, which are fewer than 10^9.
+    /// Returns the value in billionths; below 10^9.
     pub fn billionths(&self) -> u64
         ensures { result ≡ self.now.billionths }
     {
@@ -78,13 +81,13 @@ impl FromStr for SampleRand {
 
     ghost from_str_gives = { λ text r. ReadsSampleRand text r };
 
-    /// The value of a decimal text: an optional sign, digits with an optional point, and an optional
-    /// exponent of one to three digits. Places past the ninth are cut off. Takes no memory.
+    /// Parses a decimal text: an optional sign, digits with an optional point, and an optional
+    /// exponent of one to three digits. Places past the ninth are truncated. Doesn't allocate.
     ///
     /// # Errors
     ///
-    /// - `InvalidFloat`: the text is no such decimal.
-    /// - `OutOfRange`: it is below 0, however near to it, or 1 or more.
+    /// - `InvalidFloat` if the text is no decimal of this form.
+    /// - `OutOfRange` if the value is below 0 before truncation, or is 1 or more.
     fn from_str(text: &str) -> Result<SampleRand, InvalidSampleRandError> {
         let billionths = decimal::read(text, 1_000_000_000)?;
         Ok(SampleRand {
@@ -93,7 +96,7 @@ impl FromStr for SampleRand {
     }
 }
 
-// The nearest number of millionths, of two the even one, and below 1.
+// Rounds to millionths, half to even, and to at most 999_999.
 fn millionths(billionths: u64) -> u64
     requires { billionths < 10 ^ 9 }
     ensures value { result ≡ millionths_of billionths }
@@ -135,11 +138,11 @@ impl Spelled for SampleRand {
 
     #[tactic(auto, using(crate::proofs::Lengths::sample_rand_fits))]
     fn text<'a>(&'a self, room: &'a mut Room) -> Result<&'a str, AllocError> {
-        printed(self, room)
+        print_into(self, room)
     }
 
     #[tactic(auto, using(sentry_members::proofs::Ways::made_same, sentry_members::proofs::Ways::made_normal))]
-    fn copied(&self, way: Way) -> Result<SampleRand, AllocError> {
+    fn respell(&self, way: Way) -> Result<SampleRand, AllocError> {
         match way {
             Way::Same => Ok(*self),
             Way::Normal(_) => Ok(SampleRand {

@@ -1,19 +1,19 @@
-//! The rate at which traces are sampled.
+//! The rate (`sample_rate`) at which traces are sampled.
 
 ghost use Rattle.std.specs.Prelude.{◌/◌, ◌%◌, ◌^◌, Some};
 ghost use Rattle.sentry_moments.specs.Decimal.{decimal_text};
 ghost use Rattle.sentry_moments.specs.SampleRate.{ReadsSampleRate};
 
 use crate::decimal::{self, Decimal, DecimalError};
-use sentry_members::spelled::printed;
+use sentry_members::spelled::print_into;
 use sentry_members::{AsText, Formed, Room, Spelled, TreeError, Way};
 use std::alloc::{AllocError, Global};
 use std::fmt;
 use std::str::FromStr;
 
-/// A sample rate in billionths, as dynamic sampling contexts write it: `1`, `0.00000021`.
+/// A sample rate in billionths, printed as in dynamic sampling contexts: `1`, `0.00000021`.
 ///
-/// Any `u64` of billionths is read and printed.
+/// The whole range of `u64` is parsed and printed, also rates above 1.
 #[derive(Clone, Copy, Debug, PartialEq, Eq)]
 pub struct SampleRate(pub u64);
 
@@ -22,13 +22,13 @@ impl FromStr for SampleRate {
 
     ghost from_str_gives = { λ text r. ReadsSampleRate text r };
 
-    /// The rate of a decimal text: an optional sign, digits with an optional point, and an optional
-    /// exponent of one to three digits. Places past the ninth are cut off. Takes no memory.
+    /// Parses a decimal text: an optional sign, digits with an optional point, and an optional
+    /// exponent of one to three digits. Places past the ninth are truncated. Doesn't allocate.
     ///
     /// # Errors
     ///
-    /// - `InvalidText`: the text is no such decimal.
-    /// - `OutOfRange`: it is below 0, however near to it, or 2^64 billionths or more.
+    /// - `InvalidText` if the text is no decimal of this form.
+    /// - `OutOfRange` if the value is below 0 before truncation, or is 2^64 billionths or more.
     fn from_str(text: &str) -> Result<SampleRate, DecimalError> {
         let billionths = decimal::read(text, 1 << 64)?;
         Ok(SampleRate(billionths as u64))
@@ -69,11 +69,11 @@ impl Spelled for SampleRate {
     #[tactic(auto, using(crate::proofs::Lengths::rate_fits))]
     fn text<'a>(&'a self, room: &'a mut Room) -> Result<&'a str, AllocError> {
         let _billionths = self.0;
-        printed(self, room)
+        print_into(self, room)
     }
 
     #[tactic(auto, using(sentry_members::proofs::Ways::unchanged))]
-    fn copied(&self, _way: Way) -> Result<SampleRate, AllocError> {
+    fn respell(&self, _way: Way) -> Result<SampleRate, AllocError> {
         Ok(*self)
     }
 

@@ -11,8 +11,8 @@ use Rattle.sentry_tables.specs.Cell.{octets, present}
 use Rattle.sentry_tables.specs.Meets.{IsReadable, IsOptional}
 use Rattle.sentry_members.specs.Cells.{text_cell, option_cell}
 use Rattle.sentry_members.proofs.Equal.{texts_decide, options_decide, maps_decide}
-use Rattle.sentry_urls.specs.UrlTree.{url_cell, url_kind, UrlReadsBack}
-use Rattle.sentry_urls.proofs.UrlTrees.{one_url, urls_decide}
+use Rattle.sentry_text.specs.UrlTree.{url_cell, url_kind, UrlReadsBack}
+use Rattle.sentry_text.proofs.UrlTrees.{one_url, urls_decide}
 use Rattle.sentry_parts.specs.Requests.{request_fields, request_cell, request_kind}
 use Rattle.sentry_parts.specs.contracts.request.RequestPartialEq.TheImpl.{eq-value as of_requests}
 use Rattle.sentry_parts.specs.declared.request.Request.{Request}

@@ -16,8 +16,8 @@ use Rattle.sentry_words.specs.Level.{level_kind, level_spelling}
 use Rattle.sentry_words.specs.declared.level.Level.TheVariants as level
 use Rattle.sentry_words.proofs.Enumerations.{level_laws}
 use Rattle.sentry_moments.proofs.MomentSpellings.{seconds_laws, seconds_at_once}
-use Rattle.sentry_addresses.proofs.IpTrees.{ip_address_lawful}
-use Rattle.sentry_urls.proofs.UrlTrees.{url_lawful}
+use Rattle.sentry_text.proofs.IpTrees.{ip_address_lawful}
+use Rattle.sentry_text.proofs.UrlTrees.{url_lawful}
 use Rattle.sentry_parts.specs.Breadcrumbs.{breadcrumb_fields, breadcrumb_kind}
 use Rattle.sentry_parts.specs.Requests.{request_fields, request_kind}
 use Rattle.sentry_parts.specs.Users.{user_fields, user_kind}

@@ -6,7 +6,7 @@ use Rattle.sentry_tables.specs.Kind.{must, may, may_null, default, ignored, Kind
 use Rattle.sentry_tables.specs.Written.{in_order}
 use Rattle.sentry_members.specs.Cells.{text_cell, natural_cell, option_cell}
 use Rattle.sentry_members.specs.Kinds.{text_kind, unsigned_kind}
-use Rattle.sentry_addresses.specs.AddressTree.{address_kind}
+use Rattle.sentry_text.specs.AddressTree.{address_kind}
 use Rattle.sentry_identifiers.specs.CodeId.{code_text}
 use Rattle.sentry_identifiers.specs.CodeIdTree.{code_kind}
 use Rattle.sentry_identifiers.specs.DebugId.{debug_parts}

@@ -7,7 +7,7 @@ use Rattle.sentry_tables.specs.Kind.{may, Kind, kept, table, keys}
 use Rattle.sentry_tables.specs.Written.{in_order}
 use Rattle.sentry_members.specs.Cells.{text_cell, option_cell}
 use Rattle.sentry_members.specs.Kinds.{text_kind}
-use Rattle.sentry_addresses.specs.IpTree.{ip_address_kind, ip_address_cell}
+use Rattle.sentry_text.specs.IpTree.{ip_address_kind, ip_address_cell}
 use Rattle.sentry_parts.specs.declared.user.User.{User}
 
 unfoldable pub user_fields : List (Field User)

@@ -1,34 +1,34 @@
-//! What happened before an event.
+//! Breadcrumbs: what happened before an event.
 
 ghost use Rattle.sentry_parts.specs.Breadcrumbs.{breadcrumb_fields, breadcrumb_in_order};
 
 use rand_core::Rng;
+use sentry_json::Node;
 use sentry_members::{Formed, Member};
 use sentry_moments::{Moment, Seconds};
 use sentry_rows::{AsTable, Copier, CopyTable, ReadTableAt, Reader, Sink, Table};
-use sentry_trees::Node;
 use sentry_words::Level;
 use serde_json::{Map, Value};
 use std::alloc::{AllocError, Global};
 
-/// Something that happened before an event.
+/// A breadcrumb: something that happened before an event.
 ///
-/// A breadcrumb that is read without a `timestamp` takes the moment of reading.
+/// On reading, an absent `timestamp` becomes the moment of reading.
 ///
 /// <https://develop.sentry.dev/sdk/data-model/event-payloads/breadcrumbs/>
 #[derive(Debug, Drop, PartialEq)]
 pub struct Breadcrumb {
-    /// When it happened.
+    /// Time: RFC 3339 or whole seconds since 1970; defaults to the moment of reading.
     pub timestamp: Moment,
-    /// The type, which says how it is shown; `default` where it is absent. Its key is `type`.
+    /// Type, which decides how the breadcrumb is shown; defaults to `default` (member `type`).
     pub ty: String,
-    /// What it belongs to, as a module or the name of an event.
+    /// Category, such as a module or the name of an event.
     pub category: Option<String>,
-    /// How grave it is; `info` where it is absent.
+    /// Severity; defaults to `info`.
     pub level: Level,
-    /// A message for people.
+    /// Message, human-readable.
     pub message: Option<String>,
-    /// What else is known of it. Its key is `data`.
+    /// Additional data, by name (member `data`).
     pub data_: Map<String, Value>,
 }
 
@@ -39,9 +39,11 @@ impl Breadcrumb {
     ghost use Rattle.sentry_moments.specs.Moments.{moment_cell};
     ghost use Rattle.sentry_parts.specs.Breadcrumbs.{breadcrumb_cell, breadcrumb_fields};
 
-    /// A breadcrumb of this moment, of the type `default` and the level `info`, with nothing else.
+    /// Creates a breadcrumb at `now` with type `default`, level `info` and no other fields set.
     ///
-    /// It fails where memory is refused.
+    /// # Errors
+    ///
+    /// `AllocError` if an allocation fails.
     pub fn new(alloc: Global, now: Moment) -> Result<Breadcrumb, AllocError>
         ensures { IfOk result (λ b. IsDefaultAt (moment_cell now) breadcrumb_fields b) }
     {
@@ -55,7 +57,7 @@ impl Breadcrumb {
         })
     }
 
-    /// The same breadcrumb. It fails where memory is refused.
+    /// Clones the breadcrumb. `AllocError` if an allocation fails.
     pub fn clone(&self) -> Result<Breadcrumb, AllocError>
         ensures { IfOk result (λ copy. breadcrumb_cell copy ≡ breadcrumb_cell self.now) }
     {
@@ -99,7 +101,7 @@ impl ReadTableAt for Breadcrumb {
 
 #[tactic(auto, unfolding(crate::specs::Breadcrumbs::breadcrumb_fields))]
 impl CopyTable for Breadcrumb {
-    fn copied(&self, copies: &mut Copier) -> Result<Breadcrumb, AllocError> {
+    fn copy_rows(&self, copies: &mut Copier) -> Result<Breadcrumb, AllocError> {
         Ok(Breadcrumb {
             category: copies.optional(&self.category),
             data_: copies.map(&self.data_)?,

@@ -1,25 +1,25 @@
-//! The software that sends messages.
+//! Client SDK information.
 
 ghost use Rattle.sentry_parts.specs.ClientSdk.{sdk_fields, sdk_in_order};
 
 use crate::client_sdk_package::ClientSdkPackage;
+use sentry_json::Node;
 use sentry_members::{Formed, Member};
 use sentry_rows::{AsTable, Copier, CopyTable, ReadTable, Reader, Sink, Table};
-use sentry_trees::Node;
 use std::alloc::AllocError;
 
-/// The software that sends messages.
+/// The client SDK: the software that sends data to Sentry.
 ///
 /// <https://develop.sentry.dev/sdk/data-model/event-payloads/sdk/>
 #[derive(Debug, Drop, PartialEq)]
 pub struct ClientSdkInfo {
-    /// The name of the software, as `sentry.rust`.
+    /// SDK name, such as `sentry.rust`; required.
     pub name: String,
-    /// The version of the software.
+    /// SDK version; required.
     pub version: String,
-    /// What the software is joined to, as frameworks.
+    /// Enabled integrations, such as those with frameworks.
     pub integrations: Vec<String>,
-    /// The packages that the software is made of.
+    /// Packages that make up the SDK.
     pub packages: Vec<ClientSdkPackage>,
 }
 
@@ -27,7 +27,7 @@ impl ClientSdkInfo {
     ghost use Rattle.std.specs.Prelude.{◌≡◌, IfOk};
     ghost use Rattle.sentry_parts.specs.ClientSdk.{sdk_cell};
 
-    /// The same software. It fails where memory is refused.
+    /// Clones the SDK information. `AllocError` if an allocation fails.
     pub fn clone(&self) -> Result<ClientSdkInfo, AllocError>
         ensures { IfOk result (λ copy. sdk_cell copy ≡ sdk_cell self.now) }
     {
@@ -67,7 +67,7 @@ impl ReadTable for ClientSdkInfo {
 
 #[tactic(auto, unfolding(crate::specs::ClientSdk::sdk_fields))]
 impl CopyTable for ClientSdkInfo {
-    fn copied(&self, copies: &mut Copier) -> Result<ClientSdkInfo, AllocError> {
+    fn copy_rows(&self, copies: &mut Copier) -> Result<ClientSdkInfo, AllocError> {
         Ok(ClientSdkInfo {
             integrations: copies.list(&self.integrations),
             name: copies.text(&self.name),

@@ -1,20 +1,20 @@
-//! The packages of the software that sends messages.
+//! Packages of the client SDK.
 
 ghost use Rattle.sentry_parts.specs.ClientSdk.{package_fields, package_in_order};
 
+use sentry_json::Node;
 use sentry_members::{Formed, Member};
 use sentry_rows::{AsTable, Copier, CopyTable, ReadTable, Reader, Sink, Table};
-use sentry_trees::Node;
 use std::alloc::AllocError;
 
-/// A package of the software that sends messages.
+/// A package of the client SDK.
 ///
 /// <https://develop.sentry.dev/sdk/data-model/event-payloads/sdk/>
 #[derive(Debug, Drop, PartialEq)]
 pub struct ClientSdkPackage {
-    /// The name of the package, as `cargo:sentry`.
+    /// Package name, such as `cargo:sentry`; required.
     pub name: String,
-    /// The version of the package.
+    /// Package version; required.
     pub version: String,
 }
 
@@ -22,7 +22,7 @@ impl ClientSdkPackage {
     ghost use Rattle.std.specs.Prelude.{◌≡◌, IfOk};
     ghost use Rattle.sentry_parts.specs.ClientSdk.{package_cell};
 
-    /// The same package. It fails where memory is refused.
+    /// Clones the package. `AllocError` if an allocation fails.
     pub fn clone(&self) -> Result<ClientSdkPackage, AllocError>
         ensures { IfOk result (λ copy. package_cell copy ≡ package_cell self.now) }
     {
@@ -58,7 +58,7 @@ impl ReadTable for ClientSdkPackage {
 
 #[tactic(auto, unfolding(crate::specs::ClientSdk::package_fields))]
 impl CopyTable for ClientSdkPackage {
-    fn copied(&self, copies: &mut Copier) -> Result<ClientSdkPackage, AllocError> {
+    fn copy_rows(&self, copies: &mut Copier) -> Result<ClientSdkPackage, AllocError> {
         Ok(ClientSdkPackage {
             name: copies.text(&self.name),
             version: copies.text(&self.version),

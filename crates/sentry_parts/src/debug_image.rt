@@ -1,4 +1,4 @@
-//! Debug images by their tag.
+//! `DebugImage`: one of the debug image types, selected by the member `type`.
 
 ghost use Rattle.std.specs.Prelude.{◌≡◌, IfOk, refl};
 ghost use Rattle.sentry_parts.specs.DebugImages.{image_cases, image_cell, image_word};
@@ -6,30 +6,30 @@ ghost use Rattle.sentry_parts.specs.declared.debug_image.DebugImage.TheVariants 
 
 use crate::native_images::{AppleDebugImage, SymbolicDebugImage};
 use crate::other_images::{ProguardDebugImage, WasmDebugImage};
+use sentry_json::Node;
 use sentry_members::{Formed, FromTree, Member, TreeError, Way};
 use sentry_rows::{AsCase, CaseSink, Cased, ReadCased};
-use sentry_trees::Node;
 use std::alloc::{AllocError, Global};
 
-/// A file that was loaded, or that names are looked up in: by the word at the key `type`.
+/// A debug image: a loaded file or a file for symbolication, selected by the member `type`.
 ///
-/// A tree without `type`, or with another word there, is a misfit.
+/// An object without `type`, or with a `type` that no variant has, is a `TreeError::Misfit`.
 ///
 /// <https://develop.sentry.dev/sdk/data-model/event-payloads/debugmeta/>
 #[derive(Debug, Drop, PartialEq)]
 pub enum DebugImage {
-    /// An image of a platform of Apple: `apple`.
+    /// Apple debug image (`apple`).
     Apple(AppleDebugImage),
-    /// An image of any native platform: `symbolic`.
+    /// Debug image of any native platform (`symbolic`).
     Symbolic(SymbolicDebugImage),
-    /// A file of ProGuard: `proguard`.
+    /// ProGuard mapping file (`proguard`).
     Proguard(ProguardDebugImage),
-    /// An image of WebAssembly: `wasm`.
+    /// WebAssembly debug image (`wasm`).
     Wasm(WasmDebugImage),
 }
 
 impl DebugImage {
-    /// The word at the key `type`: `apple`, `symbolic`, `proguard` or `wasm`.
+    /// Returns the value of the member `type`: `apple`, `symbolic`, `proguard` or `wasm`.
     pub fn type_name(&self) -> &'static str
         ensures { result.now ≡ image_word self.now }
     {
@@ -41,7 +41,7 @@ impl DebugImage {
         }
     }
 
-    /// The same image. It fails where memory is refused.
+    /// Clones the debug image. `AllocError` if an allocation fails.
     pub fn clone(&self) -> Result<DebugImage, AllocError>
         ensures { IfOk result (λ copy. image_cell copy ≡ image_cell self.now) }
     {
@@ -103,12 +103,12 @@ impl Cased for DebugImage {
         }
     }
 
-    fn made(&self, way: Way) -> Result<DebugImage, AllocError> {
+    fn remake_case(&self, way: Way) -> Result<DebugImage, AllocError> {
         Ok(match self {
-            DebugImage::Apple(image) => DebugImage::Apple(image.remade(way)?),
-            DebugImage::Symbolic(image) => DebugImage::Symbolic(image.remade(way)?),
-            DebugImage::Proguard(image) => DebugImage::Proguard(image.remade(way)?),
-            DebugImage::Wasm(image) => DebugImage::Wasm(image.remade(way)?),
+            DebugImage::Apple(image) => DebugImage::Apple(image.remake(way)?),
+            DebugImage::Symbolic(image) => DebugImage::Symbolic(image.remake(way)?),
+            DebugImage::Proguard(image) => DebugImage::Proguard(image.remake(way)?),
+            DebugImage::Wasm(image) => DebugImage::Wasm(image.remake(way)?),
         })
     }
 

@@ -1,25 +1,25 @@
-//! What debuggers need to read the addresses of an event.
+//! Debug meta information: debug images and SDK information for symbolication.
 
 ghost use Rattle.sentry_parts.specs.Debugging.{empty_meta, meta_cell, meta_fields, meta_in_order, meta_kind};
 
 use crate::debug_image::DebugImage;
 use crate::system_sdk_info::SystemSdkInfo;
 use json::Writer;
+use sentry_json::Node;
 use sentry_members::member::Defaulted;
 use sentry_members::{Codec, FromTree, Member, ReadCodec, TreeError, Way};
 use sentry_rows::{AsTable, Copier, CopyTable, ReadTable, Reader, Sink, Table};
-use sentry_trees::Node;
 use serde_json::Value;
 use std::alloc::{AllocError, Global};
 
-/// What debuggers need to read the addresses of an event.
+/// Debug images and SDK information for symbolication.
 ///
 /// <https://develop.sentry.dev/sdk/data-model/event-payloads/debugmeta/>
 #[derive(Debug, Drop, PartialEq)]
 pub struct DebugMeta {
-    /// The software of the system.
+    /// Information about the system SDK.
     pub sdk_info: Option<SystemSdkInfo>,
-    /// The images that were loaded.
+    /// Loaded debug images.
     pub images: Vec<DebugImage>,
 }
 
@@ -29,7 +29,7 @@ impl DebugMeta {
     ghost use Rattle.sentry_tables.specs.Defaults.{IsDefault};
     ghost use Rattle.sentry_parts.specs.Debugging.{empty_meta, meta_cell, meta_fields};
 
-    /// No images, and nothing of the system's software.
+    /// Creates debug meta information without images or SDK information.
     pub fn default_in(alloc: Global) -> DebugMeta
         ensures rows { IsDefault meta_fields result }
         ensures empty { meta_cell result ≡ empty_meta }
@@ -40,14 +40,14 @@ impl DebugMeta {
         }
     }
 
-    /// Whether there are no images, and nothing is known of the system's software.
+    /// Returns whether there are no images and no SDK information.
     pub fn is_empty(&self) -> bool
         ensures { IsTrue result ↔ ((self.now.sdk_info ≡ None) × (self.now.images.items ≡ [])) }
     {
         self.sdk_info.is_none() && self.images.is_empty()
     }
 
-    /// The same images and software. It fails where memory is refused.
+    /// Clones the debug meta information. `AllocError` if an allocation fails.
     pub fn clone(&self) -> Result<DebugMeta, AllocError>
         ensures { IfOk result (λ copy. meta_cell copy ≡ meta_cell self.now) }
     {
@@ -68,8 +68,8 @@ impl Member for DebugMeta {
         AsTable::write(self, out)
     }
 
-    fn remade(&self, way: Way) -> Result<DebugMeta, AllocError> {
-        AsTable::remade(self, way)
+    fn remake(&self, way: Way) -> Result<DebugMeta, AllocError> {
+        AsTable::remake(self, way)
     }
 
     fn is_null_tree(&self) -> bool {
@@ -111,7 +111,7 @@ impl ReadTable for DebugMeta {
 
 #[tactic(auto, unfolding(crate::specs::Debugging::meta_fields))]
 impl CopyTable for DebugMeta {
-    fn copied(&self, copies: &mut Copier) -> Result<DebugMeta, AllocError> {
+    fn copy_rows(&self, copies: &mut Copier) -> Result<DebugMeta, AllocError> {
         Ok(DebugMeta {
             images: copies.list(&self.images),
             sdk_info: copies.optional(&self.sdk_info),

@@ -1,5 +1,5 @@
-//! Laws over definitions alone: of each type what is written reads back as its normal form and as
-//! nothing else, which is its own and is written alike.
+//! Laws of the definitions: a written value reads back as its normal form only; the normal form is
+//! its own normal form, and two values share one exactly if their normal forms are written alike.
 
 ghost use Rattle.std.specs.Prelude.{◌≡◌, ◌↔◌, true};
 ghost use Rattle.sentry_tables.specs.Kind.{default, values};
@@ -28,7 +28,8 @@ use crate::{
     Request, SymbolicDebugImage, SystemSdkInfo, WasmDebugImage,
 };
 
-/// The laws of each table, and of debug images by their tag.
+/// The laws of JSON forms (`HasLaws`) hold of each type that is a JSON object, and of debug images,
+/// which are selected by the member `type`.
 #[tactic(auto, using(crate::proofs::ClientSdkLaws::package_laws, crate::proofs::ClientSdkLaws::sdk_laws, crate::proofs::TableLaws::breadcrumb_laws, crate::proofs::TableLaws::user_laws, crate::proofs::TableLaws::request_laws, crate::proofs::DebugLaws::system_laws, crate::proofs::DebugLaws::apple_laws, crate::proofs::DebugLaws::symbolic_laws, crate::proofs::DebugLaws::proguard_laws, crate::proofs::DebugLaws::wasm_laws, crate::proofs::DebugLaws::image_laws, crate::proofs::DebugLaws::meta_laws))]
 pub fn tables()
     ensures packages { HasLaws package_kind }
@@ -45,30 +46,43 @@ pub fn tables()
     ensures metas { HasLaws meta_kind }
 {}
 
-/// The laws of lists of breadcrumbs under the key `values`.
+/// The laws of JSON forms hold of lists of breadcrumbs under the key `values`.
 #[tactic(auto, using(crate::proofs::TableLaws::breadcrumb_lists))]
 pub fn lists()
     ensures breadcrumbs { HasLaws (values breadcrumb_kind) }
 {}
 
-/// A row of what debuggers need may leave out what is empty.
+/// Empty debug meta information may be the default of a member: null is rejected, and the empty
+/// value is its own normal form.
 #[tactic(auto, using(crate::proofs::DebugLaws::meta_stands))]
 pub fn empty_debug_meta()
     ensures { RuleLaws (default empty_meta) meta_kind }
 {}
 
-/// Two values of a table without trees are equal exactly where their fields are the same; two requests,
-/// where their URLs are read back from their texts.
+/// `==` compares contents: two values of a type below are equal exactly if all fields are the same.
+///
+/// The law of requests assumes that the URLs of both read back from their texts.
 #[tactic(auto, using(crate::proofs::Equal::packages_decide, crate::proofs::Equal::software_decides, crate::proofs::EqualParts::requests_decide, crate::proofs::EqualImages::systems_decide, crate::proofs::EqualImages::apples_decide, crate::proofs::EqualImages::symbolics_decide, crate::proofs::EqualImages::proguards_decide, crate::proofs::EqualImages::wasms_decide, crate::proofs::EqualImages::images_decide, crate::proofs::EqualImages::metas_decide))]
 pub fn equal_tables()
-    ensures packages { (a b : Packages) → ⟦<ClientSdkPackage as PartialEq>⟧.eq a b ≡ true ↔ (package_cell a ≡ package_cell b) }
-    ensures software { (a b : Software) → ⟦<ClientSdkInfo as PartialEq>⟧.eq a b ≡ true ↔ (sdk_cell a ≡ sdk_cell b) }
-    ensures requests { (a b : Requests) → IsReadable request_kind (request_cell a) → IsReadable request_kind (request_cell b) → ⟦<Request as PartialEq>⟧.eq a b ≡ true ↔ (request_cell a ≡ request_cell b) }
-    ensures systems { (a b : Systems) → ⟦<SystemSdkInfo as PartialEq>⟧.eq a b ≡ true ↔ (system_cell a ≡ system_cell b) }
-    ensures apple_images { (a b : Apples) → ⟦<AppleDebugImage as PartialEq>⟧.eq a b ≡ true ↔ (apple_cell a ≡ apple_cell b) }
-    ensures symbolic_images { (a b : Symbolics) → ⟦<SymbolicDebugImage as PartialEq>⟧.eq a b ≡ true ↔ (symbolic_cell a ≡ symbolic_cell b) }
-    ensures proguard_images { (a b : Proguards) → ⟦<ProguardDebugImage as PartialEq>⟧.eq a b ≡ true ↔ (proguard_cell a ≡ proguard_cell b) }
-    ensures wasm_images { (a b : Wasms) → ⟦<WasmDebugImage as PartialEq>⟧.eq a b ≡ true ↔ (wasm_cell a ≡ wasm_cell b) }
-    ensures images { (a b : Images) → ⟦<DebugImage as PartialEq>⟧.eq a b ≡ true ↔ (image_cell a ≡ image_cell b) }
-    ensures metas { (a b : Metas) → ⟦<DebugMeta as PartialEq>⟧.eq a b ≡ true ↔ (meta_cell a ≡ meta_cell b) }
+    ensures packages { (a b : Packages) → ⟦<ClientSdkPackage as PartialEq>⟧.eq a b ≡ true ↔
+        (package_cell a ≡ package_cell b) }
+    ensures software { (a b : Software) → ⟦<ClientSdkInfo as PartialEq>⟧.eq a b ≡ true ↔
+        (sdk_cell a ≡ sdk_cell b) }
+    ensures requests { (a b : Requests) → IsReadable request_kind (request_cell a) →
+        IsReadable request_kind (request_cell b) → ⟦<Request as PartialEq>⟧.eq a b ≡ true ↔
+        (request_cell a ≡ request_cell b) }
+    ensures systems { (a b : Systems) → ⟦<SystemSdkInfo as PartialEq>⟧.eq a b ≡ true ↔
+        (system_cell a ≡ system_cell b) }
+    ensures apple_images { (a b : Apples) → ⟦<AppleDebugImage as PartialEq>⟧.eq a b ≡ true ↔
+        (apple_cell a ≡ apple_cell b) }
+    ensures symbolic_images { (a b : Symbolics) →
+        ⟦<SymbolicDebugImage as PartialEq>⟧.eq a b ≡ true ↔ (symbolic_cell a ≡ symbolic_cell b) }
+    ensures proguard_images { (a b : Proguards) →
+        ⟦<ProguardDebugImage as PartialEq>⟧.eq a b ≡ true ↔ (proguard_cell a ≡ proguard_cell b) }
+    ensures wasm_images { (a b : Wasms) → ⟦<WasmDebugImage as PartialEq>⟧.eq a b ≡ true ↔
+        (wasm_cell a ≡ wasm_cell b) }
+    ensures images { (a b : Images) → ⟦<DebugImage as PartialEq>⟧.eq a b ≡ true ↔
+        (image_cell a ≡ image_cell b) }
+    ensures metas { (a b : Metas) → ⟦<DebugMeta as PartialEq>⟧.eq a b ≡ true ↔
+        (meta_cell a ≡ meta_cell b) }
 {}

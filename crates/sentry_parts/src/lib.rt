@@ -1,4 +1,5 @@
-//! Parts that several messages of the protocol share, with those of `sentry_frames`.
+//! Types shared by several payloads: breadcrumbs, users, requests, debug images and SDK
+//! information; re-exports the types of `sentry_frames`.
 #![tactic(auto)]
 
 pub mod breadcrumb;

@@ -1,35 +1,35 @@
-//! Images of native code.
+//! Debug images of native code.
 
 ghost use Rattle.sentry_parts.specs.DebugImages.{apple_fields, apple_in_order, symbolic_fields, symbolic_in_order};
 
-use sentry_addresses::Addr;
 use sentry_identifiers::{CodeId, DebugId, Hyphenated};
+use sentry_json::Node;
 use sentry_members::{Formed, Member};
 use sentry_rows::{AsTable, Copier, CopyTable, ReadTable, Reader, Sink, Table};
-use sentry_trees::Node;
+use sentry_text::Addr;
 use std::alloc::AllocError;
 use uuid::Uuid;
 
-/// An image of a platform of Apple, or of one that names its images alike.
+/// A debug image of an Apple platform, or of a platform that identifies images in the same way.
 ///
 /// <https://develop.sentry.dev/sdk/data-model/event-payloads/debugmeta/>
 #[derive(Debug, Drop, PartialEq)]
 pub struct AppleDebugImage {
-    /// The name of the image, mostly that of its file.
+    /// Name of the image, usually the file name; required.
     pub name: String,
-    /// The architecture, as `arm64`.
+    /// CPU architecture, such as `arm64`; `None` is written as null.
     pub arch: Option<String>,
-    /// The type of the processor, as Mach-O has it.
+    /// CPU type, as in Mach-O; `None` is written as null.
     pub cpu_type: Option<u32>,
-    /// The kind of processor of that type, as Mach-O has it.
+    /// CPU subtype, as in Mach-O; `None` is written as null.
     pub cpu_subtype: Option<u32>,
-    /// Where the image begins in memory.
+    /// Start address in memory; required.
     pub image_addr: Addr,
-    /// The size of the image in bytes.
+    /// Size in bytes; required.
     pub image_size: u64,
-    /// Where the image asks to be loaded; 0 where it is absent.
+    /// Preferred load address; defaults to 0.
     pub image_vmaddr: Addr,
-    /// The identifier of the image.
+    /// UUID of the image; required.
     pub uuid: Uuid,
 }
 
@@ -37,7 +37,7 @@ impl AppleDebugImage {
     ghost use Rattle.std.specs.Prelude.{◌≡◌, IfOk};
     ghost use Rattle.sentry_parts.specs.DebugImages.{apple_cell};
 
-    /// The same image. It fails where memory is refused.
+    /// Clones the debug image. `AllocError` if an allocation fails.
     pub fn clone(&self) -> Result<AppleDebugImage, AllocError>
         ensures { IfOk result (λ copy. apple_cell copy ≡ apple_cell self.now) }
     {
@@ -85,7 +85,7 @@ impl ReadTable for AppleDebugImage {
 
 #[tactic(auto, unfolding(crate::specs::DebugImages::apple_fields))]
 impl CopyTable for AppleDebugImage {
-    fn copied(&self, copies: &mut Copier) -> Result<AppleDebugImage, AllocError> {
+    fn copy_rows(&self, copies: &mut Copier) -> Result<AppleDebugImage, AllocError> {
         Ok(AppleDebugImage {
             arch: copies.optional(&self.arch),
             cpu_subtype: copies.optional(&self.cpu_subtype),
@@ -99,26 +99,26 @@ impl CopyTable for AppleDebugImage {
     }
 }
 
-/// An image of any native platform, with the identifiers that symbols are looked up by.
+/// A debug image of any native platform, with the identifiers for symbolication.
 ///
 /// <https://develop.sentry.dev/sdk/data-model/event-payloads/debugmeta/>
 #[derive(Debug, Drop, PartialEq)]
 pub struct SymbolicDebugImage {
-    /// The path and name of the image's file.
+    /// Path and name of the image file; required.
     pub name: String,
-    /// The architecture, as `x86_64`.
+    /// CPU architecture, such as `x86_64`; `None` is written as null.
     pub arch: Option<String>,
-    /// Where the image begins in memory.
+    /// Start address in memory; required.
     pub image_addr: Addr,
-    /// The size of the image in bytes.
+    /// Size in bytes; required.
     pub image_size: u64,
-    /// Where the image asks to be loaded; 0 where it is absent.
+    /// Preferred load address; defaults to 0.
     pub image_vmaddr: Addr,
-    /// The identifier of the image's debug information.
+    /// Debug identifier of the image; required.
     pub id: DebugId,
-    /// The identifier of the code file.
+    /// Identifier of the code file.
     pub code_id: Option<CodeId>,
-    /// The path and name of the file with the debug information.
+    /// Path and name of the debug information file.
     pub debug_file: Option<String>,
 }
 
@@ -126,7 +126,7 @@ impl SymbolicDebugImage {
     ghost use Rattle.std.specs.Prelude.{◌≡◌, IfOk};
     ghost use Rattle.sentry_parts.specs.DebugImages.{symbolic_cell};
 
-    /// The same image. It fails where memory is refused.
+    /// Clones the debug image. `AllocError` if an allocation fails.
     pub fn clone(&self) -> Result<SymbolicDebugImage, AllocError>
         ensures { IfOk result (λ copy. symbolic_cell copy ≡ symbolic_cell self.now) }
     {
@@ -174,7 +174,7 @@ impl ReadTable for SymbolicDebugImage {
 
 #[tactic(auto, unfolding(crate::specs::DebugImages::symbolic_fields))]
 impl CopyTable for SymbolicDebugImage {
-    fn copied(&self, copies: &mut Copier) -> Result<SymbolicDebugImage, AllocError> {
+    fn copy_rows(&self, copies: &mut Copier) -> Result<SymbolicDebugImage, AllocError> {
         Ok(SymbolicDebugImage {
             arch: copies.optional(&self.arch),
             code_id: copies.optional(&self.code_id),

@@ -1,20 +1,20 @@
-//! Images of code that is not native.
+//! Debug images of code that is not native: ProGuard and WebAssembly.
 
 ghost use Rattle.sentry_parts.specs.DebugImages.{proguard_fields, proguard_in_order, wasm_fields, wasm_in_order};
 
 use sentry_identifiers::Hyphenated;
+use sentry_json::Node;
 use sentry_members::{Formed, Member};
 use sentry_rows::{AsTable, Copier, CopyTable, ReadTable, Reader, Sink, Table};
-use sentry_trees::Node;
 use std::alloc::AllocError;
 use uuid::Uuid;
 
-/// The file by which ProGuard's names are turned back.
+/// A reference to a ProGuard mapping file, by which obfuscated names are restored.
 ///
 /// <https://develop.sentry.dev/sdk/data-model/event-payloads/debugmeta/>
 #[derive(Debug, Drop, PartialEq)]
 pub struct ProguardDebugImage {
-    /// The identifier of the file.
+    /// UUID of the mapping file; required.
     pub uuid: Uuid,
 }
 
@@ -22,7 +22,7 @@ impl ProguardDebugImage {
     ghost use Rattle.std.specs.Prelude.{◌≡◌, IfOk};
     ghost use Rattle.sentry_parts.specs.DebugImages.{proguard_cell};
 
-    /// The same image. It fails where memory is refused.
+    /// Clones the debug image. `AllocError` if an allocation fails.
     pub fn clone(&self) -> Result<ProguardDebugImage, AllocError>
         ensures { IfOk result (λ copy. proguard_cell copy ≡ proguard_cell self.now) }
     {
@@ -56,27 +56,27 @@ impl ReadTable for ProguardDebugImage {
 
 #[tactic(auto, unfolding(crate::specs::DebugImages::proguard_fields))]
 impl CopyTable for ProguardDebugImage {
-    fn copied(&self, copies: &mut Copier) -> Result<ProguardDebugImage, AllocError> {
+    fn copy_rows(&self, copies: &mut Copier) -> Result<ProguardDebugImage, AllocError> {
         Ok(ProguardDebugImage {
             uuid: copies.plain_as::<Hyphenated, Uuid>(&self.uuid),
         })
     }
 }
 
-/// An image of WebAssembly.
+/// A WebAssembly debug image.
 ///
 /// <https://develop.sentry.dev/sdk/data-model/event-payloads/debugmeta/>
 #[derive(Debug, Drop, PartialEq)]
 pub struct WasmDebugImage {
-    /// The name of the image, mostly that of its file.
+    /// Name of the image, usually the file name; required.
     pub name: String,
-    /// The identifier of the image's debug information.
+    /// Debug identifier of the image: a UUID; required.
     pub debug_id: Uuid,
-    /// The name or URL of the file with the debug information.
+    /// Name or URL of the debug information file.
     pub debug_file: Option<String>,
-    /// The identifier of the code file: its build id, in hex digits.
+    /// Identifier of the code file: the build id in hex digits.
     pub code_id: Option<String>,
-    /// The URL of the code file.
+    /// URL of the code file; required.
     pub code_file: String,
 }
 
@@ -84,7 +84,7 @@ impl WasmDebugImage {
     ghost use Rattle.std.specs.Prelude.{◌≡◌, IfOk};
     ghost use Rattle.sentry_parts.specs.DebugImages.{wasm_cell};
 
-    /// The same image. It fails where memory is refused.
+    /// Clones the debug image. `AllocError` if an allocation fails.
     pub fn clone(&self) -> Result<WasmDebugImage, AllocError>
         ensures { IfOk result (λ copy. wasm_cell copy ≡ wasm_cell self.now) }
     {
@@ -126,7 +126,7 @@ impl ReadTable for WasmDebugImage {
 
 #[tactic(auto, unfolding(crate::specs::DebugImages::wasm_fields))]
 impl CopyTable for WasmDebugImage {
-    fn copied(&self, copies: &mut Copier) -> Result<WasmDebugImage, AllocError> {
+    fn copy_rows(&self, copies: &mut Copier) -> Result<WasmDebugImage, AllocError> {
         Ok(WasmDebugImage {
             code_file: copies.text(&self.code_file),
             code_id: copies.optional(&self.code_id),

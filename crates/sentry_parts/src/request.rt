@@ -2,32 +2,32 @@
 
 ghost use Rattle.sentry_parts.specs.Requests.{request_fields, request_in_order};
 
+use sentry_json::Node;
 use sentry_members::{Formed, Member};
 use sentry_rows::{AsTable, Copier, CopyTable, ReadTable, Reader, Sink, Table};
-use sentry_trees::Node;
-use sentry_urls::UrlText;
+use sentry_text::UrlText;
 use serde_json::Map;
 use std::alloc::{AllocError, Global};
 use url::Url;
 
-/// The HTTP request during which an event arose.
+/// The HTTP request during which an event occurred.
 ///
 /// <https://develop.sentry.dev/sdk/data-model/event-payloads/request/>
 #[derive(Debug, Drop, PartialEq)]
 pub struct Request {
-    /// The URL, whose text the URL Standard's parser takes.
+    /// Request URL: a string that the URL Standard's parser accepts without a base URL.
     pub url: Option<Url>,
-    /// The method, as `GET`.
+    /// HTTP method, such as `GET`.
     pub method: Option<String>,
-    /// What was sent, as people read it. Its key is `data`.
+    /// Submitted data, human-readable (member `data`).
     pub data_: Option<String>,
-    /// The query, encoded.
+    /// Query string, encoded.
     pub query_string: Option<String>,
-    /// The cookies, encoded.
+    /// Cookies, encoded.
     pub cookies: Option<String>,
-    /// The headers by their names.
+    /// HTTP headers, by name.
     pub headers: Map<String, String>,
-    /// The variables of the server's environment, as CGI has them.
+    /// Environment variables of the server, by name, as in CGI.
     pub env: Map<String, String>,
 }
 
@@ -37,7 +37,7 @@ impl Request {
     ghost use Rattle.sentry_tables.specs.Defaults.{IsDefault};
     ghost use Rattle.sentry_parts.specs.Requests.{request_cell, request_fields};
 
-    /// A request of which nothing is known.
+    /// Creates a request with no fields set.
     pub fn default_in(alloc: Global) -> Request
         ensures { IsDefault request_fields result }
     {
@@ -52,7 +52,7 @@ impl Request {
         }
     }
 
-    /// The same request. It fails where memory is refused.
+    /// Clones the request. `AllocError` if an allocation fails.
     pub fn clone(&self) -> Result<Request, AllocError>
         ensures { IfOk result (λ copy. request_cell copy ≡ request_cell self.now) }
     {
@@ -98,7 +98,7 @@ impl ReadTable for Request {
 
 #[tactic(auto, unfolding(crate::specs::Requests::request_fields))]
 impl CopyTable for Request {
-    fn copied(&self, copies: &mut Copier) -> Result<Request, AllocError> {
+    fn copy_rows(&self, copies: &mut Copier) -> Result<Request, AllocError> {
         Ok(Request {
             cookies: copies.optional(&self.cookies),
             data_: copies.optional(&self.data_),

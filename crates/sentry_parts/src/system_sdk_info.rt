@@ -1,24 +1,24 @@
-//! The software of the system that an application runs on.
+//! System SDK information: the SDK of the system that an application runs on.
 
 ghost use Rattle.sentry_parts.specs.Debugging.{system_fields, system_in_order};
 
+use sentry_json::Node;
 use sentry_members::{Formed, Member};
 use sentry_rows::{AsTable, Copier, CopyTable, ReadTable, Reader, Sink, Table};
-use sentry_trees::Node;
 use std::alloc::AllocError;
 
-/// The software of the system that an application runs on, as that of iOS.
+/// The SDK of the system that an application runs on, such as the iOS SDK.
 ///
 /// <https://develop.sentry.dev/sdk/data-model/event-payloads/debugmeta/>
 #[derive(Debug, Drop, PartialEq)]
 pub struct SystemSdkInfo {
-    /// The name of the software, as `iOS`.
+    /// SDK name, such as `iOS`; required.
     pub sdk_name: String,
-    /// The first number of its version.
+    /// Major version; required.
     pub version_major: u32,
-    /// The second number of its version.
+    /// Minor version; required.
     pub version_minor: u32,
-    /// The third number of its version.
+    /// Patch level of the version; required.
     pub version_patchlevel: u32,
 }
 
@@ -26,7 +26,7 @@ impl SystemSdkInfo {
     ghost use Rattle.std.specs.Prelude.{◌≡◌, IfOk};
     ghost use Rattle.sentry_parts.specs.Debugging.{system_cell};
 
-    /// The same software. It fails where memory is refused.
+    /// Clones the SDK information. `AllocError` if an allocation fails.
     pub fn clone(&self) -> Result<SystemSdkInfo, AllocError>
         ensures { IfOk result (λ copy. system_cell copy ≡ system_cell self.now) }
     {
@@ -66,7 +66,7 @@ impl ReadTable for SystemSdkInfo {
 
 #[tactic(auto, unfolding(crate::specs::Debugging::system_fields))]
 impl CopyTable for SystemSdkInfo {
-    fn copied(&self, copies: &mut Copier) -> Result<SystemSdkInfo, AllocError> {
+    fn copy_rows(&self, copies: &mut Copier) -> Result<SystemSdkInfo, AllocError> {
         Ok(SystemSdkInfo {
             sdk_name: copies.text(&self.sdk_name),
             version_major: copies.plain(&self.version_major),

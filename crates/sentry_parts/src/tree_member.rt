@@ -1,4 +1,4 @@
-//! Types whose values stand in lists under the key `values`.
+//! `TreeMember`: types whose values may be listed under the key `values`.
 
 ghost use Rattle.std.specs.Prelude.{◌≡◌, ◌↔◌, IfOk, IsTrue};
 ghost use Rattle.serde_json.specs.View.{view};
@@ -19,7 +19,7 @@ use sentry_rows::{FromTreeAt, Values};
 use serde_json::Value;
 use std::alloc::{AllocError, Global};
 
-/// A type whose values may stand in [`Values`], with the calls on trees that all such types share.
+/// A type whose values may be listed in [`Values`], with the calls on trees that these types share.
 pub trait TreeMember: Sized + Drop {
     ghost kind: { Kind };
 
@@ -29,7 +29,8 @@ pub trait TreeMember: Sized + Drop {
     ///
     /// # Errors
     ///
-    /// `Misfit` only where the tree shows no value, `Memory` if an allocation fails.
+    /// `Misfit` only if the tree is not a value of the type; `Memory` if an allocation fails or a
+    /// URL takes 4 GB.
     fn from_tree<R: Rng>(
         alloc: Global,
         tree: &Value,
@@ -42,21 +43,24 @@ pub trait TreeMember: Sized + Drop {
     ///
     /// # Errors
     ///
-    /// As for [`TreeMember::from_tree`].
+    /// `Misfit` only if the tree is not a list of the type; `Memory` if an allocation fails or a
+    /// URL takes 4 GB.
     fn values_from_tree<R: Rng>(
         alloc: Global,
         tree: &Value,
         now: Moment,
         ids: &mut R,
     ) -> Result<Values<Self>, TreeError>
-        ensures { ReadsAt (moment_cell now) (values_kind kind) (λ list. list_cell cell_of list.values.items)
+        ensures { ReadsAt (moment_cell now) (values_kind kind) (λ list.
+            list_cell cell_of list.values.items)
             (view tree.now) result };
 
     /// Returns the JSON tree of the value. `AllocError` if an allocation fails.
     fn to_tree(&self, alloc: Global) -> Result<Value, AllocError>
         ensures { IfOk result (λ tree. view tree ≡ written kind (cell_of self.now)) };
 
-    /// Returns whether the value can be written: no tree in it holds a float, and no additional member clashes with a field.
+    /// Returns whether the value can be written: no tree in the value holds a float, and no
+    /// additional member has the key of a field.
     fn is_plain(&self) -> bool
         ensures plain { IsTrue result ↔ IsPlain kind (cell_of self.now) }
         ensures stored { IsTrue result → IsStored kind (cell_of self.now) };

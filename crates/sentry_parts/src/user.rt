@@ -1,31 +1,30 @@
-//! The user of an application.
+//! Users affected by events.
 
 ghost use Rattle.std.specs.Prelude.{[]};
 ghost use Rattle.serde_json.specs.View.{members_view};
 ghost use Rattle.sentry_parts.specs.Users.{user_fields, user_in_order};
 
-use sentry_addresses::IpAddress;
+use sentry_json::Node;
 use sentry_members::{Formed, Member};
 use sentry_rows::{AsKept, Copier, CopyKept, KeptTable, ReadKept, Reader, Sink, Table};
-use sentry_trees::Node;
+use sentry_text::IpAddress;
 use serde_json::{Map, Value};
 use std::alloc::{AllocError, Global};
 
-/// The user of an application.
+/// The user affected by an event.
 ///
 /// <https://develop.sentry.dev/sdk/data-model/event-payloads/user/>
 #[derive(Debug, Drop, PartialEq)]
 pub struct User {
-    /// The identifier of the user in the application.
+    /// User id in the application.
     pub id: Option<String>,
-    /// The email address.
+    /// Email address.
     pub email: Option<String>,
-    /// The IP address, or that of the connection.
+    /// IP address; `{{auto}}` stands for the address of the connection.
     pub ip_address: Option<IpAddress>,
-    /// The name that the user is known by.
+    /// Username, human-readable.
     pub username: Option<String>,
-    /// What else is known, under other keys. A user with one of the four keys here isn't plain, and
-    /// can't be written.
+    /// Additional members. The key of a field above makes the user unwritable (`NotPlain`).
     pub other: Map<String, Value>,
 }
 
@@ -36,7 +35,7 @@ impl User {
     ghost use Rattle.sentry_tables.specs.Defaults.{IsDefault};
     ghost use Rattle.sentry_parts.specs.Users.{user_cell, user_fields};
 
-    /// A user of whom nothing is known.
+    /// Creates a user with no fields set.
     pub fn default_in(alloc: Global) -> User
         ensures rows { IsDefault user_fields result }
         ensures other { members_view result.other.entries ≡ no_members }
@@ -50,7 +49,7 @@ impl User {
         }
     }
 
-    /// The same user. It fails where memory is refused.
+    /// Clones the user. `AllocError` if an allocation fails.
     pub fn clone(&self) -> Result<User, AllocError>
         ensures { IfOk result (λ copy. user_cell copy ≡ user_cell self.now) }
     {
@@ -106,7 +105,7 @@ impl ReadKept for User {
 
 #[tactic(auto, unfolding(crate::specs::Users::user_fields))]
 impl CopyKept for User {
-    fn copied(&self, copies: &mut Copier) -> Result<User, AllocError> {
+    fn copy_rows(&self, copies: &mut Copier) -> Result<User, AllocError> {
         Ok(User {
             email: copies.optional(&self.email),
             id: copies.optional(&self.id),

@@ -10,7 +10,7 @@ use Rattle.sentry_tables.specs.Cell.{Cell, Cells, absent, octets, fields, no_cel
 use Rattle.sentry_members.specs.Cells.{text_cell, natural_cell}
 use Rattle.sentry_members.specs.Spelling.{word_cell}
 use Rattle.sentry_members.proofs.Equal.{texts_decide, options_decide}
-use Rattle.sentry_identifiers.specs.HexIdTree.{trace_cell}
+use Rattle.sentry_identifiers.specs.HexIdTree.{trace_id_cell}
 use Rattle.sentry_identifiers.specs.contracts.trace_id.TraceIdPartialEq.TheImpl.{eq-value as of_traces}
 use Rattle.sentry_identifiers.specs.declared.trace_id.TraceId.{TraceId}
 use Rattle.sentry_moments.specs.Moments.{moment_cell}
@@ -21,9 +21,9 @@ use Rattle.sentry_moments.specs.contracts.sample_rate.SampleRatePartialEq.TheImp
 use Rattle.sentry_moments.specs.declared.moment.Moment.{Moment}
 use Rattle.sentry_moments.specs.declared.sample_rand.SampleRand.{SampleRand}
 use Rattle.sentry_moments.specs.declared.sample_rate.SampleRate.{SampleRate}
-use Rattle.sentry_numbers.specs.ProjectTree.{organization_cell}
-use Rattle.sentry_numbers.specs.contracts.project_id.OrganizationIdPartialEq.TheImpl.{eq-value as of_organizations}
-use Rattle.sentry_numbers.specs.declared.project_id.OrganizationId.{OrganizationId}
+use Rattle.sentry_text.specs.ProjectTree.{organization_cell}
+use Rattle.sentry_text.specs.contracts.project_id.OrganizationIdPartialEq.TheImpl.{eq-value as of_organizations}
+use Rattle.sentry_text.specs.declared.project_id.OrganizationId.{OrganizationId}
 use Rattle.sentry_words.specs.MonitorCheckInStatus.{check_in_status_of, check_in_status_word}
 use Rattle.sentry_words.specs.MonitorIntervalUnit.{interval_unit_of, interval_unit_word}
 use Rattle.sentry_words.specs.Sampled.{sampled_cell}
@@ -62,7 +62,7 @@ ids_decide a b = search rules
 pub moments_decide : (a b : Moment) → Decides (of_moments.it a b) (moment_cell a ≡ moment_cell b)
 moments_decide a b = search rules
 
-traces_decide : (a b : TraceId) → Decides (of_traces.it a b) (trace_cell a ≡ trace_cell b)
+traces_decide : (a b : TraceId) → Decides (of_traces.it a b) (trace_id_cell a ≡ trace_id_cell b)
 traces_decide a b = search rules
 
 rates_decide : (a b : SampleRate) → Decides (of_rates.it a b) (sample_rate_cell a ≡ sample_rate_cell b)
@@ -126,7 +126,7 @@ row n c d e = ap (λ x. nth n (cells_in x)) e
 pub contexts_decide : (a b : DynamicSamplingContext) → Decides (of_contexts.it a b) (sampling_cell a ≡ sampling_cell b)
 unfolding sampling_fields nth cells_in
 contexts_decide a b =
-    let parts = Decides-and _ _ (options_decide of_traces.it trace_cell traces_decide a.trace_id b.trace_id)
+    let parts = Decides-and _ _ (options_decide of_traces.it trace_id_cell traces_decide a.trace_id b.trace_id)
     (Decides-and _ _ (options_decide string_eq text_cell texts_decide a.public_key b.public_key)
     (Decides-and _ _ (options_decide of_rates.it sample_rate_cell rates_decide a.sample_rate b.sample_rate)
     (Decides-and _ _ (options_decide of_rands.it sample_rand_cell rands_decide a.sample_rand b.sample_rand)

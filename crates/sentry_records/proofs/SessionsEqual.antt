@@ -15,10 +15,10 @@ use Rattle.sentry_tables.specs.Cell.{text, truth}
 use Rattle.sentry_members.specs.Cells.{text_cell, cow_cell, natural_cell, option_cell}
 use Rattle.sentry_members.specs.Spelling.{word_cell}
 use Rattle.sentry_members.proofs.Equal.{texts_decide, options_decide, lists_decide}
-use Rattle.sentry_addresses.specs.Ip.{IsStoredIp, ip_of}
-use Rattle.sentry_addresses.specs.IpTree.{ip_cell, ip_cell_text}
-use Rattle.sentry_addresses.proofs.Ips.{written_ip}
-use Rattle.sentry_addresses.proofs.IpTrees.{ip_written}
+use Rattle.sentry_text.specs.Ip.{IsStoredIp, ip_of}
+use Rattle.sentry_text.specs.IpTree.{ip_cell, ip_cell_text}
+use Rattle.sentry_text.proofs.Ips.{written_ip}
+use Rattle.sentry_text.proofs.IpTrees.{ip_written}
 use Rattle.sentry_moments.specs.Moments.{moment_cell}
 use Rattle.sentry_moments.specs.contracts.moment.MomentPartialEq.TheImpl.{eq-value as of_moments}
 use Rattle.sentry_words.specs.SessionStatus.{session_status_of, session_status_word}

@@ -12,8 +12,8 @@ use Rattle.sentry_tables.specs.Lawful.{ScalarLaws, IsLawful, RuleLaws}
 use Rattle.sentry_members.specs.Cells.{natural_cell, empty_list}
 use Rattle.sentry_members.specs.Kinds.{unsigned_kind}
 use Rattle.sentry_members.proofs.Spellings.{spelled_laws, spelled_refuses_null}
-use Rattle.sentry_addresses.proofs.IpTrees.{ip_lawful}
-use Rattle.sentry_identifiers.specs.HexIdTree.{hex_id_spelling, span_kind, trace_kind}
+use Rattle.sentry_text.proofs.IpTrees.{ip_lawful}
+use Rattle.sentry_identifiers.specs.HexIdTree.{hex_id_spelling, span_id_kind, trace_id_kind}
 use Rattle.sentry_identifiers.specs.Uuids.{IsRandomUuid, hyphenated, hyphenated_kind}
 use Rattle.sentry_identifiers.proofs.HexIdTrees.{hex_id_laws}
 use Rattle.sentry_identifiers.proofs.UuidLaws.{hyphenated_laws, simple_laws, drawn_uuid_laws}
@@ -21,11 +21,11 @@ use Rattle.sentry_moments.specs.MomentForms.{rfc3339_kind}
 use Rattle.sentry_moments.specs.SamplingTexts.{sample_rand_kind, sample_rate_kind}
 use Rattle.sentry_moments.proofs.MomentSpellings.{rfc3339_scalar_laws, rfc3339_refuses_null, rfc3339_at_once, seconds_laws}
 use Rattle.sentry_moments.proofs.SamplingSpellings.{sample_rand_scalar_laws, sample_rate_scalar_laws}
-use Rattle.sentry_numbers.specs.ProjectTree.{organization_spelling, organization_text_kind}
-use Rattle.sentry_numbers.proofs.ProjectTrees.{organization_text_laws}
-use Rattle.sentry_numbers.proofs.SeverityLaws.{severity_laws}
-use Rattle.sentry_units.proofs.UnitLaws.{unit_laws as measure_laws}
-use Rattle.sentry_units.specs.Units.{unit_kind as measure_kind, unit_spelling as measure_spelling}
+use Rattle.sentry_text.specs.ProjectTree.{organization_spelling, organization_text_kind}
+use Rattle.sentry_text.proofs.ProjectTrees.{organization_text_laws}
+use Rattle.sentry_text.proofs.SeverityLaws.{severity_laws}
+use Rattle.sentry_words.proofs.UnitLaws.{unit_laws as measure_laws}
+use Rattle.sentry_words.specs.Units.{unit_kind as measure_kind, unit_spelling as measure_spelling}
 use Rattle.sentry_words.specs.LogLevel.{log_level_kind, log_level_spelling}
 use Rattle.sentry_words.specs.MetricType.{metric_type_kind, metric_type_spelling}
 use Rattle.sentry_words.specs.MonitorCheckInStatus.{check_in_status_kind, check_in_status_spelling}
@@ -54,10 +54,10 @@ u64_laws = unsigned_laws (2 ^ 64) (omega arith)
 i64_laws : ScalarLaws (signed_scalar (2 ^ 63))
 i64_laws = signed_laws (2 ^ 63) (omega arith)
 
-span_lawful : IsLawful span_kind
+span_lawful : IsLawful span_id_kind
 span_lawful = spelled_laws (hex_id_spelling 8) (hex_id_laws 8)
 
-trace_lawful : IsLawful trace_kind
+trace_lawful : IsLawful trace_id_kind
 trace_lawful = spelled_laws (hex_id_spelling 16) (hex_id_laws 16)
 
 rand_lawful : IsLawful sample_rand_kind

@@ -7,10 +7,10 @@ use Rattle.sentry_tables.specs.Written.{in_order}
 use Rattle.sentry_members.specs.Cells.{text_cell, natural_cell, option_cell, map_cell, empty_map}
 use Rattle.sentry_members.specs.Kinds.{text_kind}
 use Rattle.sentry_members.specs.Spelling.{word_cell}
-use Rattle.sentry_identifiers.specs.HexIdTree.{trace_cell, trace_kind}
+use Rattle.sentry_identifiers.specs.HexIdTree.{trace_id_cell, trace_id_kind}
 use Rattle.sentry_moments.specs.MomentForms.{seconds_kind}
 use Rattle.sentry_moments.specs.Moments.{moment_cell}
-use Rattle.sentry_numbers.specs.Severity.{severity_kind}
+use Rattle.sentry_text.specs.Severity.{severity_kind}
 use Rattle.sentry_words.specs.LogLevel.{log_level_kind, log_level_word}
 use Rattle.sentry_records.specs.LogAttribute.{attribute_cell, attribute_kind}
 use Rattle.sentry_records.specs.declared.log.Log.{Log}
@@ -22,7 +22,7 @@ log_fields =
     ∷ field (codes "level") must log_level_kind (λ l. word_cell log_level_word l.level)
     ∷ field (codes "severity_number") may severity_kind (λ l. option_cell natural_cell l.severity_number)
     ∷ field (codes "timestamp") must seconds_kind (λ l. moment_cell l.timestamp)
-    ∷ field (codes "trace_id") may trace_kind (λ l. option_cell trace_cell l.trace_id)
+    ∷ field (codes "trace_id") may trace_id_kind (λ l. option_cell trace_id_cell l.trace_id)
     ∷ []
 
 abbrev pub log_kind : Kind

@@ -7,10 +7,10 @@ use Rattle.sentry_tables.specs.Written.{in_order}
 use Rattle.sentry_members.specs.Cells.{cow_cell, option_cell, map_cell, empty_map}
 use Rattle.sentry_members.specs.Kinds.{text_kind, signed_kind}
 use Rattle.sentry_members.specs.Spelling.{word_cell}
-use Rattle.sentry_identifiers.specs.HexIdTree.{span_cell, span_kind, trace_cell, trace_kind}
+use Rattle.sentry_identifiers.specs.HexIdTree.{span_id_cell, span_id_kind, trace_id_cell, trace_id_kind}
 use Rattle.sentry_moments.specs.MomentForms.{seconds_kind}
 use Rattle.sentry_moments.specs.Moments.{moment_cell}
-use Rattle.sentry_units.specs.Units.{unit_cell, unit_kind}
+use Rattle.sentry_words.specs.Units.{unit_cell, unit_kind}
 use Rattle.sentry_words.specs.MetricType.{metric_type_kind, metric_type_word}
 use Rattle.sentry_records.specs.LogAttribute.{attribute_cell, attribute_kind}
 use Rattle.sentry_records.specs.declared.metric.Metric.{Metric}
@@ -19,9 +19,9 @@ unfoldable pub metric_fields : List (Field Metric)
 metric_fields =
     field (codes "attributes") (default empty_map) (map attribute_kind) (λ m. map_cell attribute_cell m.attributes.entries)
     ∷ field (codes "name") must text_kind (λ m. cow_cell m.name)
-    ∷ field (codes "span_id") may span_kind (λ m. option_cell span_cell m.span_id)
+    ∷ field (codes "span_id") may span_id_kind (λ m. option_cell span_id_cell m.span_id)
     ∷ field (codes "timestamp") must seconds_kind (λ m. moment_cell m.timestamp)
-    ∷ field (codes "trace_id") must trace_kind (λ m. trace_cell m.trace_id)
+    ∷ field (codes "trace_id") must trace_id_kind (λ m. trace_id_cell m.trace_id)
     ∷ field (codes "type") must metric_type_kind (λ m. word_cell metric_type_word m.type_)
     ∷ field (codes "unit") may unit_kind (λ m. option_cell unit_cell m.unit)
     ∷ field (codes "value") must (signed_kind (2 ^ 63)) (λ m. whole m.value)

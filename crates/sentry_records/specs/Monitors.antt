@@ -16,7 +16,7 @@ use Rattle.sentry_records.specs.declared.schedule_rows.CrontabRows.{CrontabRows}
 use Rattle.sentry_records.specs.declared.schedule_rows.IntervalRows.{IntervalRows}
 use Rattle.sentry_records.specs.declared.monitor_config.MonitorConfig.{MonitorConfig}
 use Rattle.sentry_records.specs.declared.monitor_check_in.MonitorCheckIn.{MonitorCheckIn}
-use Rattle.sentry_crontab.specs.Crontab.{IsCrontab, SplitsInto, refusal, message_of}
+use Rattle.sentry_text.specs.Crontab.{IsCrontab, SplitsInto, refusal, message_of}
 use Rattle.sentry_records.specs.declared.monitor_schedule.ScheduleError.{ScheduleError}
 use Rattle.sentry_records.specs.declared.monitor_schedule.ScheduleError.TheVariants as Fault
 use Rattle.sentry_records.specs.declared.schedule_rows.LentCrontab.{LentCrontab}

@@ -7,9 +7,9 @@ use Rattle.sentry_tables.specs.Kind.{may, Kind, keys}
 use Rattle.sentry_tables.specs.Written.{in_order}
 use Rattle.sentry_members.specs.Cells.{text_cell, option_cell}
 use Rattle.sentry_members.specs.Kinds.{text_kind}
-use Rattle.sentry_identifiers.specs.HexIdTree.{trace_cell, trace_kind}
+use Rattle.sentry_identifiers.specs.HexIdTree.{trace_id_cell, trace_id_kind}
 use Rattle.sentry_moments.specs.SamplingTexts.{sample_rand_cell, sample_rand_kind, sample_rate_cell, sample_rate_kind}
-use Rattle.sentry_numbers.specs.ProjectTree.{organization_cell, organization_text_kind}
+use Rattle.sentry_text.specs.ProjectTree.{organization_cell, organization_text_kind}
 use Rattle.sentry_words.specs.Sampled.{sampled_cell, sampled_kind}
 use Rattle.sentry_records.specs.declared.sampling.DynamicSamplingContext.{DynamicSamplingContext}
 
@@ -22,7 +22,7 @@ sampling_fields =
     ∷ field (codes "sample_rand") may sample_rand_kind (λ s. option_cell sample_rand_cell s.sample_rand)
     ∷ field (codes "sample_rate") may sample_rate_kind (λ s. option_cell sample_rate_cell s.sample_rate)
     ∷ field (codes "sampled") may sampled_kind (λ s. option_cell sampled_cell s.sampled)
-    ∷ field (codes "trace_id") may trace_kind (λ s. option_cell trace_cell s.trace_id)
+    ∷ field (codes "trace_id") may trace_id_kind (λ s. option_cell trace_id_cell s.trace_id)
     ∷ field (codes "transaction") may text_kind (λ s. option_cell text_cell s.transaction)
     ∷ []
 

@@ -7,8 +7,8 @@ use Rattle.sentry_tables.specs.Written.{in_order}
 use Rattle.sentry_members.specs.Cells.{text_cell, cow_cell, natural_cell, option_cell, list_cell, empty_list}
 use Rattle.sentry_members.specs.Kinds.{text_kind, truth_kind, unsigned_kind}
 use Rattle.sentry_members.specs.Spelling.{word_cell}
-use Rattle.sentry_addresses.specs.Ip.{IsStoredIp}
-use Rattle.sentry_addresses.specs.IpTree.{ip_cell, ip_kind}
+use Rattle.sentry_text.specs.Ip.{IsStoredIp}
+use Rattle.sentry_text.specs.IpTree.{ip_cell, ip_kind}
 use Rattle.sentry_identifiers.specs.Uuids.{IsRandomUuid, hyphenated_kind}
 use Rattle.sentry_moments.specs.MomentForms.{rfc3339_kind}
 use Rattle.sentry_moments.specs.Moments.{moment_cell}

@@ -1,5 +1,5 @@
-//! Laws over definitions alone: of each type what is written reads back as its normal form and as
-//! nothing else, which is its own and is written alike.
+//! Laws of the definitions: a written value reads back as its normal form only; the normal form is
+//! its own normal form, and two values share one exactly if their normal forms are written alike.
 
 ghost use Rattle.std.specs.Prelude.{◌≡◌, ◌↔◌, true};
 ghost use Rattle.sentry_tables.specs.Laws.{HasLaws};
@@ -26,7 +26,7 @@ use crate::{
     SessionAggregates, SessionAttributes, SessionUpdate, UserReport,
 };
 
-/// The laws of each table, and of schedules by their tag.
+/// The laws hold of each table, and of monitor schedules, which are read by their `type`.
 #[tactic(auto, using(crate::proofs::TableLaws::sampling_laws, crate::proofs::TableLaws::attributes_laws, crate::proofs::TableLaws::session_laws, crate::proofs::TableLaws::group_laws, crate::proofs::TableLaws::groups_laws, crate::proofs::TableLaws::schedule_laws, crate::proofs::TableLaws::config_laws, crate::proofs::TableLaws::check_in_laws, crate::proofs::TableLaws::user_report_laws, crate::proofs::TableLaws::log_laws, crate::proofs::TableLaws::metric_laws))]
 pub fn tables()
     ensures sampling_contexts { HasLaws sampling_kind }
@@ -42,27 +42,40 @@ pub fn tables()
     ensures metrics { HasLaws metric_kind }
 {}
 
-/// Attributes of logs and metrics in trees; null is none.
+/// The laws hold of the attributes of logs and metrics; null is rejected.
 #[tactic(auto, using(crate::proofs::Attributes::attribute_has_laws, crate::proofs::Attributes::attribute_refuses_null))]
 pub fn attributes()
     ensures laws { HasLaws attribute_kind }
     ensures no_null { RefusesNull attribute_kind }
 {}
 
-/// Two values of a type are equal exactly where their fields are the same. An address of a user has numbers in
-/// range, as every address has in a program.
+/// `==` compares contents: two values of a type below are equal exactly if all fields are the same.
+///
+/// The laws of sessions assume that IP addresses have numbers in range, as every address of a
+/// program has.
 #[tactic(auto, using(crate::proofs::Equal::contexts_decide, crate::proofs::Equal::groups_decide, crate::proofs::Equal::schedules_decide, crate::proofs::Equal::configs_decide, crate::proofs::Equal::check_ins_decide, crate::proofs::Equal::reports_decide, crate::proofs::SessionsEqual::attributes_decide, crate::proofs::SessionsEqual::sessions_decide, crate::proofs::SessionsEqual::aggregates_decide))]
 pub fn equal_tables()
-    ensures sampling_contexts { (a b : Contexts) → ⟦<DynamicSamplingContext as PartialEq>⟧.eq a b ≡ true ↔ (sampling_cell a ≡ sampling_cell b) }
-    ensures groups_of_sessions { (a b : Groups) → ⟦<SessionAggregateItem as PartialEq>⟧.eq a b ≡ true ↔ (group_cell a ≡ group_cell b) }
+    ensures sampling_contexts { (a b : Contexts) →
+        ⟦<DynamicSamplingContext as PartialEq>⟧.eq a b ≡ true ↔
+        (sampling_cell a ≡ sampling_cell b) }
+    ensures groups_of_sessions { (a b : Groups) →
+        ⟦<SessionAggregateItem as PartialEq>⟧.eq a b ≡ true ↔ (group_cell a ≡ group_cell b) }
     ensures session_attributes { (a b : Attributes) → IsStoredAddress a → IsStoredAddress b
-        → ⟦<SessionAttributes<'static> as PartialEq>⟧.eq a b ≡ true ↔ (attributes_cell a ≡ attributes_cell b) }
+        → ⟦<SessionAttributes<'static> as PartialEq>⟧.eq a b ≡ true ↔
+        (attributes_cell a ≡ attributes_cell b) }
     ensures sessions { (a b : Updates) → IsStoredAddress a.attributes → IsStoredAddress b.attributes
-        → ⟦<SessionUpdate<'static> as PartialEq>⟧.eq a b ≡ true ↔ (session_cell a ≡ session_cell b) }
-    ensures counted_sessions { (a b : Aggregates) → IsStoredAddress a.attributes → IsStoredAddress b.attributes
-        → ⟦<SessionAggregates<'static> as PartialEq>⟧.eq a b ≡ true ↔ (groups_cell a ≡ groups_cell b) }
-    ensures schedules { (a b : Schedules) → ⟦<MonitorSchedule as PartialEq>⟧.eq a b ≡ true ↔ (schedule_cell a ≡ schedule_cell b) }
-    ensures configurations { (a b : Configs) → ⟦<MonitorConfig as PartialEq>⟧.eq a b ≡ true ↔ (config_cell a ≡ config_cell b) }
-    ensures check_ins { (a b : CheckIns) → ⟦<MonitorCheckIn as PartialEq>⟧.eq a b ≡ true ↔ (check_in_cell a ≡ check_in_cell b) }
-    ensures reports { (a b : Reports) → ⟦<UserReport as PartialEq>⟧.eq a b ≡ true ↔ (user_report_cell a ≡ user_report_cell b) }
+        → ⟦<SessionUpdate<'static> as PartialEq>⟧.eq a b ≡ true ↔
+        (session_cell a ≡ session_cell b) }
+    ensures counted_sessions { (a b : Aggregates) → IsStoredAddress a.attributes →
+        IsStoredAddress b.attributes
+        → ⟦<SessionAggregates<'static> as PartialEq>⟧.eq a b ≡ true ↔
+        (groups_cell a ≡ groups_cell b) }
+    ensures schedules { (a b : Schedules) → ⟦<MonitorSchedule as PartialEq>⟧.eq a b ≡ true ↔
+        (schedule_cell a ≡ schedule_cell b) }
+    ensures configurations { (a b : Configs) → ⟦<MonitorConfig as PartialEq>⟧.eq a b ≡ true ↔
+        (config_cell a ≡ config_cell b) }
+    ensures check_ins { (a b : CheckIns) → ⟦<MonitorCheckIn as PartialEq>⟧.eq a b ≡ true ↔
+        (check_in_cell a ≡ check_in_cell b) }
+    ensures reports { (a b : Reports) → ⟦<UserReport as PartialEq>⟧.eq a b ≡ true ↔
+        (user_report_cell a ≡ user_report_cell b) }
 {}

@@ -1,5 +1,5 @@
-//! What envelopes carry beside events: sessions, check-ins of monitors, logs, metrics and what users say;
-//! and what traces are sampled by.
+//! Payloads of envelope items other than events: sessions, monitor check-ins, logs, metrics and
+//! user reports; and the dynamic sampling context of envelope headers.
 #![tactic(auto)]
 
 pub mod laws;

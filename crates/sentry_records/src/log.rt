@@ -1,35 +1,35 @@
-//! Logs.
+//! Structured logs.
 
 ghost use Rattle.sentry_records.specs.Logs.{log_fields, log_in_order};
 
 use crate::log_attribute::LogAttribute;
 use crate::stand_in::epoch;
 use sentry_identifiers::TraceId;
+use sentry_json::Node;
 use sentry_members::{Formed, Member};
 use sentry_moments::{Moment, Seconds};
-use sentry_numbers::LogSeverityNumber;
 use sentry_rows::{AsTable, Copier, CopyTable, ReadTable, Reader, Sink, Table};
-use sentry_trees::Node;
+use sentry_text::LogSeverityNumber;
 use sentry_words::LogLevel;
 use serde_json::Map;
 use std::alloc::AllocError;
 
-/// What a program says while it runs, with attributes that can be searched.
+/// A structured log: a message with searchable attributes.
 ///
 /// <https://develop.sentry.dev/sdk/telemetry/logs/>
 #[derive(Debug, Drop, PartialEq)]
 pub struct Log {
-    /// How severe it is.
+    /// Severity level.
     pub level: LogLevel,
-    /// What is said.
+    /// Log message.
     pub body: String,
-    /// The id of the trace in which it is said.
+    /// Id of the trace that the log belongs to.
     pub trace_id: Option<TraceId>,
-    /// When it is said, in seconds from 1970 on, or as RFC 3339 text where it is between two of them.
+    /// Time of the log: whole seconds since 1970, or RFC 3339 if fractional.
     pub timestamp: Moment,
-    /// How severe it is, as a number.
+    /// Severity as a number from 1 to 24.
     pub severity_number: Option<LogSeverityNumber>,
-    /// What else is known, by its name.
+    /// Searchable attributes, by name; empty by default.
     pub attributes: Map<String, LogAttribute>,
 }
 
@@ -37,7 +37,7 @@ impl Log {
     ghost use Rattle.std.specs.Prelude.{◌≡◌, IfOk};
     ghost use Rattle.sentry_records.specs.Logs.{log_cell};
 
-    /// The same log. It fails where memory is refused.
+    /// Clones the log. `AllocError` if an allocation fails.
     pub fn clone(&self) -> Result<Log, AllocError>
         ensures { IfOk result (λ copy. log_cell copy ≡ log_cell self.now) }
     {
@@ -81,7 +81,7 @@ impl ReadTable for Log {
 
 #[tactic(auto, unfolding(crate::specs::Logs::log_fields))]
 impl CopyTable for Log {
-    fn copied(&self, copies: &mut Copier) -> Result<Log, AllocError> {
+    fn copy_rows(&self, copies: &mut Copier) -> Result<Log, AllocError> {
         Ok(Log {
             attributes: copies.map(&self.attributes)?,
             body: copies.text(&self.body),

@@ -9,7 +9,8 @@ ghost use Rattle.sentry_members.specs.Written.{WritesMembers};
 ghost use Rattle.sentry_records.specs.LogAttribute.{attribute_cell, attribute_form, attribute_kind, attribute_members, compacted, value_key, ReadsTyped};
 
 use json::Writer;
-use sentry_members::spelled::printed;
+use sentry_json::Node;
+use sentry_members::spelled::print_into;
 use sentry_members::tree::has_float;
 use sentry_members::{FromTree, Member, Own, Room, TreeError, Way, text_of};
 use sentry_rows::Sink;
@@ -17,24 +18,28 @@ use sentry_rows::table::leave;
 use sentry_rows::tagged::tag;
 use sentry_rows::text::TextRows;
 use sentry_rows::tree::TreeRows;
-use sentry_trees::Node;
 use serde_json::{Number, Value};
 use std::alloc::{AllocError, Global};
 use std::str;
 
-/// The value of an attribute.
+/// The value of an attribute of a log or metric: an object with the members `type` and `value`.
 ///
-/// A text is of the type `string`, a truth value of `boolean`, a whole number below 2^63 of `integer`; all
-/// else is a `string` of its compact text. One whose tree holds a float isn't plain: no envelope with it is written.
+/// A string is written with the type `string`, a boolean with `boolean`, an integer below 2^63 with
+/// `integer`; any other value is written as a `string` of its compact JSON. A float at any depth
+/// makes the value unwritable (`NotPlain`).
+///
+/// Reading takes these three types only, each with a `value` of that type; other members are
+/// ignored.
 ///
 /// <https://develop.sentry.dev/sdk/telemetry/attributes/>
 #[derive(Debug, Drop, PartialEq)]
 pub struct LogAttribute(pub Value);
 
 impl LogAttribute {
-    // Gives a sink the members of the written tree.
+    // Serializes the members `type` and `value`.
     fn give<S: Sink>(&self, sink: &mut S) -> Result<(), AllocError>
-        ensures ok { OnOk result (S.Adds sink.old sink.new (attribute_members (attribute_form (view self.now.0)))) }
+        ensures ok { OnOk result
+            (S.Adds sink.old sink.new (attribute_members (attribute_form (view self.now.0)))) }
         ensures err { OnErr result (sink.new ≡ sink.old) }
     {
         match &self.0 {
@@ -69,9 +74,10 @@ impl LogAttribute {
         }
     }
 
-    // Writes the members of the written tree.
+    // Writes the members without the braces of the object.
     fn write_members(&self, out: &mut Writer) -> Result<(), AllocError>
-        ensures { OnOk result (WritesMembers (attribute_members (attribute_form (view self.now.0))) out.old out.new) }
+        ensures { OnOk result
+            (WritesMembers (attribute_members (attribute_form (view self.now.0))) out.old out.new) }
     {
         let mut text = TextRows { out, failed: None };
         let gave = self.give(&mut text);
@@ -86,7 +92,7 @@ impl LogAttribute {
         }
     }
 
-    // The attribute that the written tree shows.
+    // The normal form: the attribute that is read back from the written one.
     fn formed(&self, alloc: Global) -> Result<LogAttribute, AllocError>
         ensures { IfOk result (λ a. view a.0 ≡ attribute_form (view self.now.0)) }
     {
@@ -103,7 +109,7 @@ impl LogAttribute {
         }
     }
 
-    /// The same attribute. It fails where memory is refused.
+    /// Clones the attribute. `AllocError` if an allocation fails.
     pub fn clone(&self) -> Result<LogAttribute, AllocError>
         ensures { IfOk result (λ copy. attribute_cell copy ≡ attribute_cell self.now) }
     {
@@ -129,7 +135,7 @@ impl Member for LogAttribute {
     }
 
     #[tactic(auto, using(crate::proofs::Attributes::attribute_same, crate::proofs::Attributes::attribute_normal))]
-    fn remade(&self, way: Way) -> Result<LogAttribute, AllocError> {
+    fn remake(&self, way: Way) -> Result<LogAttribute, AllocError> {
         match way {
             Way::Same => self.clone(),
             Way::Normal(alloc) => self.formed(alloc),
@@ -160,7 +166,7 @@ impl FromTree for LogAttribute {
     }
 }
 
-// The attribute that is the compact text of a tree; an empty one where the tree holds a float.
+// A string attribute of the compact JSON of `tree`; the string is empty if `tree` holds a float.
 fn compact(alloc: Global, tree: &Value) -> Result<LogAttribute, AllocError>
     ensures { IfOk result (λ a. view a.0 ≡ compacted (view tree.now)) }
 {
@@ -174,7 +180,7 @@ fn compact(alloc: Global, tree: &Value) -> Result<LogAttribute, AllocError>
     }
 }
 
-// Gives a sink the members of an attribute of a type.
+// Serializes an attribute whose value is written unchanged, with the type `word`.
 fn give_typed<S: Sink>(word: &str, value: &Value, sink: &mut S)
     ensures { S.Adds sink.old sink.new
         (member tag (string_data word.now) (member value_key (view value.now) no_members)) }
@@ -183,7 +189,7 @@ fn give_typed<S: Sink>(word: &str, value: &Value, sink: &mut S)
     sink.member::<Own, Value>("value", value);
 }
 
-// Gives a sink the members of an attribute that is written as a text.
+// Serializes a string attribute.
 fn give_text<S: Sink>(text: &str, sink: &mut S)
     ensures { S.Adds sink.old sink.new (attribute_members (string_data text.now)) }
 {
@@ -191,9 +197,11 @@ fn give_text<S: Sink>(text: &str, sink: &mut S)
     sink.word("value", text);
 }
 
-// Gives a sink the members of an attribute that is written as its compact text.
+// Serializes a string attribute of the compact JSON of `value`; the string is empty if `value`
+// holds a float.
 fn give_compact<S: Sink>(alloc: Global, value: &Value, sink: &mut S) -> Result<(), AllocError>
-    ensures ok { OnOk result (S.Adds sink.old sink.new (attribute_members (compacted (view value.now)))) }
+    ensures ok { OnOk result
+        (S.Adds sink.old sink.new (attribute_members (compacted (view value.now)))) }
     ensures err { OnErr result (sink.new ≡ sink.old) }
 {
     if has_float(value) {
@@ -210,17 +218,19 @@ fn give_compact<S: Sink>(alloc: Global, value: &Value, sink: &mut S) -> Result<(
     }
 }
 
-// Gives a sink the members of an attribute that is a number from 2^63 on, or a float.
-#[tactic(auto, using(sentry_numbers::proofs::Lengths::decimal_size))]
+// Serializes a string attribute of a number that is no `i64`: its digits from 2^63 on, the empty
+// string for a float.
+#[tactic(auto, using(sentry_text::proofs::Lengths::decimal_size))]
 fn give_large<S: Sink>(number: &Number, sink: &mut S) -> Result<(), AllocError>
     ensures ok { OnOk result (as_i64 (number_view number.now) ≡ None
-        → S.Adds sink.old sink.new (attribute_members (compacted (number_data (number_view number.now))))) }
+        → S.Adds sink.old sink.new
+        (attribute_members (compacted (number_data (number_view number.now))))) }
     ensures err { OnErr result (sink.new ≡ sink.old) }
 {
     match number.as_u64() {
         Some(natural) => {
             let mut room = Room::new();
-            give_text(printed(&natural, &mut room)?, sink);
+            give_text(print_into(&natural, &mut room)?, sink);
             Ok(())
         }
         None => {
@@ -230,7 +240,7 @@ fn give_large<S: Sink>(number: &Number, sink: &mut S) -> Result<(), AllocError>
     }
 }
 
-// The value, where it is of the type that is named.
+// Reads a value of the type `word`; `Misfit` for an unknown type or a value of another type.
 fn typed<N: Node>(alloc: Global, word: &str, value: &N) -> Result<Value, TreeError>
     ensures { ReadsTyped word.now (N.data_of value.now) result }
 {
@@ -251,7 +261,7 @@ fn typed<N: Node>(alloc: Global, word: &str, value: &N) -> Result<Value, TreeErr
     }
 }
 
-/// The tree.
+/// Wraps a JSON value.
 impl From<Value> for LogAttribute {
     ghost from_gives = { λ tree a. a.0 ≡ tree };
 
@@ -260,7 +270,7 @@ impl From<Value> for LogAttribute {
     }
 }
 
-/// The truth value.
+/// Wraps a boolean.
 impl From<bool> for LogAttribute {
     ghost use Rattle.serde_json.specs.Data.{boolean};
 
@@ -271,7 +281,7 @@ impl From<bool> for LogAttribute {
     }
 }
 
-/// The number.
+/// Wraps an integer.
 impl From<i64> for LogAttribute {
     ghost use Rattle.serde_json.specs.Data.{number};
     ghost use Rattle.serde_json.specs.Find.{of_integer};
@@ -283,7 +293,7 @@ impl From<i64> for LogAttribute {
     }
 }
 
-/// The number. From 2^63 on it is written as a text.
+/// Wraps an unsigned integer; from 2^63 on, the number is written as a `string`.
 impl From<u64> for LogAttribute {
     ghost use Rattle.serde_json.specs.Data.{number, unsigned};
 
@@ -294,7 +304,7 @@ impl From<u64> for LogAttribute {
     }
 }
 
-/// The text.
+/// Wraps a string.
 impl From<String> for LogAttribute {
     ghost use Rattle.std.specs.Prelude.{string_bytes};
     ghost use Rattle.serde_json.specs.Data.{string};

@@ -1,40 +1,39 @@
-//! Metrics.
+//! Metrics: measured or counted numbers.
 
 ghost use Rattle.sentry_records.specs.Metrics.{metric_fields, metric_in_order};
 
 use crate::log_attribute::LogAttribute;
 use crate::stand_in::epoch;
 use sentry_identifiers::{SpanId, TraceId};
+use sentry_json::Node;
 use sentry_members::{Formed, Member};
 use sentry_moments::{Moment, Seconds};
 use sentry_rows::{AsTable, Copier, CopyTable, ReadTable, Reader, Sink, Table};
-use sentry_trees::Node;
-use sentry_units::Unit;
-use sentry_words::MetricType;
+use sentry_words::{MetricType, Unit};
 use serde_json::Map;
 use std::alloc::AllocError;
 use std::borrow::CowStr;
 
-/// A number that is measured or counted, with attributes that can be searched.
+/// A metric: a measured or counted number with searchable attributes.
 ///
 /// <https://develop.sentry.dev/sdk/telemetry/metrics/>
 #[derive(Debug, Drop, PartialEq)]
 pub struct Metric {
-    /// What the number is of. Its key is `type`.
+    /// Metric type (`type`).
     pub type_: MetricType,
-    /// What is measured, its parts joined by points.
+    /// Metric name, with parts separated by dots.
     pub name: CowStr<'static>,
-    /// The number.
+    /// Measured or counted value.
     pub value: i64,
-    /// When it was measured, in seconds from 1970 on, or as RFC 3339 text where it is between two of them.
+    /// Time of the measurement: whole seconds since 1970, or RFC 3339 if fractional.
     pub timestamp: Moment,
-    /// The id of the trace in which it was measured.
+    /// Id of the trace that the metric belongs to.
     pub trace_id: TraceId,
-    /// The id of the span in which it was measured.
+    /// Id of the span that the metric belongs to.
     pub span_id: Option<SpanId>,
-    /// What the number counts.
+    /// Unit of the value.
     pub unit: Option<Unit>,
-    /// What else is known, by its name.
+    /// Searchable attributes, by name; empty by default.
     pub attributes: Map<String, LogAttribute>,
 }
 
@@ -42,7 +41,7 @@ impl Metric {
     ghost use Rattle.std.specs.Prelude.{◌≡◌, IfOk};
     ghost use Rattle.sentry_records.specs.Metrics.{metric_cell};
 
-    /// The same metric. It fails where memory is refused.
+    /// Clones the metric. `AllocError` if an allocation fails.
     pub fn clone(&self) -> Result<Metric, AllocError>
         ensures { IfOk result (λ copy. metric_cell copy ≡ metric_cell self.now) }
     {
@@ -90,7 +89,7 @@ impl ReadTable for Metric {
 
 #[tactic(auto, unfolding(crate::specs::Metrics::metric_fields))]
 impl CopyTable for Metric {
-    fn copied(&self, copies: &mut Copier) -> Result<Metric, AllocError> {
+    fn copy_rows(&self, copies: &mut Copier) -> Result<Metric, AllocError> {
         Ok(Metric {
             attributes: copies.map(&self.attributes)?,
             name: copies.cow(&self.name),

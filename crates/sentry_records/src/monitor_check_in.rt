@@ -1,32 +1,32 @@
-//! Check-ins of monitors.
+//! Monitor check-ins.
 
 ghost use Rattle.sentry_records.specs.Monitors.{check_in_fields, check_in_in_order};
 
 use crate::monitor_config::MonitorConfig;
 use sentry_identifiers::Simple;
+use sentry_json::Node;
 use sentry_members::{Formed, Member};
 use sentry_rows::{AsTable, Copier, CopyTable, ReadTable, Reader, Sink, Table};
-use sentry_trees::Node;
 use sentry_words::MonitorCheckInStatus;
 use std::alloc::AllocError;
 use uuid::Uuid;
 
-/// That a job runs, or how it ended.
+/// A monitor check-in: a running job, or how the job ended.
 ///
 /// <https://develop.sentry.dev/sdk/telemetry/check-ins/>
 #[derive(Debug, Drop, PartialEq)]
 pub struct MonitorCheckIn {
-    /// The id of the check-in.
+    /// Check-in id.
     pub check_in_id: Uuid,
-    /// The name of the monitor.
+    /// Slug of the monitor.
     pub monitor_slug: String,
-    /// How the job goes, or how it ended. A text that is no status reads as `unknown`.
+    /// Status of the job; a string that is no known status reads as `unknown`.
     pub status: MonitorCheckInStatus,
-    /// The environment.
+    /// Environment, such as `production`.
     pub environment: Option<String>,
-    /// How long the job ran, in seconds.
+    /// Duration of the job in seconds.
     pub duration: Option<u64>,
-    /// What the monitor expects, from now on.
+    /// Monitor configuration that the check-in sets (upsert).
     pub monitor_config: Option<MonitorConfig>,
 }
 
@@ -34,7 +34,7 @@ impl MonitorCheckIn {
     ghost use Rattle.std.specs.Prelude.{◌≡◌, IfOk};
     ghost use Rattle.sentry_records.specs.Monitors.{check_in_cell};
 
-    /// The same check-in. It fails where memory is refused.
+    /// Clones the check-in. `AllocError` if an allocation fails.
     pub fn clone(&self) -> Result<MonitorCheckIn, AllocError>
         ensures { IfOk result (λ copy. check_in_cell copy ≡ check_in_cell self.now) }
     {
@@ -78,7 +78,7 @@ impl ReadTable for MonitorCheckIn {
 
 #[tactic(auto, unfolding(crate::specs::Monitors::check_in_fields))]
 impl CopyTable for MonitorCheckIn {
-    fn copied(&self, copies: &mut Copier) -> Result<MonitorCheckIn, AllocError> {
+    fn copy_rows(&self, copies: &mut Copier) -> Result<MonitorCheckIn, AllocError> {
         Ok(MonitorCheckIn {
             check_in_id: copies.plain_as::<Simple, Uuid>(&self.check_in_id),
             duration: copies.optional(&self.duration),

@@ -1,29 +1,29 @@
-//! What monitors expect.
+//! Monitor configurations.
 
 ghost use Rattle.sentry_records.specs.Monitors.{config_fields, config_in_order};
 
 use crate::monitor_schedule::MonitorSchedule;
+use sentry_json::Node;
 use sentry_members::{Formed, Member};
 use sentry_rows::{AsTable, Copier, CopyTable, ReadTable, Reader, Sink, Table};
-use sentry_trees::Node;
 use std::alloc::AllocError;
 
-/// What a monitor expects, which a check-in may set.
+/// A monitor configuration, which a check-in may set (upsert).
 ///
 /// <https://develop.sentry.dev/sdk/telemetry/check-ins/#monitor-upsert-support>
 #[derive(Debug, Drop, PartialEq)]
 pub struct MonitorConfig {
-    /// When check-ins are expected.
+    /// Schedule of the expected check-ins.
     pub schedule: MonitorSchedule,
-    /// How many minutes after that a check-in counts as missed.
+    /// Minutes after the expected time until a check-in counts as missed.
     pub checkin_margin: Option<u64>,
-    /// How many minutes a check-in may be in progress before it counts as failed.
+    /// Minutes that a check-in may be in progress before counting as failed.
     pub max_runtime: Option<u64>,
-    /// The time zone of the schedule, as `Europe/Vienna`.
+    /// Time zone of the schedule, such as `Europe/Vienna`.
     pub timezone: Option<String>,
-    /// How many check-ins in a row have to fail before an issue is made.
+    /// Number of consecutive failed check-ins before an issue is created.
     pub failure_issue_threshold: Option<u64>,
-    /// How many check-ins in a row have to go well before an issue is closed.
+    /// Number of consecutive successful check-ins before an issue is resolved.
     pub recovery_threshold: Option<u64>,
 }
 
@@ -31,7 +31,7 @@ impl MonitorConfig {
     ghost use Rattle.std.specs.Prelude.{◌≡◌, IfOk};
     ghost use Rattle.sentry_records.specs.Monitors.{config_cell};
 
-    /// The same configuration. It fails where memory is refused.
+    /// Clones the configuration. `AllocError` if an allocation fails.
     pub fn clone(&self) -> Result<MonitorConfig, AllocError>
         ensures { IfOk result (λ copy. config_cell copy ≡ config_cell self.now) }
     {
@@ -75,7 +75,7 @@ impl ReadTable for MonitorConfig {
 
 #[tactic(auto, unfolding(crate::specs::Monitors::config_fields))]
 impl CopyTable for MonitorConfig {
-    fn copied(&self, copies: &mut Copier) -> Result<MonitorConfig, AllocError> {
+    fn copy_rows(&self, copies: &mut Copier) -> Result<MonitorConfig, AllocError> {
         Ok(MonitorConfig {
             checkin_margin: copies.optional(&self.checkin_margin),
             failure_issue_threshold: copies.optional(&self.failure_issue_threshold),

@@ -1,45 +1,45 @@
-//! When check-ins of monitors are expected.
+//! Monitor schedules.
 
 ghost use Rattle.std.specs.Prelude.{◌≡◌, IfOk, IfErr, refl};
 ghost use Rattle.sentry_records.specs.Monitors.{schedule_cases, schedule_cell};
 
 use crate::schedule_rows::{CrontabRows, IntervalRows, LentCrontab};
-use sentry_crontab::{CrontabParseError, validate};
+use sentry_json::Node;
 use sentry_members::{Formed, FromTree, Member, TreeError, Way};
 use sentry_rows::{AsCase, CaseSink, Cased, ReadCased};
-use sentry_trees::Node;
+use sentry_text::{CrontabParseError, validate};
 use sentry_words::MonitorIntervalUnit;
 use std::alloc::{AllocError, Global};
 use thiserror::Error;
 
-/// When check-ins of a monitor are expected: by the word at the key `type`.
+/// A monitor schedule: when check-ins are expected. The member `type` names the variant.
 ///
-/// A tree without `type`, or with another word there, is a misfit.
+/// An object without `type`, or with any other `type`, is rejected.
 ///
 /// <https://develop.sentry.dev/sdk/telemetry/check-ins/#monitor-upsert-support>
 #[derive(Debug, Drop, PartialEq)]
 pub enum MonitorSchedule {
-    /// By a crontab: `crontab`.
+    /// Crontab schedule: `crontab`.
     Crontab {
-        /// The crontab. What is read isn't checked; [`MonitorSchedule::from_crontab`] is.
+        /// Crontab expression; checked by [`MonitorSchedule::from_crontab`], not when read.
         value: String,
     },
-    /// At intervals, each from the check-in before: `interval`.
+    /// Interval since the previous check-in: `interval`.
     Interval {
-        /// How many units an interval has.
+        /// Length of the interval in units.
         value: u64,
-        /// The unit.
+        /// Unit of the interval.
         unit: MonitorIntervalUnit,
     },
 }
 
-/// Why a text makes no schedule.
+/// The error of [`MonitorSchedule::from_crontab`].
 #[derive(Debug, Drop, Error)]
 pub enum ScheduleError {
-    /// The text is no crontab schedule.
+    /// Not a valid crontab schedule.
     #[error("Invalid")]
     Invalid(CrontabParseError),
-    /// Memory was refused.
+    /// An allocation failed.
     #[error("out of memory")]
     Memory,
 }
@@ -49,25 +49,26 @@ impl From<AllocError> for ScheduleError {
 
     ghost from_gives = { λ error e. e ≡ Memory };
 
-    /// `Memory`.
+    /// Returns `Memory`.
     fn from(_error: AllocError) -> ScheduleError {
         ScheduleError::Memory
     }
 }
 
 impl MonitorSchedule {
-    ghost use Rattle.sentry_crontab.specs.Crontab.{IsCrontab};
+    ghost use Rattle.sentry_text.specs.Crontab.{IsCrontab};
     ghost use Rattle.sentry_records.specs.Monitors.{IsNoCrontab, crontab_schedule};
 
-    /// The schedule of a crontab, whose text is kept as it is.
+    /// Creates a schedule from a crontab expression, which is kept verbatim.
     ///
     /// # Errors
     ///
-    /// - `Invalid`: the text is no crontab schedule, as [`validate`] tells.
-    /// - `Memory`: memory is refused.
+    /// - `Invalid` if [`validate`] returns `false` for the expression.
+    /// - `Memory` if an allocation fails.
     pub fn from_crontab(alloc: Global, crontab: &str) -> Result<MonitorSchedule, ScheduleError>
         ensures valid { IfOk result (λ _. IsCrontab crontab.now) }
-        ensures text { IfOk result (λ schedule. schedule_cell schedule ≡ crontab_schedule crontab.now) }
+        ensures text { IfOk result (λ schedule.
+            schedule_cell schedule ≡ crontab_schedule crontab.now) }
         ensures err { IfErr result (IsNoCrontab crontab.now) }
     {
         if validate(crontab) {
@@ -79,7 +80,7 @@ impl MonitorSchedule {
         }
     }
 
-    // A schedule that stands in for one that could not be read.
+    // Placeholder for a schedule that could not be read.
     pub(crate) fn blank() -> MonitorSchedule {
         MonitorSchedule::Interval {
             value: 0,
@@ -87,7 +88,7 @@ impl MonitorSchedule {
         }
     }
 
-    /// The same schedule. It fails where memory is refused.
+    /// Clones the schedule. `AllocError` if an allocation fails.
     pub fn clone(&self) -> Result<MonitorSchedule, AllocError>
         ensures { IfOk result (λ copy. schedule_cell copy ≡ schedule_cell self.now) }
     {
@@ -123,7 +124,7 @@ impl Cased for MonitorSchedule {
     }
 
     #[tactic(auto, using(crate::proofs::Schedules::crontab_made, crate::proofs::Schedules::interval_made))]
-    fn made(&self, way: Way) -> Result<MonitorSchedule, AllocError> {
+    fn remake_case(&self, way: Way) -> Result<MonitorSchedule, AllocError> {
         Ok(match self {
             MonitorSchedule::Crontab { value } => MonitorSchedule::Crontab {
                 value: value.clone()?,

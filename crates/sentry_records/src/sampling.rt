@@ -1,17 +1,18 @@
-//! What traces are sampled by.
+//! The dynamic sampling context.
 
 ghost use Rattle.sentry_records.specs.Sampling.{sampling_fields, sampling_in_order};
 
 use sentry_identifiers::TraceId;
+use sentry_json::Node;
 use sentry_members::{Formed, Member};
 use sentry_moments::{SampleRand, SampleRate};
-use sentry_numbers::{OrganizationId, OrganizationText};
 use sentry_rows::{AsTable, Copier, CopyTable, ReadTable, Reader, Sink, Table};
-use sentry_trees::Node;
+use sentry_text::{OrganizationId, OrganizationText};
 use sentry_words::Sampled;
 use std::alloc::{AllocError, Global};
 
-/// What a trace is sampled by, the same for all of its events: the header `trace` of an envelope.
+/// The dynamic sampling context: the data by which a trace is sampled, the same for all events of
+/// the trace. The member `trace` of an envelope header.
 ///
 /// <https://develop.sentry.dev/sdk/telemetry/traces/dynamic-sampling-context/>
 #[derive(Debug, Drop, PartialEq)]
@@ -34,13 +35,13 @@ impl DynamicSamplingContext {
     ghost use Rattle.sentry_tables.specs.Cell.{text};
     ghost use Rattle.sentry_members.specs.Cells.{text_cell, natural_cell, option_cell};
     ghost use Rattle.sentry_rows.specs.Parts.{part_at};
-    ghost use Rattle.sentry_identifiers.specs.HexIdTree.{trace_cell};
+    ghost use Rattle.sentry_identifiers.specs.HexIdTree.{trace_id_cell};
     ghost use Rattle.sentry_moments.specs.SamplingTexts.{sample_rand_cell};
-    ghost use Rattle.sentry_numbers.specs.ProjectTree.{organization_cell};
+    ghost use Rattle.sentry_text.specs.ProjectTree.{organization_cell};
     ghost use Rattle.sentry_words.specs.Sampled.{sampled_cell};
     ghost use Rattle.sentry_records.specs.Sampling.{sampling_cell, with_row};
 
-    /// A context of which nothing is known.
+    /// Creates a context with no fields set.
     pub fn new() -> DynamicSamplingContext
         ensures { IsDefault sampling_fields result }
     {
@@ -57,16 +58,16 @@ impl DynamicSamplingContext {
         }
     }
 
-    /// A context of which nothing is known.
+    /// Creates a context with no fields set, without allocating.
     pub fn default_in(_alloc: Global) -> DynamicSamplingContext
         ensures { IsDefault sampling_fields result }
     {
         DynamicSamplingContext::new()
     }
 
-    /// The same context with this id of the trace.
+    /// Sets the trace id.
     pub fn with_trace_id(self, trace_id: TraceId) -> DynamicSamplingContext
-        ensures { sampling_cell result ≡ with_row (codes "trace_id") (trace_cell trace_id) self }
+        ensures { sampling_cell result ≡ with_row (codes "trace_id") (trace_id_cell trace_id) self }
     {
         DynamicSamplingContext {
             trace_id: Some(trace_id),
@@ -74,7 +75,7 @@ impl DynamicSamplingContext {
         }
     }
 
-    /// The same context with this public key, which is that of the DSN.
+    /// Sets the public key of the DSN that the trace is sent to.
     pub fn with_public_key(self, public_key: String) -> DynamicSamplingContext
         ensures { sampling_cell result ≡ with_row (codes "public_key") (text_cell public_key) self }
     {
@@ -84,9 +85,10 @@ impl DynamicSamplingContext {
         }
     }
 
-    /// The same context with this sample rate, in billionths: 10^9 of them are a rate of 1.
+    /// Sets the sample rate in billionths: 10^9 is a rate of 1.
     pub fn with_sample_rate(self, billionths: u64) -> DynamicSamplingContext
-        ensures { sampling_cell result ≡ with_row (codes "sample_rate") (natural_cell billionths) self }
+        ensures { sampling_cell result ≡
+            with_row (codes "sample_rate") (natural_cell billionths) self }
     {
         DynamicSamplingContext {
             sample_rate: Some(SampleRate(billionths)),
@@ -94,9 +96,10 @@ impl DynamicSamplingContext {
         }
     }
 
-    /// The same context with this random value.
+    /// Sets the random value that the sample rate is compared with.
     pub fn with_sample_rand(self, sample_rand: SampleRand) -> DynamicSamplingContext
-        ensures { sampling_cell result ≡ with_row (codes "sample_rand") (sample_rand_cell sample_rand) self }
+        ensures { sampling_cell result ≡
+            with_row (codes "sample_rand") (sample_rand_cell sample_rand) self }
     {
         DynamicSamplingContext {
             sample_rand: Some(sample_rand),
@@ -104,7 +107,7 @@ impl DynamicSamplingContext {
         }
     }
 
-    /// The same context, of a trace that was sampled or was not.
+    /// Sets whether the trace was sampled.
     pub fn with_sampled(self, sampled: bool) -> DynamicSamplingContext
         ensures { sampling_cell result ≡ with_row (codes "sampled") (sampled_cell sampled) self }
     {
@@ -114,7 +117,7 @@ impl DynamicSamplingContext {
         }
     }
 
-    /// The same context with this release.
+    /// Sets the release.
     pub fn with_release(self, release: String) -> DynamicSamplingContext
         ensures { sampling_cell result ≡ with_row (codes "release") (text_cell release) self }
     {
@@ -124,9 +127,10 @@ impl DynamicSamplingContext {
         }
     }
 
-    /// The same context with this environment.
+    /// Sets the environment.
     pub fn with_environment(self, environment: String) -> DynamicSamplingContext
-        ensures { sampling_cell result ≡ with_row (codes "environment") (text_cell environment) self }
+        ensures { sampling_cell result ≡
+            with_row (codes "environment") (text_cell environment) self }
     {
         DynamicSamplingContext {
             environment: Some(environment),
@@ -134,9 +138,10 @@ impl DynamicSamplingContext {
         }
     }
 
-    /// The same context with this name of the transaction.
+    /// Sets the transaction name.
     pub fn with_transaction(self, transaction: String) -> DynamicSamplingContext
-        ensures { sampling_cell result ≡ with_row (codes "transaction") (text_cell transaction) self }
+        ensures { sampling_cell result ≡
+            with_row (codes "transaction") (text_cell transaction) self }
     {
         DynamicSamplingContext {
             transaction: Some(transaction),
@@ -144,7 +149,7 @@ impl DynamicSamplingContext {
         }
     }
 
-    /// The same context with this id of the organization.
+    /// Sets the organization id.
     pub fn with_org_id(self, org_id: OrganizationId) -> DynamicSamplingContext
         ensures { sampling_cell result ≡ with_row (codes "org_id") (organization_cell org_id) self }
     {
@@ -156,68 +161,77 @@ impl DynamicSamplingContext {
 
     /// Returns the trace id.
     pub fn trace_id(&self) -> Option<TraceId>
-        ensures { option_cell trace_cell result ≡ part_at (codes "trace_id") sampling_fields self.now }
+        ensures { option_cell trace_id_cell result ≡
+            part_at (codes "trace_id") sampling_fields self.now }
     {
         self.trace_id
     }
 
     /// Returns the public key of the DSN that the trace is sent to.
     pub fn public_key(&self) -> Option<&str>
-        ensures { option_cell (λ key. text key.now) result ≡ part_at (codes "public_key") sampling_fields self.now }
+        ensures { option_cell (λ key.
+            text key.now) result ≡ part_at (codes "public_key") sampling_fields self.now }
     {
         self.public_key.as_deref()
     }
 
-    /// Returns the sample rate in billionths: 10^9 of them are a rate of 1.
+    /// Returns the sample rate in billionths: 10^9 is a rate of 1.
     pub fn sample_rate(&self) -> Option<u64>
-        ensures { option_cell natural_cell result ≡ part_at (codes "sample_rate") sampling_fields self.now }
+        ensures { option_cell natural_cell result ≡
+            part_at (codes "sample_rate") sampling_fields self.now }
     {
         self.sample_rate.map(|rate| rate.0)
     }
 
     /// Returns the random value that the sample rate is compared with.
     pub fn sample_rand(&self) -> Option<SampleRand>
-        ensures { option_cell sample_rand_cell result ≡ part_at (codes "sample_rand") sampling_fields self.now }
+        ensures { option_cell sample_rand_cell result ≡
+            part_at (codes "sample_rand") sampling_fields self.now }
     {
         self.sample_rand
     }
 
     /// Returns whether the trace was sampled.
     pub fn sampled(&self) -> Option<bool>
-        ensures { option_cell sampled_cell result ≡ part_at (codes "sampled") sampling_fields self.now }
+        ensures { option_cell sampled_cell result ≡
+            part_at (codes "sampled") sampling_fields self.now }
     {
         self.sampled
     }
 
     /// Returns the release.
     pub fn release(&self) -> Option<&str>
-        ensures { option_cell (λ release. text release.now) result ≡ part_at (codes "release") sampling_fields self.now }
+        ensures { option_cell (λ release.
+            text release.now) result ≡ part_at (codes "release") sampling_fields self.now }
     {
         self.release.as_deref()
     }
 
     /// Returns the environment.
     pub fn environment(&self) -> Option<&str>
-        ensures { option_cell (λ name. text name.now) result ≡ part_at (codes "environment") sampling_fields self.now }
+        ensures { option_cell (λ name.
+            text name.now) result ≡ part_at (codes "environment") sampling_fields self.now }
     {
         self.environment.as_deref()
     }
 
-    /// Returns the name of the transaction.
+    /// Returns the transaction name.
     pub fn transaction(&self) -> Option<&str>
-        ensures { option_cell (λ name. text name.now) result ≡ part_at (codes "transaction") sampling_fields self.now }
+        ensures { option_cell (λ name.
+            text name.now) result ≡ part_at (codes "transaction") sampling_fields self.now }
     {
         self.transaction.as_deref()
     }
 
     /// Returns the organization id.
     pub fn org_id(&self) -> Option<OrganizationId>
-        ensures { option_cell organization_cell result ≡ part_at (codes "org_id") sampling_fields self.now }
+        ensures { option_cell organization_cell result ≡
+            part_at (codes "org_id") sampling_fields self.now }
     {
         self.org_id
     }
 
-    /// The same context. It fails where memory is refused.
+    /// Clones the context. `AllocError` if an allocation fails.
     pub fn clone(&self) -> Result<DynamicSamplingContext, AllocError>
         ensures { IfOk result (λ copy. sampling_cell copy ≡ sampling_cell self.now) }
     {
@@ -267,7 +281,7 @@ impl ReadTable for DynamicSamplingContext {
 
 #[tactic(auto, unfolding(crate::specs::Sampling::sampling_fields))]
 impl CopyTable for DynamicSamplingContext {
-    fn copied(&self, copies: &mut Copier) -> Result<DynamicSamplingContext, AllocError> {
+    fn copy_rows(&self, copies: &mut Copier) -> Result<DynamicSamplingContext, AllocError> {
         Ok(DynamicSamplingContext {
             environment: copies.optional(&self.environment),
             org_id: copies.optional_as::<OrganizationText, OrganizationId>(&self.org_id),

@@ -1,14 +1,14 @@
-//! The rows of schedules.
+//! Rows of the cases of monitor schedules.
 
 ghost use Rattle.sentry_records.specs.Monitors.{crontab_fields, crontab_in_order, interval_fields, interval_in_order, lent_fields, lent_in_order};
 
+use sentry_json::Node;
 use sentry_members::Formed;
 use sentry_rows::{AsTable, Copier, CopyTable, ReadTable, Reader, Sink, Table};
-use sentry_trees::Node;
 use sentry_words::MonitorIntervalUnit;
 use std::alloc::AllocError;
 
-// The rows of a schedule by a crontab.
+// Rows of a `crontab` schedule.
 #[derive(Drop)]
 pub(crate) struct CrontabRows {
     pub value: String,
@@ -40,14 +40,14 @@ impl ReadTable for CrontabRows {
 
 #[tactic(auto, unfolding(crate::specs::Monitors::crontab_fields))]
 impl CopyTable for CrontabRows {
-    fn copied(&self, copies: &mut Copier) -> Result<CrontabRows, AllocError> {
+    fn copy_rows(&self, copies: &mut Copier) -> Result<CrontabRows, AllocError> {
         Ok(CrontabRows {
             value: copies.text(&self.value),
         })
     }
 }
 
-// The rows of a schedule by an interval.
+// Rows of an `interval` schedule.
 #[derive(Drop)]
 pub(crate) struct IntervalRows {
     pub value: u64,
@@ -82,7 +82,7 @@ impl ReadTable for IntervalRows {
 
 #[tactic(auto, unfolding(crate::specs::Monitors::interval_fields))]
 impl CopyTable for IntervalRows {
-    fn copied(&self, copies: &mut Copier) -> Result<IntervalRows, AllocError> {
+    fn copy_rows(&self, copies: &mut Copier) -> Result<IntervalRows, AllocError> {
         Ok(IntervalRows {
             unit: copies.plain(&self.unit),
             value: copies.plain(&self.value),
@@ -90,7 +90,7 @@ impl CopyTable for IntervalRows {
     }
 }
 
-// The same rows of a crontab that is lent.
+// Rows of a `crontab` schedule that borrows its expression, for writing.
 #[derive(Drop)]
 pub(crate) struct LentCrontab<'s> {
     pub value: &'s String,

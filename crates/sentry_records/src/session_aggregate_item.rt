@@ -1,30 +1,31 @@
-//! Groups of sessions.
+//! Groups of sessions in session aggregates.
 
 ghost use Rattle.sentry_records.specs.Sessions.{group_fields, group_in_order};
 
 use crate::stand_in::epoch;
+use sentry_json::Node;
 use sentry_members::{Formed, Member};
 use sentry_moments::{Moment, Rfc3339};
 use sentry_rows::{AsTable, Copier, CopyTable, ReadTable, Reader, Sink, Table};
-use sentry_trees::Node;
 use std::alloc::AllocError;
 
-/// How many sessions of one user began in one minute, by how they ended.
+/// A group in session aggregates: the sessions of one user that started in one minute, counted by
+/// how they ended.
 ///
 /// <https://develop.sentry.dev/sdk/telemetry/sessions/>
 #[derive(Debug, Drop, PartialEq)]
 pub struct SessionAggregateItem {
-    /// When the sessions began, as RFC 3339 text.
+    /// Start of the sessions: RFC 3339.
     pub started: Moment,
-    /// An id of the user or the device. Its key is `did`.
+    /// Distinct id of the user or device (`did`).
     pub distinct_id: Option<String>,
-    /// How many ended well.
+    /// Number of sessions that exited without errors; defaults to 0.
     pub exited: u32,
-    /// How many ended well, but with errors.
+    /// Number of sessions that exited with errors; defaults to 0.
     pub errored: u32,
-    /// How many ended in some other way.
+    /// Number of sessions that ended abnormally; defaults to 0.
     pub abnormal: u32,
-    /// How many crashed.
+    /// Number of sessions that crashed; defaults to 0.
     pub crashed: u32,
 }
 
@@ -32,7 +33,7 @@ impl SessionAggregateItem {
     ghost use Rattle.std.specs.Prelude.{◌≡◌, IfOk};
     ghost use Rattle.sentry_records.specs.Sessions.{group_cell};
 
-    /// The same item. It fails where memory is refused.
+    /// Clones the item. `AllocError` if an allocation fails.
     pub fn clone(&self) -> Result<SessionAggregateItem, AllocError>
         ensures { IfOk result (λ copy. group_cell copy ≡ group_cell self.now) }
     {
@@ -76,7 +77,7 @@ impl ReadTable for SessionAggregateItem {
 
 #[tactic(auto, unfolding(crate::specs::Sessions::group_fields))]
 impl CopyTable for SessionAggregateItem {
-    fn copied(&self, copies: &mut Copier) -> Result<SessionAggregateItem, AllocError> {
+    fn copy_rows(&self, copies: &mut Copier) -> Result<SessionAggregateItem, AllocError> {
         Ok(SessionAggregateItem {
             abnormal: copies.plain(&self.abnormal),
             crashed: copies.plain(&self.crashed),

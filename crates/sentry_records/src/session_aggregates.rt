@@ -1,22 +1,22 @@
-//! Sessions that are counted.
+//! Session aggregates.
 
 ghost use Rattle.sentry_records.specs.Sessions.{groups_fields, groups_in_order};
 
 use crate::session_aggregate_item::SessionAggregateItem;
 use crate::session_attributes::SessionAttributes;
+use sentry_json::Node;
 use sentry_members::{Formed, Member};
 use sentry_rows::{AsTable, Copier, CopyTable, ReadTable, Reader, Sink, Table};
-use sentry_trees::Node;
 use std::alloc::AllocError;
 
-/// Sessions that are counted, in place of an update for each.
+/// Session aggregates: counts of sessions, in place of an update for each session.
 ///
 /// <https://develop.sentry.dev/sdk/telemetry/sessions/>
 #[derive(Debug, Drop, PartialEq)]
 pub struct SessionAggregates<'a> {
-    /// The sessions, in groups.
+    /// Groups of sessions; empty by default.
     pub aggregates: Vec<SessionAggregateItem>,
-    /// What is common to them. Its key is `attrs`.
+    /// Attributes shared by the sessions (`attrs`).
     pub attributes: SessionAttributes<'a>,
 }
 
@@ -24,7 +24,7 @@ impl<'a> SessionAggregates<'a> {
     ghost use Rattle.std.specs.Prelude.{◌≡◌, IfOk};
     ghost use Rattle.sentry_records.specs.Sessions.{groups_cell};
 
-    /// The same aggregates. It fails where memory is refused.
+    /// Clones the aggregates. `AllocError` if an allocation fails.
     pub fn clone(&self) -> Result<SessionAggregates<'a>, AllocError>
         ensures { IfOk result (λ copy. groups_cell copy ≡ groups_cell self.now) }
     {
@@ -60,7 +60,7 @@ impl<'a> ReadTable for SessionAggregates<'a> {
 
 #[tactic(auto, unfolding(crate::specs::Sessions::groups_fields))]
 impl<'a> CopyTable for SessionAggregates<'a> {
-    fn copied(&self, copies: &mut Copier) -> Result<SessionAggregates<'a>, AllocError> {
+    fn copy_rows(&self, copies: &mut Copier) -> Result<SessionAggregates<'a>, AllocError> {
         Ok(SessionAggregates {
             aggregates: copies.list(&self.aggregates),
             attributes: copies.of(&self.attributes)?,

@@ -1,27 +1,27 @@
-//! Attributes of sessions.
+//! Session attributes.
 
 ghost use Rattle.sentry_records.specs.Sessions.{attributes_fields, attributes_in_order};
 
-use sentry_addresses::IpText;
+use sentry_json::Node;
 use sentry_members::{Formed, Member};
 use sentry_rows::{AsTable, Copier, CopyTable, ReadTable, Reader, Sink, Table};
-use sentry_trees::Node;
+use sentry_text::IpText;
 use std::alloc::AllocError;
 use std::borrow::CowStr;
 use std::net::IpAddr;
 
-/// What is common to the sessions of an update or of aggregates.
+/// Session attributes: what the sessions of an update or of aggregates share.
 ///
 /// <https://develop.sentry.dev/sdk/telemetry/sessions/>
 #[derive(Debug, Drop, PartialEq)]
 pub struct SessionAttributes<'a> {
-    /// The release.
+    /// Release of the application.
     pub release: CowStr<'a>,
-    /// The environment.
+    /// Environment, such as `production`.
     pub environment: Option<CowStr<'a>>,
-    /// The address of the user, by which sessions are filtered.
+    /// IP address of the user, used to filter sessions.
     pub ip_address: Option<IpAddr>,
-    /// The user agent of the user, by which sessions are filtered.
+    /// User agent of the user, used to filter sessions.
     pub user_agent: Option<String>,
 }
 
@@ -29,7 +29,7 @@ impl<'a> SessionAttributes<'a> {
     ghost use Rattle.std.specs.Prelude.{◌≡◌, IfOk, None};
     ghost use Rattle.sentry_records.specs.Sessions.{attributes_cell};
 
-    // Attributes of an empty release, which stand in for those that could not be read.
+    // Placeholder for attributes that could not be read.
     pub(crate) fn blank() -> SessionAttributes<'a>
         ensures { result.user_agent ≡ None }
     {
@@ -41,7 +41,7 @@ impl<'a> SessionAttributes<'a> {
         }
     }
 
-    /// The same attributes. It fails where memory is refused.
+    /// Clones the attributes. `AllocError` if an allocation fails.
     pub fn clone(&self) -> Result<SessionAttributes<'a>, AllocError>
         ensures { IfOk result (λ copy. attributes_cell copy ≡ attributes_cell self.now) }
     {
@@ -81,7 +81,7 @@ impl<'a> ReadTable for SessionAttributes<'a> {
 
 #[tactic(auto, unfolding(crate::specs::Sessions::attributes_fields))]
 impl<'a> CopyTable for SessionAttributes<'a> {
-    fn copied(&self, copies: &mut Copier) -> Result<SessionAttributes<'a>, AllocError> {
+    fn copy_rows(&self, copies: &mut Copier) -> Result<SessionAttributes<'a>, AllocError> {
         Ok(SessionAttributes {
             environment: copies.optional(&self.environment),
             ip_address: copies.optional_as::<IpText, IpAddr>(&self.ip_address),

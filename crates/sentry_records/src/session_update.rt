@@ -1,45 +1,45 @@
-//! Updates of sessions.
+//! Session updates.
 
 ghost use Rattle.sentry_records.specs.Sessions.{session_fields, session_in_order};
 
 use crate::session_attributes::SessionAttributes;
 use rand_core::Rng;
 use sentry_identifiers::Hyphenated;
+use sentry_json::Node;
 use sentry_members::{Formed, Member};
 use sentry_moments::{Moment, Rfc3339};
 use sentry_rows::{AsTable, Copier, CopyTable, ReadTableAt, Reader, Sink, Table};
-use sentry_trees::Node;
 use sentry_words::SessionStatus;
 use std::alloc::AllocError;
 use uuid::Uuid;
 
-/// How a session goes, or how it ended.
+/// A session update: the state of a running session, or how the session ended.
 ///
-/// A session that is read without `sid` takes an id from the generator, and one without `started` the moment of
-/// reading.
+/// When an update is read, an absent `sid` is a random UUID from the caller's generator, and an
+/// absent `started` is the caller's `now`.
 ///
 /// <https://develop.sentry.dev/sdk/telemetry/sessions/>
 #[derive(Debug, Drop, PartialEq)]
 pub struct SessionUpdate<'a> {
-    /// The id of the session. Its key is `sid`.
+    /// Session id (`sid`).
     pub session_id: Uuid,
-    /// An id of the user or the device. Its key is `did`.
+    /// Distinct id of the user or device (`did`); `None` is written as null.
     pub distinct_id: Option<String>,
-    /// A number that grows from update to update. Its key is `seq`.
+    /// Sequence number, which grows with each update (`seq`).
     pub sequence: Option<u64>,
-    /// When the update was made, as RFC 3339 text.
+    /// Time of the update: RFC 3339.
     pub timestamp: Option<Moment>,
-    /// When the session began, as RFC 3339 text.
+    /// Start of the session: RFC 3339.
     pub started: Moment,
-    /// Whether this is the first update of the session.
+    /// Whether this is the first update of the session; defaults to `false`.
     pub init: bool,
-    /// How long the session has lasted, in seconds.
+    /// Duration of the session so far, in seconds.
     pub duration: Option<u64>,
-    /// How the session goes, or how it ended; `ok` where it is absent.
+    /// Session status; defaults to `ok`.
     pub status: SessionStatus,
-    /// How many errors there were; 0 where it is absent.
+    /// Number of errors in the session; defaults to 0.
     pub errors: u64,
-    /// What is common to sessions. Its key is `attrs`.
+    /// Session attributes (`attrs`).
     pub attributes: SessionAttributes<'a>,
 }
 
@@ -47,7 +47,7 @@ impl<'a> SessionUpdate<'a> {
     ghost use Rattle.std.specs.Prelude.{◌≡◌, IfOk};
     ghost use Rattle.sentry_records.specs.Sessions.{session_cell};
 
-    /// The same update. It fails where memory is refused.
+    /// Clones the update. `AllocError` if an allocation fails.
     pub fn clone(&self) -> Result<SessionUpdate<'a>, AllocError>
         ensures { IfOk result (λ copy. session_cell copy ≡ session_cell self.now) }
     {
@@ -103,7 +103,7 @@ impl<'a> ReadTableAt for SessionUpdate<'a> {
 
 #[tactic(auto, unfolding(crate::specs::Sessions::session_fields))]
 impl<'a> CopyTable for SessionUpdate<'a> {
-    fn copied(&self, copies: &mut Copier) -> Result<SessionUpdate<'a>, AllocError> {
+    fn copy_rows(&self, copies: &mut Copier) -> Result<SessionUpdate<'a>, AllocError> {
         Ok(SessionUpdate {
             attributes: copies.of(&self.attributes)?,
             distinct_id: copies.optional(&self.distinct_id),

@@ -1,10 +1,10 @@
-//! What stands in for values that could not be read.
+//! A placeholder for moments that could not be read.
 
 ghost use Rattle.std.specs.Prelude.{◌≡◌};
 
 use sentry_moments::Moment;
 
-// The first moment of 1970.
+// 1970-01-01T00:00:00Z.
 pub(crate) fn epoch() -> Moment
     ensures { result.secs ≡ 0 }
 {

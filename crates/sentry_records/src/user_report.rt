@@ -1,26 +1,26 @@
-//! What users say of events.
+//! User reports.
 
 ghost use Rattle.sentry_records.specs.UserReports.{user_report_fields, user_report_in_order};
 
 use sentry_identifiers::Simple;
+use sentry_json::Node;
 use sentry_members::{Formed, Member};
 use sentry_rows::{AsTable, Copier, CopyTable, ReadTable, Reader, Sink, Table};
-use sentry_trees::Node;
 use std::alloc::AllocError;
 use uuid::Uuid;
 
-/// What a user says of an event.
+/// A user report: the comments of a user on an event.
 ///
 /// <https://develop.sentry.dev/sdk/data-model/envelope-items/#user-report>
 #[derive(Debug, Drop, PartialEq)]
 pub struct UserReport {
-    /// The id of the event.
+    /// Id of the event that the report is about.
     pub event_id: Uuid,
-    /// The name of the user.
+    /// Name of the user.
     pub name: Option<String>,
-    /// The address of the user by mail.
+    /// Email address of the user.
     pub email: Option<String>,
-    /// What the user says.
+    /// Comments of the user.
     pub comments: String,
 }
 
@@ -28,7 +28,7 @@ impl UserReport {
     ghost use Rattle.std.specs.Prelude.{◌≡◌, IfOk};
     ghost use Rattle.sentry_records.specs.UserReports.{user_report_cell};
 
-    /// The same report. It fails where memory is refused.
+    /// Clones the report. `AllocError` if an allocation fails.
     pub fn clone(&self) -> Result<UserReport, AllocError>
         ensures { IfOk result (λ copy. user_report_cell copy ≡ user_report_cell self.now) }
     {
@@ -68,7 +68,7 @@ impl ReadTable for UserReport {
 
 #[tactic(auto, unfolding(crate::specs::UserReports::user_report_fields))]
 impl CopyTable for UserReport {
-    fn copied(&self, copies: &mut Copier) -> Result<UserReport, AllocError> {
+    fn copy_rows(&self, copies: &mut Copier) -> Result<UserReport, AllocError> {
         Ok(UserReport {
             comments: copies.text(&self.comments),
             email: copies.optional(&self.email),

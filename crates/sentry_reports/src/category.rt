@@ -1,15 +1,18 @@
-//! What is counted as lost.
+//! Data categories of client reports.
 
-use sentry_members::{AsText, Formed, Room, Spelled, TreeError, Way};
+ghost use Rattle.std.specs.Prelude.{◌≡◌};
+ghost use Rattle.sentry_reports.specs.Categories.{categories, category_in_place, category_index, category_of, category_word};
+
+use sentry_members::Word;
 use sentry_words::IndexedEnum;
-use std::alloc::{AllocError, Global};
 
-/// What is counted as lost.
+/// A data category: the type of data that a client report counts as lost.
 ///
-/// The words are those of client reports: <https://develop.sentry.dev/sdk/expected-features/rate-limiting/#definitions>.
+/// The words are those of client reports:
+/// <https://develop.sentry.dev/sdk/expected-features/rate-limiting/#definitions>.
 #[derive(Clone, Copy, Debug, PartialEq, Eq, Hash)]
 pub enum Category {
-    /// Events of errors: `error`.
+    /// Error events: `error`.
     Error,
     /// Sessions: `session`.
     Session,
@@ -17,29 +20,26 @@ pub enum Category {
     Transaction,
     /// Spans: `span`.
     Span,
-    /// Bytes of attachments: `attachment`.
+    /// Attachments, in bytes: `attachment`.
     Attachment,
-    /// Check-ins of monitors: `monitor`.
+    /// Monitor check-ins: `monitor`.
     Monitor,
     /// Logs: `log_item`.
     LogItem,
-    /// Bytes of logs: `log_byte`.
+    /// Logs, in bytes: `log_byte`.
     LogByte,
     /// Metrics: `trace_metric`.
     TraceMetric,
-    /// Bytes of metrics: `trace_metric_byte`.
+    /// Metrics, in bytes: `trace_metric_byte`.
     TraceMetricByte,
-    /// Reports of users: `feedback`.
+    /// User reports: `feedback`.
     Feedback,
-    /// Recordings of replays: `replay`.
+    /// Replay recordings: `replay`.
     Replay,
 }
 
 impl Category {
-    ghost use Rattle.std.specs.Prelude.{◌≡◌};
-    ghost use Rattle.sentry_reports.specs.Categories.{category_word};
-
-    /// The category's word.
+    /// Returns the word in client reports, such as `error`.
     pub fn as_str(&self) -> &'static str
         ensures { result.now ≡ category_word self.now }
     {
@@ -61,8 +61,6 @@ impl Category {
 }
 
 impl IndexedEnum for Category {
-    ghost use Rattle.sentry_reports.specs.Categories.{categories, category_index, category_in_place};
-
     ghost variants = { categories };
 
     ghost index_of = { category_index };
@@ -102,44 +100,32 @@ impl IndexedEnum for Category {
     ghost in_place = { category_in_place };
 }
 
-impl Formed for Category {
-    type Form = AsText;
-}
+impl Word for Category {
+    ghost word = { category_word };
 
-impl Spelled for Category {
-    ghost use Rattle.sentry_members.specs.Spelling.{word_cell};
-    ghost use Rattle.sentry_reports.specs.Categories.{category_word, category_spelling};
+    ghost of_word = { category_of };
 
-    ghost spelling = { category_spelling };
+    fn word(&self) -> &'static str {
+        self.as_str()
+    }
 
-    ghost cell_of = { word_cell category_word };
-
-    fn of_text(_alloc: Global, text: &str) -> Result<Category, TreeError> {
+    fn of_word(text: &str) -> Option<Category> {
         match text {
-            "error" => Ok(Category::Error),
-            "session" => Ok(Category::Session),
-            "transaction" => Ok(Category::Transaction),
-            "span" => Ok(Category::Span),
-            "attachment" => Ok(Category::Attachment),
-            "monitor" => Ok(Category::Monitor),
-            "log_item" => Ok(Category::LogItem),
-            "log_byte" => Ok(Category::LogByte),
-            "trace_metric" => Ok(Category::TraceMetric),
-            "trace_metric_byte" => Ok(Category::TraceMetricByte),
-            "feedback" => Ok(Category::Feedback),
-            "replay" => Ok(Category::Replay),
-            _ => Err(TreeError::Misfit),
+            "error" => Some(Category::Error),
+            "session" => Some(Category::Session),
+            "transaction" => Some(Category::Transaction),
+            "span" => Some(Category::Span),
+            "attachment" => Some(Category::Attachment),
+            "monitor" => Some(Category::Monitor),
+            "log_item" => Some(Category::LogItem),
+            "log_byte" => Some(Category::LogByte),
+            "trace_metric" => Some(Category::TraceMetric),
+            "trace_metric_byte" => Some(Category::TraceMetricByte),
+            "feedback" => Some(Category::Feedback),
+            "replay" => Some(Category::Replay),
+            _ => None,
         }
     }
 
-    fn text<'a>(&'a self, _room: &'a mut Room) -> Result<&'a str, AllocError> {
-        Ok(self.as_str())
-    }
-
-    #[tactic(auto, using(sentry_members::proofs::Ways::unchanged))]
-    fn copied(&self, _way: Way) -> Result<Category, AllocError> {
-        Ok(*self)
-    }
-
-    fn hold(&self) {}
+    ghost copies = { λ value copy same. same };
 }

@@ -1,15 +1,15 @@
-//! An item of a report.
+//! Items of client reports.
 
 ghost use Rattle.sentry_reports.specs.ItemTable.{item_fields, item_in_order};
 
 use crate::category::Category;
 use crate::reason::Reason;
+use sentry_json::Node;
 use sentry_members::Formed;
 use sentry_rows::{AsTable, Copier, CopyTable, ReadTable, Reader, Sink, Table};
-use sentry_trees::Node;
 use std::alloc::AllocError;
 
-/// How much of a category was lost for a reason.
+/// An item of a client report: the quantity lost in a category for a reason.
 ///
 /// <https://develop.sentry.dev/sdk/telemetry/client-reports/>
 #[derive(Clone, Copy, Debug)]
@@ -22,7 +22,7 @@ pub struct Item {
 impl Item {
     ghost use Rattle.std.specs.Prelude.{◌≡◌};
 
-    /// So much of a category, lost for a reason.
+    /// Creates an item: a loss of `quantity` in `category` for `reason`.
     pub fn new(category: Category, reason: Reason, quantity: u64) -> Item
         ensures category { result.category ≡ category }
         ensures reason { result.reason ≡ reason }
@@ -66,7 +66,7 @@ impl ReadTable for Item {
 
 #[tactic(auto, unfolding(crate::specs::ItemTable::item_fields))]
 impl CopyTable for Item {
-    fn copied(&self, copies: &mut Copier) -> Result<Item, AllocError> {
+    fn copy_rows(&self, copies: &mut Copier) -> Result<Item, AllocError> {
         Ok(Item {
             category: copies.plain(&self.category),
             quantity: copies.plain(&self.quantity),

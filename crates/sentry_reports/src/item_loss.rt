@@ -1,17 +1,17 @@
-//! A quantity that was lost.
+//! Losses, with or without a reason.
 
 use crate::category::Category;
 use crate::item::Item;
 use crate::reason::Reason;
 
-/// A quantity that was lost.
+/// A loss of a quantity in a category, with the reason if known.
 #[derive(Clone, Copy, Debug)]
 pub struct ItemLoss {
-    /// What was lost.
+    /// Data category.
     pub category: Category,
-    /// How much of it.
+    /// Quantity lost, in the unit of the category.
     pub quantity: u64,
-    /// Why, where it is known.
+    /// Discard reason, if known.
     pub reason: Option<Reason>,
 }
 
@@ -21,7 +21,7 @@ impl From<Item> for ItemLoss {
 
     ghost from_gives = { λ item loss. loss ≡ item_loss item };
 
-    /// The loss that an item reports, with its reason.
+    /// Returns the loss that an item reports, with its reason.
     fn from(item: Item) -> ItemLoss {
         ItemLoss {
             category: item.category,

@@ -1,4 +1,4 @@
-//! The sums that a report keeps.
+//! The sums that a client report keeps.
 
 ghost use Rattle.std.specs.Prelude.{◌≡◌, ◌+◌, ◌-◌, ◌^◌, ◌<◌, min};
 ghost use Rattle.sentry_reports.specs.ReportSums.{pair_place, KeepsSums};
@@ -8,13 +8,13 @@ use crate::item::Item;
 use crate::reason::Reason;
 use sentry_words::IndexedEnum;
 
-/// How many sums a report keeps: one for each pair of a category and a reason.
+/// Number of sums that a report keeps: one for each pair of a category and a reason.
 pub const SUMS: usize = 108;
 
-// How many reasons there are, and so how many sums of a category.
+// Number of reasons, and of the sums in each category.
 const REASONS: usize = 9;
 
-/// Where the sum of a category and a reason stands: category by category, the reasons of each in order.
+/// Returns the index of a sum: category by category, and by reason in each category.
 pub fn pair_place(category: Category, reason: Reason) -> usize
     ensures same { result ≡ pair_place category reason }
     ensures within { result < 108 }
@@ -22,14 +22,13 @@ pub fn pair_place(category: Category, reason: Reason) -> usize
     REASONS * category.as_index() + reason.as_index()
 }
 
-// A sum with one more quantity, cut at 2^64-1.
-fn added(sum: u64, quantity: u64) -> u64
+fn add_up(sum: u64, quantity: u64) -> u64
     ensures { result ≡ min (sum + quantity) (2 ^ 64 - 1) }
 {
     sum.saturating_add(quantity)
 }
 
-/// The sum of each pair, cut at 2^64-1.
+/// Returns the sum of each category and reason, saturating at 2^64-1.
 #[tactic(auto, using(crate::proofs::ReportSums::keeps_nothing))]
 pub fn sums_of(items: &[Item]) -> [u64; SUMS]
     ensures { KeepsSums result items.now }
@@ -37,7 +36,7 @@ pub fn sums_of(items: &[Item]) -> [u64; SUMS]
     let mut sums = [0_u64; SUMS];
     for item in items {
         let place = pair_place(item.category, item.reason);
-        sums[place] = added(sums[place], item.quantity);
+        sums[place] = add_up(sums[place], item.quantity);
     }
     sums
 }

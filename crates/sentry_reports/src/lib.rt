@@ -1,4 +1,4 @@
-//! What clients report as lost: categories, reasons, losses, and reports with their sums.
+//! Client reports: data categories, discard reasons, losses, and reports with their sums.
 #![tactic(auto)]
 
 pub mod category;

@@ -1,39 +1,39 @@
-//! Why something was lost.
+//! Discard reasons of client reports.
 
-use sentry_members::{AsText, Formed, Room, Spelled, TreeError, Way};
+ghost use Rattle.std.specs.Prelude.{◌≡◌};
+ghost use Rattle.sentry_reports.specs.Categories.{reasons, reason_in_place, reason_index, reason_of, reason_word};
+
+use sentry_members::Word;
 use sentry_words::IndexedEnum;
-use std::alloc::{AllocError, Global};
 
-/// Why something was lost.
+/// A discard reason: why data was lost.
 ///
-/// The words are those of client reports: <https://develop.sentry.dev/sdk/telemetry/client-reports/>.
+/// The words are those of client reports:
+/// <https://develop.sentry.dev/sdk/telemetry/client-reports/>.
 #[derive(Clone, Copy, Debug, PartialEq, Eq, Hash)]
 pub enum Reason {
-    /// Sentry refused it: `send_error`.
+    /// Rejected by Sentry: `send_error`.
     SendError,
-    /// The client failed: `internal_sdk_error`.
+    /// Internal error of the SDK: `internal_sdk_error`.
     InternalSdkError,
-    /// Sentry was not reached: `network_error`.
+    /// Sentry not reached: `network_error`.
     NetworkError,
-    /// Sentry asked the client to hold back: `ratelimit_backoff`.
+    /// Rate-limited by Sentry: `ratelimit_backoff`.
     RatelimitBackoff,
-    /// A queue was full: `queue_overflow`.
+    /// Queue full: `queue_overflow`.
     QueueOverflow,
-    /// A buffer was full: `buffer_overflow`.
+    /// Buffer full: `buffer_overflow`.
     BufferOverflow,
-    /// A processor of events dropped it: `event_processor`.
+    /// Dropped by an event processor: `event_processor`.
     EventProcessor,
-    /// The program's own filter dropped it: `before_send`.
+    /// Dropped by the program's `before_send` filter: `before_send`.
     BeforeSend,
-    /// It was left out of the sample: `sample_rate`.
+    /// Dropped by sampling: `sample_rate`.
     SampleRate,
 }
 
 impl Reason {
-    ghost use Rattle.std.specs.Prelude.{◌≡◌};
-    ghost use Rattle.sentry_reports.specs.Categories.{reason_word};
-
-    /// The reason's word.
+    /// Returns the word in client reports, such as `send_error`.
     pub fn as_str(&self) -> &'static str
         ensures { result.now ≡ reason_word self.now }
     {
@@ -52,8 +52,6 @@ impl Reason {
 }
 
 impl IndexedEnum for Reason {
-    ghost use Rattle.sentry_reports.specs.Categories.{reasons, reason_index, reason_in_place};
-
     ghost variants = { reasons };
 
     ghost index_of = { reason_index };
@@ -87,41 +85,29 @@ impl IndexedEnum for Reason {
     ghost in_place = { reason_in_place };
 }
 
-impl Formed for Reason {
-    type Form = AsText;
-}
+impl Word for Reason {
+    ghost word = { reason_word };
 
-impl Spelled for Reason {
-    ghost use Rattle.sentry_members.specs.Spelling.{word_cell};
-    ghost use Rattle.sentry_reports.specs.Categories.{reason_word, reason_spelling};
+    ghost of_word = { reason_of };
 
-    ghost spelling = { reason_spelling };
+    fn word(&self) -> &'static str {
+        self.as_str()
+    }
 
-    ghost cell_of = { word_cell reason_word };
-
-    fn of_text(_alloc: Global, text: &str) -> Result<Reason, TreeError> {
+    fn of_word(text: &str) -> Option<Reason> {
         match text {
-            "send_error" => Ok(Reason::SendError),
-            "internal_sdk_error" => Ok(Reason::InternalSdkError),
-            "network_error" => Ok(Reason::NetworkError),
-            "ratelimit_backoff" => Ok(Reason::RatelimitBackoff),
-            "queue_overflow" => Ok(Reason::QueueOverflow),
-            "buffer_overflow" => Ok(Reason::BufferOverflow),
-            "event_processor" => Ok(Reason::EventProcessor),
-            "before_send" => Ok(Reason::BeforeSend),
-            "sample_rate" => Ok(Reason::SampleRate),
-            _ => Err(TreeError::Misfit),
+            "send_error" => Some(Reason::SendError),
+            "internal_sdk_error" => Some(Reason::InternalSdkError),
+            "network_error" => Some(Reason::NetworkError),
+            "ratelimit_backoff" => Some(Reason::RatelimitBackoff),
+            "queue_overflow" => Some(Reason::QueueOverflow),
+            "buffer_overflow" => Some(Reason::BufferOverflow),
+            "event_processor" => Some(Reason::EventProcessor),
+            "before_send" => Some(Reason::BeforeSend),
+            "sample_rate" => Some(Reason::SampleRate),
+            _ => None,
         }
     }
 
-    fn text<'a>(&'a self, _room: &'a mut Room) -> Result<&'a str, AllocError> {
-        Ok(self.as_str())
-    }
-
-    #[tactic(auto, using(sentry_members::proofs::Ways::unchanged))]
-    fn copied(&self, _way: Way) -> Result<Reason, AllocError> {
-        Ok(*self)
-    }
-
-    fn hold(&self) {}
+    ghost copies = { λ value copy same. same };
 }

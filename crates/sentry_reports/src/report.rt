@@ -1,4 +1,4 @@
-//! Reports of what was lost.
+//! Client reports.
 
 ghost use Rattle.sentry_reports.specs.Reports.{report_fields, report_in_order};
 
@@ -7,20 +7,20 @@ use crate::item::Item;
 use crate::kept_sums::{SUMS, pair_place, sums_of};
 use crate::reason::Reason;
 use rand_core::Rng;
+use sentry_json::Node;
 use sentry_members::{Formed, Member};
 use sentry_moments::{Moment, Seconds};
 use sentry_rows::{AsTable, Copier, CopyTable, ReadTableAt, Reader, Sink, Table};
-use sentry_trees::Node;
 use std::alloc::AllocError;
 use std::fmt;
 use std::marker::Model;
 
-/// What a client reports as lost: items in the order in which they were given, and when the report was made.
+/// A client report: items for discarded events, in the order given, and the time of the report.
 ///
-/// Beside its items a report keeps the sum of each pair of a category and a reason, cut at 2^64-1. Two reports are
-/// equal where their moments and all these sums are.
+/// A report also keeps the sum of the quantities for each category and reason, saturating at
+/// 2^64-1. Two reports are equal exactly if their timestamps and all their sums are.
 ///
-/// A report that is read without a `timestamp` takes the moment of reading.
+/// When a report is read, an absent `timestamp` is the caller's `now`.
 ///
 /// <https://develop.sentry.dev/sdk/telemetry/client-reports/>
 #[derive(Drop)]
@@ -47,7 +47,7 @@ impl Report {
     ghost use Rattle.sentry_reports.specs.ReportSums.{report_sum, all_sums};
     ghost use Rattle.sentry_reports.specs.Reports.{report_cell};
 
-    /// A report of this moment, with these items, unmerged and in order. It takes no memory.
+    /// Creates a report at `now` with the items as given, unmerged and in order. Doesn't allocate.
     pub fn new(now: Moment, discarded_events: Vec<Item>) -> Report
         ensures timestamp { result.timestamp ≡ now }
         ensures items { result.items ≡ discarded_events.items }
@@ -60,23 +60,21 @@ impl Report {
         }
     }
 
-    /// The items, in order.
+    /// Returns the items, in order.
     pub fn discarded_events(&self) -> &[Item]
         ensures { result.now ≡ self.now.items }
     {
         &self.discarded_events
     }
 
-    /// How much of a category was lost for a reason: the sum of the items' quantities, cut at 2^64-1.
-    ///
-    /// It takes no memory.
+    /// Returns the quantity lost in a category for a reason: the sum over the items, saturating at
+    /// 2^64-1. Doesn't allocate.
     pub fn sum(&self, category: Category, reason: Reason) -> u64
         ensures { result ≡ report_sum category reason self.now.items }
     {
         self.sums[pair_place(category, reason)]
     }
 
-    /// Whether each sum is the same in both reports.
     #[tactic(auto, using(crate::proofs::ReportSums::same_verdict))]
     fn has_sums_of(&self, other: &Report) -> bool
         ensures { result ≡ pointwise nat_eq (all_sums self.now.items) (all_sums other.now.items) }
@@ -84,7 +82,7 @@ impl Report {
         self.sums == other.sums
     }
 
-    /// The same report. It fails where memory is refused.
+    /// Clones the report. `AllocError` if an allocation fails.
     pub fn clone(&self) -> Result<Report, AllocError>
         ensures { IfOk result (λ copy. report_cell copy ≡ report_cell self.now) }
     {
@@ -93,7 +91,7 @@ impl Report {
 }
 
 impl fmt::Debug for Report {
-    /// Shows the moment and the items, and no sums.
+    /// Formats the timestamp and the items, without the sums.
     fn fmt<W: fmt::Write>(&self, f: &mut fmt::Formatter<W>) -> fmt::Result {
         f.debug_struct("Report")
             .field("timestamp", &self.timestamp)
@@ -110,7 +108,8 @@ impl PartialEq for Report {
     ghost use Rattle.std.specs.Ordering.{on, eq_of_both};
     ghost use Rattle.sentry_reports.specs.ReportSums.{all_sums};
 
-    ghost eq = { eq_of_both (on (λ r. r.timestamp) ⟦<Moment as PartialEq>⟧.eq) (on (λ r. all_sums r.items) (pointwise nat_eq)) };
+    ghost eq = { eq_of_both (on (λ r. r.timestamp) ⟦<Moment as PartialEq>⟧.eq) (on (λ r.
+        all_sums r.items) (pointwise nat_eq)) };
 
     ghost laws = { Prim.search (comparing, rules) };
 
@@ -146,7 +145,7 @@ impl ReadTableAt for Report {
 
 #[tactic(auto, unfolding(crate::specs::Reports::report_fields))]
 impl CopyTable for Report {
-    fn copied(&self, copies: &mut Copier) -> Result<Report, AllocError> {
+    fn copy_rows(&self, copies: &mut Copier) -> Result<Report, AllocError> {
         let discarded_events = copies.list(&self.discarded_events);
         let timestamp = copies.plain_as::<Seconds, Moment>(&self.timestamp);
         Ok(Report::new(timestamp, discarded_events))

@@ -4,8 +4,8 @@ use Rattle.std.proofs.Math.Dec.{eqb-suc-zero}
 use Rattle.std.specs.Prelude.{◌==◌, option_and_then}
 use Rattle.serde_json.specs.Data.{Data, Members}
 use Rattle.serde_json.specs.Find.{get, get_member, as_str, as_object}
-use Rattle.sentry_trees.specs.Keys.{is_among, are_distinct, StandsAt}
-use Rattle.sentry_trees.proofs.Beside.{among}
+use Rattle.sentry_json.specs.Keys.{is_among, are_distinct, StandsAt}
+use Rattle.sentry_json.proofs.Beside.{among}
 use Rattle.sentry_tables.specs.Cell.{Cell, mapping, Entries, same_cell}
 use Rattle.sentry_tables.specs.Kind.{map, tagged, tagged_map, Cases, words, tag}
 use Rattle.sentry_tables.specs.Norm.{norm}

@@ -4,8 +4,8 @@ use Rattle.std.specs.Prelude.{◌&&◌, is_some, not}
 use Rattle.std.proofs.lemmas.Option.{same_Some}
 use Rattle.serde_json.specs.Data.{Data, Members, object}
 use Rattle.serde_json.specs.Find.{as_object}
-use Rattle.sentry_trees.specs.Keys.{is_among, are_distinct, StandsAt}
-use Rattle.sentry_trees.proofs.Beside.{among}
+use Rattle.sentry_json.specs.Keys.{is_among, are_distinct, StandsAt}
+use Rattle.sentry_json.proofs.Beside.{among}
 use Rattle.sentry_tables.specs.Cell.{Cell, choice, fields, no_cells}
 use Rattle.sentry_tables.specs.Kind.{table, tagged, no_rows, Cases, no_cases, case, words, tag, without}
 use Rattle.sentry_tables.specs.Shows.{Shows, CaseShows, is_object, IsChoice, word_of, members_in}

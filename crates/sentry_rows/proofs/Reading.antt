@@ -10,7 +10,7 @@ use Rattle.sentry_tables.specs.Shows.{Shows, RowShows, RowsShow, AreFields, memb
 use Rattle.sentry_members.specs.Reading.{Shown, RowShown, RowRefused, Reads, ReadsRow, Refused, RowShownAt, RowRefusedAt, ReadsAt, ReadsRowAt, ShownAt, RefusedAt}
 use Rattle.sentry_members.specs.declared.error.TreeError.{TreeError}
 use Rattle.sentry_members.specs.declared.error.TreeError.TheVariants.{Misfit, Memory}
-use Rattle.sentry_trees.specs.Nodes.{tree_of}
+use Rattle.sentry_json.specs.Nodes.{tree_of}
 use Rattle.sentry_rows.specs.declared.reader.Reader.{Reader}
 use Rattle.sentry_rows.specs.Fields.{Keeps, Ends, ReadsField, ReadsFields, ReadsOthers, ReadsKept, ReadsFieldAt, ReadsFieldsAt, read_of}
 use Rattle.sentry_rows.proofs.RowLemmas.{must_missing_at, must_read_at, default_read, default_read_at}

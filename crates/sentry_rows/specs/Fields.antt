@@ -1,7 +1,7 @@
 -- What a reader of a table's rows has read.
 use Rattle.std.specs.Prelude.{◌≡◌, ◌⊎◌, List, [], ◌∷◌, ℕ, Some, None, Result, Ok, Err, ⊤}
 use Rattle.serde_json.specs.Data.{Data, Members}
-use Rattle.sentry_trees.specs.Nodes.{tree_of}
+use Rattle.sentry_json.specs.Nodes.{tree_of}
 use Rattle.sentry_tables.specs.Cell.{Cell, Cells, no_cells, cell}
 use Rattle.sentry_tables.specs.Fields.{Field}
 use Rattle.sentry_tables.specs.Kind.{Rule, Kind, Rows, no_rows, row, without}

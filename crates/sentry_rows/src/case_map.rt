@@ -12,11 +12,11 @@ use crate::cased::{AsCase, Cased, ReadCasedAt};
 use crate::timed::ReadCodecAt;
 use json::Writer;
 use rand_core::Rng;
+use sentry_json::Node;
+use sentry_json::keys::place;
 use sentry_members::codec::DefaultedCodec;
 use sentry_members::{Codec, Formed, Member, TreeError, Way};
 use sentry_moments::Moment;
-use sentry_trees::Node;
-use sentry_trees::keys::place;
 use serde_json::{Map, Value};
 use std::alloc::{AllocError, Global};
 
@@ -52,8 +52,8 @@ impl<T: CasedByKey> Codec<Map<String, T>> for AsCaseMap {
     }
 
     #[tactic(auto, using(crate::proofs::CaseMaps::map_made))]
-    fn remade(value: &Map<String, T>, way: Way) -> Result<Map<String, T>, AllocError> {
-        value.remade(way)
+    fn remake(value: &Map<String, T>, way: Way) -> Result<Map<String, T>, AllocError> {
+        value.remake(way)
     }
 
     fn is_null_tree(_value: &Map<String, T>) -> bool {
@@ -113,7 +113,8 @@ fn read_entry<T: ReadCasedAt, N: Node, R: Rng>(
     now: Moment,
     ids: &mut R,
 ) -> Result<T, TreeError>
-    ensures { ReadsEntryAt (moment_cell now) T.cases fallback.now T.choice_of key.now (N.data_of node.now) result }
+    ensures { ReadsEntryAt (moment_cell now) T.cases fallback.now T.choice_of key.now
+        (N.data_of node.now) result }
 {
     let Some(word) = entry_word::<T, N>(node, key, fallback) else {
         return Err(TreeError::Misfit);
@@ -135,10 +136,11 @@ pub fn read_case_map<T: ReadCasedAt, N: Node, R: Rng>(
     now: Moment,
     ids: &mut R,
 ) -> Result<Map<String, T>, TreeError>
-    ensures { ReadsAt (moment_cell now) (tagged_map T.cases fallback.now) (λ m. map_cell T.choice_of m.entries)
+    ensures { ReadsAt (moment_cell now) (tagged_map T.cases fallback.now) (λ m.
+        map_cell T.choice_of m.entries)
         (N.data_of node.now) result }
 {
-    let members = match node.named(alloc)? {
+    let members = match node.members(alloc)? {
         Some(members) => members,
         None => return Err(TreeError::Misfit),
     };

@@ -3,7 +3,7 @@
 ghost use Rattle.std.specs.Prelude.{◌≡◌, ℕ, List, IfOk, true, map as map_list};
 ghost use Rattle.serde_json.specs.Data.{Members, no_members};
 ghost use Rattle.serde_json.specs.View.{members_view};
-ghost use Rattle.sentry_trees.specs.Keys.{are_distinct};
+ghost use Rattle.sentry_json.specs.Keys.{are_distinct};
 ghost use Rattle.sentry_tables.specs.Cell.{Cell, Cells, fields, no_cells};
 ghost use Rattle.sentry_tables.specs.Fields.{rows_of, cells_by};
 ghost use Rattle.sentry_tables.specs.Kind.{Cases, Rows, Other, ignored, kept, no_rows, table, tagged, words};
@@ -18,10 +18,10 @@ use crate::taken::{PlainCase, TextCase, TreeCase};
 use crate::timed::ReadCodecAt;
 use json::Writer;
 use rand_core::Rng;
+use sentry_json::Node;
+use sentry_json::keys::place;
 use sentry_members::{Codec, ReadCodec, TreeError, Way};
 use sentry_moments::Moment;
-use sentry_trees::Node;
-use sentry_trees::keys::place;
 use sentry_writing::kept::copy_others;
 use sentry_writing::table::leave;
 use sentry_writing::{KeptTable, Table};
@@ -35,15 +35,18 @@ pub trait CaseSink {
 
     /// A case that ignores members of other keys.
     fn table<T: Table>(&mut self, word: &str, value: &T)
-        ensures { Takes self.old self.new word.now (rows_of T.lines) ignored (cells_by T.lines value.now) no_members };
+        ensures { Takes self.old self.new word.now (rows_of T.lines) ignored
+            (cells_by T.lines value.now) no_members };
 
     /// A case that keeps members of other keys.
-    fn kept<T: KeptTable>(&mut self, word: &str, value: &T)
-        ensures { Takes self.old self.new word.now (rows_of T.lines) (kept T.reserved) (cells_by T.lines value.now) (T.others_of value.now) };
+    fn keep<T: KeptTable>(&mut self, word: &str, value: &T)
+        ensures { Takes self.old self.new word.now (rows_of T.lines) (kept T.reserved)
+            (cells_by T.lines value.now) (T.others_of value.now) };
 
     /// A case without rows, which keeps all members but the tag.
     fn members(&mut self, word: &str, members: &Map<String, Value>)
-        ensures { Takes self.old self.new word.now no_rows but_tag no_cells (members_view members.now.entries) };
+        ensures { Takes self.old self.new word.now no_rows but_tag no_cells
+            (members_view members.now.entries) };
 }
 
 /// A type that is one of several cases.
@@ -63,7 +66,7 @@ pub trait Cased: Sized + Drop {
         ensures { TakesCase (S.Takes to.old to.new) Self.cases (choice_of self.now) };
 
     /// The same value, or its normal form. It fails where memory runs out.
-    fn made(&self, way: Way) -> Result<Self, AllocError>
+    fn remake_case(&self, way: Way) -> Result<Self, AllocError>
         ensures { IfOk result (λ v. MakesCase way Self.cases (choice_of self.now) (choice_of v)) };
 
     ghost distinct: { are_distinct (words cases) ≡ true };
@@ -91,7 +94,8 @@ pub trait ReadCasedAt: Cased {
         now: Moment,
         ids: &mut R,
     ) -> Result<Self, TreeError>
-        ensures { ReadsCaseAt (moment_cell now) Self.cases Self.choice_of case (N.data_of node.now) result };
+        ensures { ReadsCaseAt (moment_cell now) Self.cases Self.choice_of case
+            (N.data_of node.now) result };
 }
 
 /// The form of the values of a type of several cases.
@@ -121,8 +125,8 @@ impl<T: Cased> Codec<T> for AsCase {
     }
 
     #[tactic(auto, using(crate::proofs::CasesGiven::case_made))]
-    fn remade(value: &T, way: Way) -> Result<T, AllocError> {
-        value.made(way)
+    fn remake(value: &T, way: Way) -> Result<T, AllocError> {
+        value.remake_case(way)
     }
 
     fn is_null_tree(_value: &T) -> bool {
@@ -172,7 +176,8 @@ impl<T: ReadCasedAt> ReadCodecAt<T> for AsCase {
 /// Fails with `Misfit` where the tree is no object, and with `Memory` where memory is refused.
 #[tactic(auto, using(crate::proofs::Answering::no_object_fails))]
 pub fn read_members<N: Node>(alloc: Global, node: &N) -> Result<Map<String, Value>, TreeError>
-    ensures { Reads (table no_rows but_tag) (λ m. fields no_cells (members_view m.entries)) (N.data_of node.now) result }
+    ensures { Reads (table no_rows but_tag) (λ m.
+        fields no_cells (members_view m.entries)) (N.data_of node.now) result }
 {
     let mut from = Reader::new(alloc, node)?;
     let members = from.others(&["type"]);

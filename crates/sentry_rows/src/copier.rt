@@ -7,7 +7,7 @@ ghost use Rattle.sentry_members.specs.Cells.{text_cell, cow_cell, option_cell, l
 ghost use Rattle.sentry_members.specs.Kinds.{text_kind};
 ghost use Rattle.sentry_rows.specs.Copied.{CopiesField, CopiesFields, CopiesOthers, CopiesKept};
 
-use sentry_members::codec::{remade_option_as, remade_strict_as};
+use sentry_members::codec::{remake_option_as, remake_strict_as};
 use sentry_members::{Codec, Member, Own, Way};
 use sentry_writing::kept::copy_others;
 use sentry_writing::{KeptTable, Table, Values};
@@ -18,15 +18,17 @@ use std::borrow::CowStr;
 /// A table whose values are copied row by row.
 pub trait CopyTable: Table {
     /// The same value, or its normal form, while nothing fails.
-    fn copied(&self, copies: &mut Copier) -> Result<Self, AllocError>
+    fn copy_rows(&self, copies: &mut Copier) -> Result<Self, AllocError>
         ensures { IfOk result (λ v. CopiesFields Self.lines self.now v copies.old copies.new) };
 }
 
 /// A table that keeps other members and is copied row by row.
 pub trait CopyKept: KeptTable {
     /// The same value, or its normal form, while nothing fails.
-    fn copied(&self, copies: &mut Copier) -> Result<Self, AllocError>
-        ensures { IfOk result (λ v. CopiesKept Self.lines self.now v (Self.others_of self.now) (Self.others_of v) copies.old copies.new) };
+    fn copy_rows(&self, copies: &mut Copier) -> Result<Self, AllocError>
+        ensures { IfOk result (λ v.
+            CopiesKept Self.lines self.now v (Self.others_of self.now)
+            (Self.others_of v) copies.old copies.new) };
 }
 
 /// What copies rows: each is the same, or its normal form.
@@ -70,9 +72,10 @@ impl Copier {
     /// A value that may be absent or null.
     #[tactic(auto, using(crate::proofs::Copying::row_copied, crate::proofs::Copying::copied_failed))]
     pub fn optional_as<F: Codec<X>, X: Drop>(&mut self, value: &Option<X>) -> Option<X>
-        ensures { CopiesField may F.kind (option_cell F.cell_of value.now) (option_cell F.cell_of result) self.old self.new }
+        ensures { CopiesField may F.kind (option_cell F.cell_of value.now)
+            (option_cell F.cell_of result) self.old self.new }
     {
-        match remade_option_as::<F, X>(value, self.way) {
+        match remake_option_as::<F, X>(value, self.way) {
             Ok(copy) => copy,
             Err(error) => self.refuse(error, None),
         }
@@ -80,7 +83,8 @@ impl Copier {
 
     /// A value that may be absent or null.
     pub fn optional<X: Member>(&mut self, value: &Option<X>) -> Option<X>
-        ensures { CopiesField may X.kind (option_cell X.cell_of value.now) (option_cell X.cell_of result) self.old self.new }
+        ensures { CopiesField may X.kind (option_cell X.cell_of value.now)
+            (option_cell X.cell_of result) self.old self.new }
     {
         self.optional_as::<Own, X>(value)
     }
@@ -88,9 +92,10 @@ impl Copier {
     /// A value that may be absent, but not null.
     #[tactic(auto, using(crate::proofs::Copying::row_copied, crate::proofs::Copying::copied_failed))]
     pub fn optional_strict_as<F: Codec<X>, X: Drop>(&mut self, value: &Option<X>) -> Option<X>
-        ensures { CopiesField may_strict F.kind (option_cell F.cell_of value.now) (option_cell F.cell_of result) self.old self.new }
+        ensures { CopiesField may_strict F.kind (option_cell F.cell_of value.now)
+            (option_cell F.cell_of result) self.old self.new }
     {
-        match remade_strict_as::<F, X>(value, self.way) {
+        match remake_strict_as::<F, X>(value, self.way) {
             Ok(copy) => copy,
             Err(error) => self.refuse(error, None),
         }
@@ -99,9 +104,10 @@ impl Copier {
     /// A value that takes no memory.
     #[tactic(auto, using(crate::proofs::Copying::whole_copied, crate::proofs::Copying::copied_failed))]
     pub fn plain_as<F: Codec<X>, X: Copy>(&mut self, value: &X) -> X
-        ensures { CopiesField must F.kind (F.cell_of value.now) (F.cell_of result) self.old self.new }
+        ensures { CopiesField must F.kind (F.cell_of value.now)
+            (F.cell_of result) self.old self.new }
     {
-        match F::remade(value, self.way) {
+        match F::remake(value, self.way) {
             Ok(copy) => copy,
             Err(error) => self.refuse(error, *value),
         }
@@ -109,7 +115,8 @@ impl Copier {
 
     /// A value that takes no memory.
     pub fn plain<X: Member + Copy>(&mut self, value: &X) -> X
-        ensures { CopiesField must X.kind (X.cell_of value.now) (X.cell_of result) self.old self.new }
+        ensures { CopiesField must X.kind (X.cell_of value.now)
+            (X.cell_of result) self.old self.new }
     {
         self.plain_as::<Own, X>(value)
     }
@@ -117,9 +124,10 @@ impl Copier {
     /// A text.
     #[tactic(auto, using(crate::proofs::Copying::whole_copied, crate::proofs::Copying::copied_failed))]
     pub fn text(&mut self, text: &String) -> String
-        ensures { CopiesField must text_kind (text_cell text.now) (text_cell result) self.old self.new }
+        ensures { CopiesField must text_kind (text_cell text.now)
+            (text_cell result) self.old self.new }
     {
-        match text.remade(self.way) {
+        match text.remake(self.way) {
             Ok(copy) => copy,
             Err(error) => self.refuse(error, String::new(*text.allocator())),
         }
@@ -128,9 +136,10 @@ impl Copier {
     /// A text that may be borrowed.
     #[tactic(auto, using(crate::proofs::Copying::whole_copied, crate::proofs::Copying::copied_failed))]
     pub fn cow<'a>(&mut self, text: &CowStr<'a>) -> CowStr<'a>
-        ensures { CopiesField must text_kind (cow_cell text.now) (cow_cell result) self.old self.new }
+        ensures { CopiesField must text_kind (cow_cell text.now)
+            (cow_cell result) self.old self.new }
     {
-        match text.remade(self.way) {
+        match text.remake(self.way) {
             Ok(copy) => copy,
             Err(error) => self.refuse(error, CowStr::Borrowed("")),
         }
@@ -139,9 +148,10 @@ impl Copier {
     /// A list.
     #[tactic(auto, using(crate::proofs::Copying::whole_copied, crate::proofs::Copying::copied_failed))]
     pub fn list<X: Member>(&mut self, list: &Vec<X>) -> Vec<X>
-        ensures { CopiesField must (list_kind X.kind) (list_cell X.cell_of list.now.items) (list_cell X.cell_of result.items) self.old self.new }
+        ensures { CopiesField must (list_kind X.kind) (list_cell X.cell_of list.now.items)
+            (list_cell X.cell_of result.items) self.old self.new }
     {
-        match list.remade(self.way) {
+        match list.remake(self.way) {
             Ok(copy) => copy,
             Err(error) => self.refuse(error, Vec::new(*list.allocator())),
         }
@@ -150,9 +160,10 @@ impl Copier {
     /// A list under the key `values`.
     #[tactic(auto, using(crate::proofs::Copying::whole_copied, crate::proofs::Copying::copied_failed))]
     pub fn values<X: Member>(&mut self, list: &Values<X>) -> Values<X>
-        ensures { CopiesField must (values_kind X.kind) (list_cell X.cell_of list.now.values.items) (list_cell X.cell_of result.values.items) self.old self.new }
+        ensures { CopiesField must (values_kind X.kind) (list_cell X.cell_of list.now.values.items)
+            (list_cell X.cell_of result.values.items) self.old self.new }
     {
-        match list.remade(self.way) {
+        match list.remake(self.way) {
             Ok(copy) => copy,
             Err(error) => self.refuse(
                 error,
@@ -166,21 +177,25 @@ impl Copier {
     /// A value for which no other stands in. It fails where memory runs out.
     #[tactic(auto, using(crate::proofs::Copying::whole_copied))]
     pub fn of_as<F: Codec<X>, X>(&mut self, value: &X) -> Result<X, AllocError>
-        ensures { IfOk result (λ v. CopiesField must F.kind (F.cell_of value.now) (F.cell_of v) self.old self.new) }
+        ensures { IfOk result (λ v.
+            CopiesField must F.kind (F.cell_of value.now) (F.cell_of v) self.old self.new) }
     {
-        F::remade(value, self.way)
+        F::remake(value, self.way)
     }
 
     /// A value for which no other stands in. It fails where memory runs out.
     pub fn of<X: Member>(&mut self, value: &X) -> Result<X, AllocError>
-        ensures { IfOk result (λ v. CopiesField must X.kind (X.cell_of value.now) (X.cell_of v) self.old self.new) }
+        ensures { IfOk result (λ v.
+            CopiesField must X.kind (X.cell_of value.now) (X.cell_of v) self.old self.new) }
     {
         self.of_as::<Own, X>(value)
     }
 
     /// A map. It fails where memory runs out.
     pub fn map<X: Member>(&mut self, map: &Map<String, X>) -> Result<Map<String, X>, AllocError>
-        ensures { IfOk result (λ m. CopiesField must (map_kind X.kind) (map_cell X.cell_of map.now.entries) (map_cell X.cell_of m.entries) self.old self.new) }
+        ensures { IfOk result (λ m.
+            CopiesField must (map_kind X.kind) (map_cell X.cell_of map.now.entries)
+            (map_cell X.cell_of m.entries) self.old self.new) }
     {
         self.of(map)
     }
@@ -188,7 +203,9 @@ impl Copier {
     /// Members that no row names. It fails where memory runs out.
     #[tactic(auto, using(crate::proofs::Copying::others_copied))]
     pub fn others(&mut self, others: &Map<String, Value>) -> Result<Map<String, Value>, AllocError>
-        ensures { IfOk result (λ m. CopiesOthers (members_view others.now.entries) (members_view m.entries) self.old self.new) }
+        ensures { IfOk result (λ m.
+            CopiesOthers (members_view others.now.entries)
+            (members_view m.entries) self.old self.new) }
     {
         copy_others(others)
     }

@@ -2,11 +2,11 @@
 
 ghost use Rattle.sentry_tables.specs.Kind.{draw};
 ghost use Rattle.sentry_members.specs.Reading.{ReadsRow};
-ghost use Rattle.sentry_trees.specs.Nodes.{tree_of};
+ghost use Rattle.sentry_json.specs.Nodes.{tree_of};
 
 use rand_core::Rng;
+use sentry_json::{Node, Object};
 use sentry_members::{Drawn, TreeError};
-use sentry_trees::{Node, Object};
 use std::alloc::Global;
 
 /// A row that is drawn where it is absent.
@@ -17,7 +17,8 @@ pub fn or_drawn_as<F: Drawn<T>, T, R: Rng, N: Node>(
     key: &str,
     ids: &mut R,
 ) -> Result<T, TreeError>
-    ensures { ReadsRow key.now (draw F.IsDrawn) F.kind F.cell_of (tree_of N.data_of object.now) result }
+    ensures { ReadsRow key.now (draw F.IsDrawn) F.kind F.cell_of
+        (tree_of N.data_of object.now) result }
 {
     match object.get(key) {
         Some(member) => F::from_node(alloc, member),

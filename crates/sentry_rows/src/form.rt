@@ -10,9 +10,9 @@ use crate::reader::Reader;
 use crate::timed::ReadCodecAt;
 use json::Writer;
 use rand_core::Rng;
+use sentry_json::Node;
 use sentry_members::{Codec, ReadCodec, TreeError, Way};
 use sentry_moments::Moment;
-use sentry_trees::Node;
 use sentry_writing::beside::{Kept, Tag};
 use sentry_writing::kept::others_are_plain;
 use sentry_writing::plain::rows_are_plain;
@@ -38,9 +38,9 @@ impl<T: CopyTable> Codec<T> for AsTable {
         write_table(value, out)
     }
 
-    fn remade(value: &T, way: Way) -> Result<T, AllocError> {
+    fn remake(value: &T, way: Way) -> Result<T, AllocError> {
         let mut copies = Copier::new(way);
-        let copy = CopyTable::copied(value, &mut copies)?;
+        let copy = CopyTable::copy_rows(value, &mut copies)?;
         copies.end(copy)
     }
 
@@ -92,9 +92,9 @@ impl<T: CopyKept> Codec<T> for AsKept {
         write_rows(value, Tag::none(), Kept::new(value.others()), out)
     }
 
-    fn remade(value: &T, way: Way) -> Result<T, AllocError> {
+    fn remake(value: &T, way: Way) -> Result<T, AllocError> {
         let mut copies = Copier::new(way);
-        let copy = CopyKept::copied(value, &mut copies)?;
+        let copy = CopyKept::copy_rows(value, &mut copies)?;
         copies.end(copy)
     }
 

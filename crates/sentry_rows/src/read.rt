@@ -8,8 +8,8 @@ ghost use Rattle.sentry_moments.specs.Moments.{moment_cell};
 
 use crate::reader::Reader;
 use rand_core::Rng;
+use sentry_json::Node;
 use sentry_moments::Moment;
-use sentry_trees::Node;
 use sentry_writing::{KeptTable, Table};
 
 /// A table that is read row by row.
@@ -23,7 +23,8 @@ pub trait ReadTable: Table {
 pub trait ReadKept: KeptTable {
     /// The value whose rows a tree shows, with its other members, while nothing fails.
     fn read<N: Node>(from: &mut Reader<'_, N>) -> Self
-        ensures { ReadsKept N.data_of Self.lines (Self.reserved ++ keys (rows_of Self.lines)) result (Self.others_of result) from.old from.new };
+        ensures { ReadsKept N.data_of Self.lines (Self.reserved ++
+            keys (rows_of Self.lines)) result (Self.others_of result) from.old from.new };
 }
 
 /// A table that is read row by row at a moment, with ids at hand.

@@ -8,16 +8,17 @@ ghost use Rattle.sentry_rows.specs.Fields.{ReadsFieldAt};
 use crate::reader::Reader;
 use crate::timed::{FromTreeAt, ReadCodecAt, now_or_as, read_list_at};
 use rand_core::Rng;
+use sentry_json::Node;
 use sentry_members::{ReadCodec, TreeError};
 use sentry_moments::Moment;
-use sentry_trees::Node;
 use sentry_writing::values::{AsValues, Values};
 
 impl<'t, N: Node> Reader<'t, N> {
     /// A moment that is `now` where it is absent.
     #[tactic(auto, using(crate::proofs::Reading::field_kept_at))]
     pub fn at_once_as<F: ReadCodec<Moment>>(&mut self, key: &str, now: Moment) -> Moment
-        ensures { ReadsFieldAt N.data_of (F.cell_of now) key.now at_once F.kind (F.cell_of result) self.old self.new }
+        ensures { ReadsFieldAt N.data_of (F.cell_of now) key.now at_once F.kind
+            (F.cell_of result) self.old self.new }
     {
         let read = now_or_as::<F, N>(self.alloc, &self.object, key, now);
         self.keep(read, now)
@@ -32,7 +33,8 @@ impl<'t, N: Node> Reader<'t, N> {
         now: Moment,
         ids: &mut R,
     ) -> X
-        ensures { ReadsFieldAt N.data_of (moment_cell now) key.now (default_rule (F.cell_of default)) F.kind (F.cell_of result) self.old self.new }
+        ensures { ReadsFieldAt N.data_of (moment_cell now) key.now
+            (default_rule (F.cell_of default)) F.kind (F.cell_of result) self.old self.new }
     {
         let Some(member) = self.object.get(key) else {
             return default;
@@ -49,7 +51,8 @@ impl<'t, N: Node> Reader<'t, N> {
         now: Moment,
         ids: &mut R,
     ) -> Vec<X>
-        ensures { ReadsFieldAt N.data_of (moment_cell now) key.now must (list_kind X.kind) (list_cell X.cell_of result.items) self.old self.new }
+        ensures { ReadsFieldAt N.data_of (moment_cell now) key.now must (list_kind X.kind)
+            (list_cell X.cell_of result.items) self.old self.new }
     {
         let Some(member) = self.object.get(key) else {
             return self.keep(Err(TreeError::Misfit), Vec::new(self.alloc));
@@ -65,7 +68,8 @@ impl<'t, N: Node> Reader<'t, N> {
         now: Moment,
         ids: &mut R,
     ) -> Values<X>
-        ensures { ReadsFieldAt N.data_of (moment_cell now) key.now (default_rule empty_list) (values_kind X.kind) (list_cell X.cell_of result.values.items) self.old self.new }
+        ensures { ReadsFieldAt N.data_of (moment_cell now) key.now (default_rule empty_list)
+            (values_kind X.kind) (list_cell X.cell_of result.values.items) self.old self.new }
     {
         let none = Values {
             values: Vec::new(self.alloc),

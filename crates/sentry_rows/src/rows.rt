@@ -2,7 +2,7 @@
 
 ghost use Rattle.std.specs.Prelude.{◌≡◌, IfOk, IfErr, map as map_list};
 ghost use Rattle.serde_json.specs.View.{members_view};
-ghost use Rattle.sentry_trees.specs.Nodes.{tree_of};
+ghost use Rattle.sentry_json.specs.Nodes.{tree_of};
 ghost use Rattle.sentry_tables.specs.Cell.{text};
 ghost use Rattle.sentry_tables.specs.Kind.{must, may, may_strict, default as default_rule, without};
 ghost use Rattle.sentry_tables.specs.Shows.{members_in};
@@ -11,9 +11,9 @@ ghost use Rattle.sentry_members.specs.Kinds.{text_kind};
 ghost use Rattle.sentry_members.specs.Reading.{ReadsRow};
 ghost use Rattle.sentry_members.specs.declared.error.TreeError.TheVariants.{Memory};
 
+use sentry_json::{Node, Object};
 use sentry_members::codec::DefaultedCodec;
 use sentry_members::{FromTree, ReadCodec, TreeError};
-use sentry_trees::{Node, Object};
 use serde_json::{Map, Value};
 use std::alloc::{AllocError, Global};
 
@@ -39,7 +39,8 @@ pub(crate) fn optional_as<F: ReadCodec<T>, T, N: Node>(
     object: &Object<'_, N>,
     key: &str,
 ) -> Result<Option<T>, TreeError>
-    ensures { ReadsRow key.now may F.kind (option_cell F.cell_of) (tree_of N.data_of object.now) result }
+    ensures { ReadsRow key.now may F.kind (option_cell F.cell_of)
+        (tree_of N.data_of object.now) result }
 {
     match object.get(key) {
         None => Ok(None),
@@ -55,7 +56,8 @@ pub(crate) fn optional_strict_as<F: ReadCodec<T>, T, N: Node>(
     object: &Object<'_, N>,
     key: &str,
 ) -> Result<Option<T>, TreeError>
-    ensures { ReadsRow key.now may_strict F.kind (option_cell F.cell_of) (tree_of N.data_of object.now) result }
+    ensures { ReadsRow key.now may_strict F.kind (option_cell F.cell_of)
+        (tree_of N.data_of object.now) result }
 {
     let Some(member) = object.get(key) else {
         return Ok(None);
@@ -71,7 +73,8 @@ pub(crate) fn text_or<N: Node>(
     key: &str,
     default: &str,
 ) -> Result<String, TreeError>
-    ensures { ReadsRow key.now (default_rule (text default.now)) text_kind text_cell (tree_of N.data_of object.now) result }
+    ensures { ReadsRow key.now (default_rule (text default.now)) text_kind text_cell
+        (tree_of N.data_of object.now) result }
 {
     match object.get(key) {
         Some(member) => FromTree::from_node(alloc, member),
@@ -93,7 +96,8 @@ pub(crate) fn made_as<F: MadeCodec<T>, T, N: Node>(
     object: &Object<'_, N>,
     key: &str,
 ) -> Result<T, TreeError>
-    ensures { ReadsRow key.now (default_rule F.usual) F.kind F.cell_of (tree_of N.data_of object.now) result }
+    ensures { ReadsRow key.now (default_rule F.usual) F.kind F.cell_of
+        (tree_of N.data_of object.now) result }
 {
     match object.get(key) {
         Some(member) => F::from_node(alloc, member),
@@ -109,7 +113,8 @@ pub(crate) fn others<N: Node>(
     names: &[&str],
 ) -> Result<Map<String, Value>, TreeError>
     ensures ok { IfOk result (λ m. members_view m.entries
-        ≡ without (map_list (λ name. name.now) names.now) (members_in (tree_of N.data_of object.now))) }
+        ≡ without (map_list (λ name.
+        name.now) names.now) (members_in (tree_of N.data_of object.now))) }
     ensures err { IfErr result (λ e. e ≡ Memory) }
 {
     Ok(object.members_beside(alloc, names)?)

@@ -3,7 +3,7 @@
 ghost use Rattle.std.specs.Prelude.{◌≡◌, None, option_map};
 ghost use Rattle.sentry_tables.specs.Shows.{word_of};
 
-use sentry_trees::Node;
+use sentry_json::Node;
 
 /// The word of a tree, if one is there.
 #[tactic(auto, using(crate::proofs::TagsShown::word_there, crate::proofs::TagsShown::word_absent))]

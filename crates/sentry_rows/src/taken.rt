@@ -40,7 +40,7 @@ impl CaseSink for TreeCase {
         self.tree = case_tree(value, word, TreeRows::new(self.alloc));
     }
 
-    fn kept<T: KeptTable>(&mut self, word: &str, value: &T) {
+    fn keep<T: KeptTable>(&mut self, word: &str, value: &T) {
         let rows = TreeRows::with_others(self.alloc, value.others());
         self.tree = case_tree(value, word, rows);
     }
@@ -61,13 +61,14 @@ pub(crate) struct TextCase<'w> {
 impl<'w> CaseSink for TextCase<'w> {
     ghost use Rattle.std.specs.Prelude.{◌≡◌};
 
-    ghost Takes = { λ a b w rows o cs ms. (b.out.ghost_name ≡ a.out.ghost_name) × WritesCase a.out.now b.out.now b.wrote w rows o cs ms };
+    ghost Takes = { λ a b w rows o cs ms. (b.out.ghost_name ≡ a.out.ghost_name) ×
+        WritesCase a.out.now b.out.now b.wrote w rows o cs ms };
 
     fn table<T: Table>(&mut self, word: &str, value: &T) {
         self.wrote = write_case(value, word, NoOthers, &mut *self.out);
     }
 
-    fn kept<T: KeptTable>(&mut self, word: &str, value: &T) {
+    fn keep<T: KeptTable>(&mut self, word: &str, value: &T) {
         self.wrote = write_case(value, word, Kept::new(value.others()), &mut *self.out);
     }
 
@@ -89,7 +90,7 @@ impl CaseSink for PlainCase {
         self.plain = rows_are_plain(value);
     }
 
-    fn kept<T: KeptTable>(&mut self, _word: &str, value: &T) {
+    fn keep<T: KeptTable>(&mut self, _word: &str, value: &T) {
         self.plain = rows_are_plain(value) && others_are_plain(value.others(), T::names());
     }
 

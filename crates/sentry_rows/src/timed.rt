@@ -7,12 +7,12 @@ ghost use Rattle.sentry_tables.specs.Kind.{at_once, list as list_kind, values as
 ghost use Rattle.sentry_members.specs.Cells.{list_cell};
 ghost use Rattle.sentry_members.specs.Reading.{ReadsAt, ReadsRowAt};
 ghost use Rattle.sentry_moments.specs.Moments.{moment_cell};
-ghost use Rattle.sentry_trees.specs.Nodes.{tree_of};
+ghost use Rattle.sentry_json.specs.Nodes.{tree_of};
 
 use rand_core::Rng;
+use sentry_json::{Node, Object};
 use sentry_members::{Codec, Formed, Member, Own, ReadCodec, TreeError};
 use sentry_moments::Moment;
-use sentry_trees::{Node, Object};
 use sentry_writing::values::{AsValues, Values};
 use serde_json::Value;
 use std::alloc::Global;
@@ -115,7 +115,8 @@ pub fn now_or_as<F: ReadCodec<Moment>, N: Node>(
     key: &str,
     now: Moment,
 ) -> Result<Moment, TreeError>
-    ensures { ReadsRowAt (F.cell_of now) key.now at_once F.kind F.cell_of (tree_of N.data_of object.now) result }
+    ensures { ReadsRowAt (F.cell_of now) key.now at_once F.kind F.cell_of
+        (tree_of N.data_of object.now) result }
 {
     match object.get(key) {
         Some(member) => F::from_node(alloc, member),

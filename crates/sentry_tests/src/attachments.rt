@@ -1,4 +1,6 @@
-// Attachments, recordings and containers: their types, clones and normal forms, items, and writers that fail.
+//! Attachments, recordings and containers: their types, clones and normal forms, items, and writers
+//! that fail.
+
 use crate::wanted::wanted;
 use crate::writers::Full;
 use sentry_types::protocol::v7::{

@@ -1,4 +1,5 @@
-// Attributes that no line of text gives: their trees nest too deep.
+//! Attributes that no line of text gives: their trees nest too deep.
+
 use crate::wanted::wanted;
 use sentry_types::protocol::v7::{
     Log, LogAttribute, LogLevel, Map, Member, Moment, Value, read_line,

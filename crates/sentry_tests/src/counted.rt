@@ -1,4 +1,5 @@
-// Writers and readers that count what fails.
+//! Writers and readers that count what fails.
+
 use crate::wanted::wanted;
 use crate::writers::{Broken, Full};
 use sentry_types::protocol::v7::{CountedReader, CountedWriter};
@@ -6,8 +7,8 @@ use std::alloc::Global;
 use std::io::{Read, Write};
 use std::test::Fail;
 
-/// What a writer with so much room, two bytes at a time, says of one write: whether it answers an error, how many
-/// failures are counted, and how many bytes it holds.
+/// What a writer with so much room, two bytes at a time, says of one write: whether it answers an
+/// error, how many failures are counted, and how many bytes it holds.
 fn after_a_write(alloc: Global, room: usize, bytes: &[u8], by_error: bool) -> (bool, u64, usize) {
     let mut out = CountedWriter::new(Full::new(alloc, room, 2, by_error));
     let refused = out.write(bytes).is_err();

@@ -1,4 +1,5 @@
-// Ids that are drawn.
+//! Ids that are drawn.
+
 ghost use Rattle.std.specs.Prelude.{◌+◌, ◌%◌, ◌^◌};
 ghost use Rattle.rand_core.specs.Steps.{stream_of, steps_u32};
 
@@ -23,7 +24,12 @@ struct Zeros;
 impl Rng for Zeros {
     ghost use Rattle.std.specs.Prelude.{replicate};
 
-    ghost stream = { λ z. record { u32_after = λ cs. 0; u64_after = λ cs. 0; bytes_after = λ cs n. replicate n 0 } };
+    ghost stream = { λ z. record {
+      u32_after = λ cs. 0;
+      u64_after = λ cs. 0;
+      bytes_after = λ cs n.
+          replicate n 0;
+    } };
 
     #[tactic(auto, unfolding(rand_core::specs::Stream::next_u32))]
     fn next_u32(&mut self) -> u32 {
@@ -124,7 +130,8 @@ fn zero_id() -> Uuid {
     Uuid::from_u128(0x0000_0000_0000_4000_8000_0000_0000_0000)
 }
 
-/// Whether the level, the platform, the fingerprint, the software, the moment and the id are those of a new event.
+/// Whether the level, the platform, the fingerprint, the software, the moment and the id are those
+/// of a new event.
 fn is_new(event: &Event<'_>, now: Moment) -> bool {
     let [fingerprint] = event.fingerprint.as_slice() else {
         return false;
@@ -158,7 +165,8 @@ fn new_breadcrumbs(rt: HostRuntime) -> Result<(), Fail> {
     wanted(breadcrumb == read && read.level == Level::Info && read.timestamp == second(5)?)
 }
 
-/// Whether a new transaction has an id of version 4, begins at this moment, and ends at the later one when told to.
+/// Whether a new transaction has an id of version 4, begins at this moment, and ends at the later
+/// one when told to.
 fn ends(alloc: Global, now: Moment, later: Moment) -> bool {
     let mut transaction = Transaction::new(alloc, now, &mut Zeros);
     let begun = transaction.timestamp.is_none();
@@ -181,7 +189,8 @@ fn is_random(id: &Uuid) -> bool {
     bytes[6] >> 4 == 4 && bytes[8] >> 6 == 2
 }
 
-/// Whether a transaction has an id of version 4, and two spans of different ids in different traces.
+/// Whether a transaction has an id of version 4, and two spans of different ids in different
+/// traces.
 fn has_two_spans(transaction: &Transaction<'_>) -> bool {
     match transaction.spans.as_slice() {
         [one, other] => {
@@ -247,13 +256,15 @@ fn rewritten(
     Ok((text, found))
 }
 
-/// The next ids of a generator, drawn in the order of the keys: those of `contexts` come before `event_id`.
+/// The next ids of a generator, drawn in the order of the keys: those of `contexts` come before
+/// `event_id`.
 fn next_ids(ids: &mut Counting) -> (Uuid, SpanId, TraceId) {
     let (span, trace) = (SpanId::random(ids), TraceId::random(ids));
     (random_uuid(ids), span, trace)
 }
 
-/// Two reads of bytes without ids draw each id anew, and no other; what is written has them, and reads back with them.
+/// Two reads of bytes without ids draw each id anew, and no other; what is written has them, and
+/// reads back with them.
 #[test]
 fn two_reads_draw_different_ids(rt: HostRuntime) -> Result<(), Fail> {
     let alloc = rt.alloc();

@@ -1,7 +1,8 @@
-// Envelopes: their memory, their files, and writers that fail.
+//! Envelopes: their memory, their files, and writers that fail.
+
 mod files;
 mod headers;
-mod memory;
+pub(crate) mod memory;
 mod values;
 mod writing;
 

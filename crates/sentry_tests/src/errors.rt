@@ -1,4 +1,6 @@
-// Errors that no line of text brings about, as they are printed, and `Debug` texts of what no line of text shows.
+//! Errors that no line of text brings about, as they are printed, and `Debug` texts of what no line
+//! of text shows.
+
 use crate::wanted::wanted;
 use sentry_types::protocol::v7::client_report::LossSlice;
 use sentry_types::protocol::v7::{

@@ -1,3 +1,5 @@
+//! Filters with a state: closures that count, and callbacks that note what goes.
+
 ghost use Rattle.std.specs.Prelude.{◌≡◌, ◌^◌, ◌-◌, List, Bool, min, length, IfOk};
 ghost use Rattle.sentry_envelope.specs.EnvelopeView.{no_fields};
 ghost use Rattle.sentry_envelope.specs.Filter.{asked_items, chosen, kept, handed, Leaves};
@@ -33,7 +35,8 @@ fn without_attachments(
 
 /// Keeps all that may stay, and counts the items that go.
 fn count_dropped(alloc: Global, envelope: Envelope) -> Result<(Option<Envelope>, u64), Envelope>
-    ensures { IfOk result (λ left. (answers : List Bool) × (length answers ≡ length (asked_items envelope))
+    ensures { IfOk result (λ left. (answers : List Bool) ×
+        (length answers ≡ length (asked_items envelope))
         × Leaves no_fields envelope (kept (chosen (asked_items envelope) answers)) left.0
         × (left.1 ≡ min (length (handed (asked_items envelope) answers)) (2 ^ 64 - 1))) }
 {
@@ -68,7 +71,7 @@ fn noted(alloc: Global, envelope: Envelope) -> (bool, String) {
         |item: &EnvelopeItem| matches!(item, EnvelopeItem::Attachment(_)),
         |item: EnvelopeItem| {
             if let Some(kind) = item.kind() {
-                let _ = words.push_str(kind.word());
+                let _ = words.push_str(kind.as_str());
             }
         },
     );

@@ -1,4 +1,5 @@
-// Frames are asked for again after a refusal of memory; a header alone.
+//! Frames are asked for again after a refusal of memory; a header alone.
+
 use crate::wanted::wanted;
 use sentry_types::protocol::v7::{EnvelopeError, Frames, ItemKind, read_item_header};
 use std::test::Fail;

@@ -1,4 +1,5 @@
-// An enum of the tests as an `IndexedEnum`.
+//! An enum of the tests as an `IndexedEnum`.
+
 ghost use Rattle.std.specs.Prelude.{[], ◌∷◌, refl};
 
 use crate::wanted::wanted;

@@ -1,10 +1,13 @@
-// A ledger of losses: what comes back, what a filter loses, a client that reports, and memory that is refused.
+//! A ledger of losses: what comes back, what a filter loses, a client that reports, and memory that
+//! is refused.
+
 ghost use Rattle.std.specs.Prelude.{◌≡◌, IfErr, IfOk, IfSome, OnErr};
 ghost use Rattle.sentry_reports.specs.ReportSums.{report_sum};
 ghost use Rattle.sentry_reports.specs.declared.category.Category.{Category as Categories};
 ghost use Rattle.sentry_reports.specs.declared.reason.Reason.{Reason as Reasons};
 ghost use Rattle.sentry_ledger.specs.Held.{quantity_held};
 
+use crate::envelopes::memory::read_at_last;
 use crate::envelopes::read;
 use sentry_members::text_of;
 use sentry_types::IndexedEnum;
@@ -12,9 +15,7 @@ use sentry_types::protocol::v7::client_report::{
     Category, ItemLoss, Ledger, LedgerFull, Reason, Report, Step, StepAnswer, filter_recorded,
     run_steps,
 };
-use sentry_types::protocol::v7::{
-    Envelope, EnvelopeError, EnvelopeFilterCallbacks, EnvelopeItem, Moment,
-};
+use sentry_types::protocol::v7::{Envelope, EnvelopeFilterCallbacks, EnvelopeItem, Moment};
 use std::alloc::{AllocError, Global};
 use std::test::Fail;
 
@@ -66,8 +67,8 @@ fn a_refused_loss_comes_back(rt: HostRuntime) -> Result<(), Fail> {
     Ok(())
 }
 
-/// Takes events out of an envelope, records the losses, and counts the items that go. Gives whether nothing is left,
-/// how many losses are refused, and the count.
+/// Takes events out of an envelope, records the losses, and counts the items that go. Gives whether
+/// nothing is left, how many losses are refused, and the count.
 fn counted(alloc: Global, envelope: Envelope, ledger: &mut Ledger) -> Option<(bool, u64, u64)> {
     let mut gone = 0_u64;
     let callbacks = EnvelopeFilterCallbacks::new(
@@ -103,8 +104,8 @@ struct Losses {
 }
 
 impl Losses {
-    /// Takes attachments out of an envelope and records the losses. Returns what is left, and how many losses are
-    /// refused.
+    /// Takes attachments out of an envelope and records the losses. Returns what is left, and how
+    /// many losses are refused.
     fn without_attachments(
         &mut self,
         alloc: Global,
@@ -165,10 +166,12 @@ fn a_client_reports_what_it_drops(rt: HostRuntime) -> Result<(), Fail> {
     Ok(())
 }
 
-// Where memory is refused, the answer says so and all is held as before; the next call is answered. These tests pass
-// with none refused, and with each request refused in turn (`rt try --test --fail-alloc N`).
+// Where memory is refused, the answer says so and all is held as before; the next call is answered.
+// These tests pass with none refused, and with each request refused in turn (`rt try --test
+// --fail-alloc N`).
 
-/// How many items the report of a ledger has, at the second try after a refusal that changed nothing.
+/// How many items the report of a ledger has, at the second try after a refusal that changed
+/// nothing.
 fn flushed_at_last(alloc: Global, ledger: &mut Ledger, now: Moment) -> Result<usize, Fail> {
     let held = all_held(ledger);
     let report = match ledger.flush(alloc, now) {
@@ -188,7 +191,8 @@ fn refused_when_flushing(rt: HostRuntime) -> Result<(), Fail> {
     Ok(())
 }
 
-/// How many losses are held after a flush and a loss, and whether the flush was answered by a report.
+/// How many losses are held after a flush and a loss, and whether the flush was answered by a
+/// report.
 fn run_at_last(alloc: Global, ledger: &mut Ledger, now: Moment) -> Result<(bool, u64), Fail> {
     let held = all_held(ledger);
     let steps = [
@@ -216,20 +220,12 @@ fn refused_when_running_steps(rt: HostRuntime) -> Result<(), Fail> {
     Ok(())
 }
 
-/// The envelope that bytes spell. After a refusal they are read once more.
-fn read_at_last(alloc: Global) -> Result<Envelope, EnvelopeError> {
-    match read(alloc, EVENT_AND_ATTACHMENT) {
-        Err(EnvelopeError::OutOfMemory) => read(alloc, EVENT_AND_ATTACHMENT),
-        answer => answer,
-    }
-}
-
 #[test]
 fn refused_when_recording_a_filter(rt: HostRuntime) -> Result<(), Fail> {
     let alloc = rt.alloc();
     let mut ledger = Ledger::new();
     let none = |_item: &EnvelopeItem| false;
-    let envelope = read_at_last(alloc)?;
+    let envelope = read_at_last(alloc, EVENT_AND_ATTACHMENT)?;
     let told = match filter_recorded(alloc, envelope, none, Reason::SampleRate, &mut ledger) {
         Err(envelope) if ledger.is_empty() => counted(alloc, envelope, &mut ledger),
         Err(_) => None,

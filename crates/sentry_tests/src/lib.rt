@@ -1,8 +1,8 @@
-//! Tests of what no line of text can ask, by public names: drawn ids, orders, memory and writers that fail, filters
-//! with a state. This crate has no code of its own.
+//! Tests of what no line of text can ask, by public names: drawn ids, orders, memory and writers
+//! that fail, filters with a state. This crate has no code of its own.
 //!
-//! A test makes its values and asks them in small calls that answer yes or no, and fails once, by `wanted`: each value
-//! of a large type is walked, and dropped, on every way out of a function.
+//! A test makes its values and asks them in small calls that answer yes or no, and fails once, by
+//! `wanted`: each value of a large type is walked, and dropped, on every way out of a function.
 #![tactic(auto)]
 
 #[cfg(test)]
@@ -21,6 +21,8 @@ mod errors;
 mod filters;
 #[cfg(test)]
 mod frames;
+#[cfg(test)]
+mod guide;
 #[cfg(test)]
 mod indexed;
 #[cfg(test)]

@@ -1,4 +1,5 @@
-// What is lost with sources that no line of text gives: lists of losses, and items alone.
+//! What is lost with sources that no line of text gives: lists of losses, and items alone.
+
 use crate::wanted::wanted;
 use sentry_types::protocol::v7::client_report::{
     Category, Item, ItemLoss, LossSlice, LossSource, Reason,

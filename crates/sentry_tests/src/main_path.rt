@@ -1,4 +1,5 @@
-// What a user of envelopes does, by the names of `sentry_types` alone.
+//! What a user of envelopes does, by the names of `sentry_types` alone.
+
 ghost use Rattle.std.specs.Prelude.{◌≡◌, IfOk};
 ghost use Rattle.sentry_envelope.specs.Envelope.{Envelope as Model, Spells, IsEnvelopeReadable};
 ghost use Rattle.sentry_envelope.specs.SentryProfile.{profile};
@@ -46,8 +47,8 @@ fn read_filtered_and_written(rt: HostRuntime) -> Result<(), Fail> {
     wanted(is_left(alloc, &left, text))
 }
 
-/// The text of the envelope that bytes spell at one moment, and the text of what that text spells at another: one text,
-/// where what the bytes spell is readable.
+/// The text of the envelope that bytes spell at one moment, and the text of what that text spells
+/// at another: one text, where what the bytes spell is readable.
 fn written_twice<R: Rng>(
     alloc: Global,
     bytes: &[u8],
@@ -55,7 +56,8 @@ fn written_twice<R: Rng>(
     later: Moment,
     ids: &mut R,
 ) -> Result<(Vec<u8>, Vec<u8>), Fail>
-    ensures { IfOk result (λ texts. ((e : Model) → Spells profile bytes.now (moment_cell now) e → IsEnvelopeReadable profile e) → texts.0.items ≡ texts.1.items) }
+    ensures { IfOk result (λ texts. ((e : Model) → Spells profile bytes.now (moment_cell now) e →
+        IsEnvelopeReadable profile e) → texts.0.items ≡ texts.1.items) }
 {
     let envelope = Envelope::from_slice(alloc, bytes, now, ids)?;
     let mut text = Vec::new(alloc);

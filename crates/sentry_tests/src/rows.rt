@@ -1,4 +1,5 @@
-// Tables whose other members have keys of rows, which no line of text brings about.
+//! Tables whose other members have keys of rows, which no line of text brings about.
+
 use crate::wanted::wanted;
 use sentry_members::text_of;
 use sentry_types::protocol::v7::{Member, User, Value};

@@ -1,4 +1,6 @@
-// URLs that setters alone can make: they are written as a text that the parser reads as another URL.
+//! URLs that setters alone can make: they are written as a text that the parser reads as another
+//! URL.
+
 use crate::wanted::wanted;
 use sentry_types::protocol::v7::{Codec, ReadCodec, TreeError, Url, UrlText, Value};
 use std::alloc::Global;

@@ -1,4 +1,5 @@
-// What is the same, what comes first, and what is usual; lists under the key `values`.
+//! What is the same, what comes first, and what is usual; lists under the key `values`.
+
 use crate::wanted::wanted;
 use sentry_types::protocol::v7::{
     Addr, CError, ClientSdkPackage, Frame, IpAddress, Level, Moment, PosixSignal, RegVal,

@@ -1,4 +1,5 @@
-// How a test fails.
+//! How a test fails.
+
 use std::test::Fail;
 
 /// Fails where what is wanted doesn't hold.

@@ -1,4 +1,5 @@
-// Writers and readers that fail.
+//! Writers and readers that fail.
+
 use std::alloc::Global;
 use std::io;
 use std::io::{ErrorKind, Read, Write};

@@ -1,2 +1,3 @@
 pub mod Enumerations
 pub mod SampledLaws
+pub mod UnitLaws

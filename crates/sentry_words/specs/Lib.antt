@@ -8,3 +8,4 @@ pub mod Orientation
 pub mod Sampled
 pub mod SessionStatus
 pub mod SpanStatus
+pub mod Units

@@ -1,22 +1,22 @@
-//! Enums whose variants stand in an order.
+//! Enums with an index for each variant.
 
 ghost use Rattle.std.specs.Prelude.{◌≡◌, ◌<◌, ℕ, List, Some, length, slice_get};
 
-/// Marks the traits that the Rust crate seals. Sealing is not enforced here: every type has the mark.
+/// Supertrait that the Rust crate seals; here every type implements it.
 pub trait Sealed {}
 
 impl<T> Sealed for T {}
 
-/// An enum whose variants stand in an order, each at an index of its own.
+/// An enum with an order and an index for each variant.
 pub trait IndexedEnum: Sealed + Sized + 'static {
     ghost variants: { List Self };
 
     ghost index_of: { Self → ℕ };
 
-    /// All variants, in order.
+    /// All variants, by index.
     const VARIANTS: &'static [Self];
 
-    /// The variant's place in [`IndexedEnum::VARIANTS`].
+    /// Returns the variant's index in [`IndexedEnum::VARIANTS`].
     fn as_index(&self) -> usize
         ensures place { result ≡ index_of self.now }
         ensures within { result < length variants };

@@ -1,45 +1,41 @@
-//! How severe an event or a breadcrumb is.
+//! Severity levels of events and breadcrumbs.
 
 ghost use Rattle.std.specs.Prelude.{◌≡◌, ◌↔◌, IsTrue, Some};
 ghost use Rattle.std.specs.Result.{result_ok};
-ghost use Rattle.sentry_members.specs.Spelling.{word_cell};
+ghost use Rattle.sentry_words.specs.Level.{level_word, level_of};
 
-use sentry_members::member::Usual;
-use sentry_members::{AsText, Formed, Room, Spelled, TreeError, Way};
-use std::alloc::{AllocError, Global};
+use sentry_members::Word;
 use std::fmt;
 use std::str::FromStr;
 use thiserror::Error;
 
-/// How severe an event or a breadcrumb is.
+/// Severity of an event or a breadcrumb; defaults to [`Level::Info`].
 ///
-/// The words are those of event payloads: <https://develop.sentry.dev/sdk/data-model/event-payloads/#optional-attributes>.
+/// `info` is also read from `log`.
 ///
-/// `info` is also read from `log`. The default is [`Level::Info`].
+/// <https://develop.sentry.dev/sdk/data-model/event-payloads/#optional-attributes>
 #[derive(Clone, Copy, Debug, Default, PartialEq, Eq, PartialOrd, Ord, Hash)]
 pub enum Level {
-    /// For debugging: `debug`.
+    /// Debugging: `debug`.
     Debug,
-    /// For information: `info`.
+    /// Information: `info`.
     #[default]
     Info,
-    /// A warning: `warning`.
+    /// Warning: `warning`.
     Warning,
-    /// An error: `error`.
+    /// Error: `error`.
     Error,
-    /// An error that ended the program: `fatal`.
+    /// Fatal error, usually a crash: `fatal`.
     Fatal,
 }
 
-/// The text is no level.
+/// Not a known level.
 #[derive(Debug, Drop, Error)]
 #[error("invalid level")]
 pub struct ParseLevelError;
 
 impl Level {
-    ghost use Rattle.sentry_words.specs.Level.{level_word};
-
-    /// The word.
+    /// Returns the word in payloads, such as `info`.
     pub fn as_str(&self) -> &'static str
         ensures { result.now ≡ level_word self.now }
     {
@@ -52,35 +48,35 @@ impl Level {
         }
     }
 
-    /// Whether the level is `debug`.
+    /// Returns true if the level is [`Level::Debug`].
     pub fn is_debug(&self) -> bool
         ensures { IsTrue result ↔ (self.now ≡ Level.Debug) }
     {
         *self == Level::Debug
     }
 
-    /// Whether the level is `info`.
+    /// Returns true if the level is [`Level::Info`].
     pub fn is_info(&self) -> bool
         ensures { IsTrue result ↔ (self.now ≡ Level.Info) }
     {
         *self == Level::Info
     }
 
-    /// Whether the level is `warning`.
+    /// Returns true if the level is [`Level::Warning`].
     pub fn is_warning(&self) -> bool
         ensures { IsTrue result ↔ (self.now ≡ Level.Warning) }
     {
         *self == Level::Warning
     }
 
-    /// Whether the level is `error`.
+    /// Returns true if the level is [`Level::Error`].
     pub fn is_error(&self) -> bool
         ensures { IsTrue result ↔ (self.now ≡ Level.Error) }
     {
         *self == Level::Error
     }
 
-    /// Whether the level is `fatal`.
+    /// Returns true if the level is [`Level::Fatal`].
     pub fn is_fatal(&self) -> bool
         ensures { IsTrue result ↔ (self.now ≡ Level.Fatal) }
     {
@@ -89,8 +85,6 @@ impl Level {
 }
 
 impl fmt::Display for Level {
-    ghost use Rattle.sentry_words.specs.Level.{level_word};
-
     ghost output = { λ v. Some (level_word v) };
 
     fn fmt<W: fmt::Write>(&self, f: &mut fmt::Formatter<W>) -> fmt::Result {
@@ -101,15 +95,13 @@ impl fmt::Display for Level {
 impl FromStr for Level {
     type Err = ParseLevelError;
 
-    ghost use Rattle.sentry_words.specs.Level.{level_of};
-
     ghost from_str_gives = { λ text r. result_ok r ≡ level_of text };
 
-    /// The level of a word.
+    /// Parses a level.
     ///
     /// # Errors
     ///
-    /// `ParseLevelError` where the text is neither the word of a level nor `log`, in lower case.
+    /// `ParseLevelError` if the text is not a known level or `log`, in lower case.
     fn from_str(text: &str) -> Result<Level, ParseLevelError> {
         match text {
             "debug" => Ok(Level::Debug),
@@ -122,38 +114,18 @@ impl FromStr for Level {
     }
 }
 
-impl Formed for Level {
-    type Form = AsText;
-}
+impl Word for Level {
+    ghost word = { level_word };
 
-impl Spelled for Level {
-    ghost use Rattle.sentry_words.specs.Level.{level_word, level_spelling};
+    ghost of_word = { level_of };
 
-    ghost spelling = { level_spelling };
-
-    ghost cell_of = { word_cell level_word };
-
-    fn of_text(_alloc: Global, text: &str) -> Result<Level, TreeError> {
-        match text.parse() {
-            Ok(value) => Ok(value),
-            Err(_) => Err(TreeError::Misfit),
-        }
+    fn word(&self) -> &'static str {
+        self.as_str()
     }
 
-    fn text<'a>(&'a self, _room: &'a mut Room) -> Result<&'a str, AllocError> {
-        Ok(self.as_str())
+    fn of_word(text: &str) -> Option<Level> {
+        text.parse().ok()
     }
 
-    #[tactic(auto, using(sentry_members::proofs::Ways::unchanged))]
-    fn copied(&self, _way: Way) -> Result<Level, AllocError> {
-        Ok(*self)
-    }
-
-    fn hold(&self) {}
-}
-
-impl Usual for Level {
-    fn is(&self, usual: &Level) -> bool {
-        *self == *usual
-    }
+    ghost copies = { λ value copy same. same };
 }

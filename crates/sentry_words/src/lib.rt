@@ -1,4 +1,4 @@
-//! Words that the protocol's types share: enumerations, and truth values as texts.
+//! Enumerations of the protocol that are JSON strings, and booleans as strings.
 #![tactic(auto)]
 
 pub mod indexed;
@@ -13,6 +13,7 @@ pub mod parse_word_error;
 pub mod sampled;
 pub mod session_status;
 pub mod span_status;
+mod unit;
 
 pub use indexed::{IndexedEnum, Sealed};
 pub use level::{Level, ParseLevelError};
@@ -25,3 +26,4 @@ pub use parse_word_error::ParseWordError;
 pub use sampled::Sampled;
 pub use session_status::{ParseSessionStatusError, SessionStatus};
 pub use span_status::{ParseStatusError, SpanStatus};
+pub use unit::Unit;

@@ -1,37 +1,34 @@
-//! How severe a log is.
+//! Severity levels of logs.
 
 ghost use Rattle.std.specs.Prelude.{◌≡◌};
 ghost use Rattle.std.specs.Result.{result_ok};
-ghost use Rattle.sentry_members.specs.Spelling.{word_cell};
+ghost use Rattle.sentry_words.specs.LogLevel.{log_level_word, log_level_of};
 
 use crate::parse_word_error::ParseWordError;
-use sentry_members::{AsText, Formed, Room, Spelled, TreeError, Way};
-use std::alloc::{AllocError, Global};
+use sentry_members::Word;
 use std::str::FromStr;
 
-/// How severe a log is.
+/// Severity of a log.
 ///
-/// The words are those of logs: <https://develop.sentry.dev/sdk/telemetry/logs/#log-severity-level>.
+/// <https://develop.sentry.dev/sdk/telemetry/logs/#log-severity-level>
 #[derive(Clone, Copy, Debug, PartialEq)]
 pub enum LogLevel {
-    /// In great detail: `trace`.
+    /// Fine-grained tracing: `trace`.
     Trace,
-    /// For debugging: `debug`.
+    /// Debugging: `debug`.
     Debug,
-    /// For information: `info`.
+    /// Information: `info`.
     Info,
-    /// A warning: `warn`.
+    /// Warning: `warn`.
     Warn,
-    /// An error: `error`.
+    /// Error: `error`.
     Error,
-    /// An error that ended the program: `fatal`.
+    /// Fatal error, usually a crash: `fatal`.
     Fatal,
 }
 
 impl LogLevel {
-    ghost use Rattle.sentry_words.specs.LogLevel.{log_level_word};
-
-    /// The word.
+    /// Returns the word in payloads, such as `info`.
     pub fn as_str(&self) -> &'static str
         ensures { result.now ≡ log_level_word self.now }
     {
@@ -49,15 +46,13 @@ impl LogLevel {
 impl FromStr for LogLevel {
     type Err = ParseWordError;
 
-    ghost use Rattle.sentry_words.specs.LogLevel.{log_level_of};
-
     ghost from_str_gives = { λ text r. result_ok r ≡ log_level_of text };
 
-    /// The level of a word.
+    /// Parses a log level.
     ///
     /// # Errors
     ///
-    /// `ParseWordError` where the text is no word of a level, in lower case.
+    /// `ParseWordError` if the text is not a known level, in lower case.
     fn from_str(text: &str) -> Result<LogLevel, ParseWordError> {
         match text {
             "trace" => Ok(LogLevel::Trace),
@@ -71,32 +66,18 @@ impl FromStr for LogLevel {
     }
 }
 
-impl Formed for LogLevel {
-    type Form = AsText;
-}
+impl Word for LogLevel {
+    ghost word = { log_level_word };
 
-impl Spelled for LogLevel {
-    ghost use Rattle.sentry_words.specs.LogLevel.{log_level_word, log_level_spelling};
+    ghost of_word = { log_level_of };
 
-    ghost spelling = { log_level_spelling };
-
-    ghost cell_of = { word_cell log_level_word };
-
-    fn of_text(_alloc: Global, text: &str) -> Result<LogLevel, TreeError> {
-        match text.parse() {
-            Ok(value) => Ok(value),
-            Err(_) => Err(TreeError::Misfit),
-        }
+    fn word(&self) -> &'static str {
+        self.as_str()
     }
 
-    fn text<'a>(&'a self, _room: &'a mut Room) -> Result<&'a str, AllocError> {
-        Ok(self.as_str())
+    fn of_word(text: &str) -> Option<LogLevel> {
+        text.parse().ok()
     }
 
-    #[tactic(auto, using(sentry_members::proofs::Ways::unchanged))]
-    fn copied(&self, _way: Way) -> Result<LogLevel, AllocError> {
-        Ok(*self)
-    }
-
-    fn hold(&self) {}
+    ghost copies = { λ value copy same. same };
 }

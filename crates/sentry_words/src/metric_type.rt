@@ -1,31 +1,28 @@
-//! What a metric measures.
+//! Types of metrics.
 
 ghost use Rattle.std.specs.Prelude.{◌≡◌};
 ghost use Rattle.std.specs.Result.{result_ok};
-ghost use Rattle.sentry_members.specs.Spelling.{word_cell};
+ghost use Rattle.sentry_words.specs.MetricType.{metric_type_word, metric_type_of};
 
 use crate::parse_word_error::ParseWordError;
-use sentry_members::{AsText, Formed, Room, Spelled, TreeError, Way};
-use std::alloc::{AllocError, Global};
+use sentry_members::Word;
 use std::str::FromStr;
 
-/// What a metric measures.
+/// Type of a metric.
 ///
-/// The words are those of metrics: <https://develop.sentry.dev/sdk/telemetry/metrics/>.
+/// <https://develop.sentry.dev/sdk/telemetry/metrics/>
 #[derive(Clone, Copy, Debug, PartialEq)]
 pub enum MetricType {
-    /// How often something happened: `counter`.
+    /// Count of occurrences: `counter`.
     Counter,
-    /// How much there is of something: `gauge`.
+    /// Value that rises and falls: `gauge`.
     Gauge,
-    /// How values are spread: `distribution`.
+    /// Statistical distribution of values: `distribution`.
     Distribution,
 }
 
 impl MetricType {
-    ghost use Rattle.sentry_words.specs.MetricType.{metric_type_word};
-
-    /// The word.
+    /// Returns the word in payloads, such as `counter`.
     pub fn as_str(&self) -> &'static str
         ensures { result.now ≡ metric_type_word self.now }
     {
@@ -40,15 +37,13 @@ impl MetricType {
 impl FromStr for MetricType {
     type Err = ParseWordError;
 
-    ghost use Rattle.sentry_words.specs.MetricType.{metric_type_of};
-
     ghost from_str_gives = { λ text r. result_ok r ≡ metric_type_of text };
 
-    /// The type of a word.
+    /// Parses a metric type.
     ///
     /// # Errors
     ///
-    /// `ParseWordError` where the text is no word of a type, in lower case.
+    /// `ParseWordError` if the text is not a known type, in lower case.
     fn from_str(text: &str) -> Result<MetricType, ParseWordError> {
         match text {
             "counter" => Ok(MetricType::Counter),
@@ -59,32 +54,18 @@ impl FromStr for MetricType {
     }
 }
 
-impl Formed for MetricType {
-    type Form = AsText;
-}
+impl Word for MetricType {
+    ghost word = { metric_type_word };
 
-impl Spelled for MetricType {
-    ghost use Rattle.sentry_words.specs.MetricType.{metric_type_word, metric_type_spelling};
+    ghost of_word = { metric_type_of };
 
-    ghost spelling = { metric_type_spelling };
-
-    ghost cell_of = { word_cell metric_type_word };
-
-    fn of_text(_alloc: Global, text: &str) -> Result<MetricType, TreeError> {
-        match text.parse() {
-            Ok(value) => Ok(value),
-            Err(_) => Err(TreeError::Misfit),
-        }
+    fn word(&self) -> &'static str {
+        self.as_str()
     }
 
-    fn text<'a>(&'a self, _room: &'a mut Room) -> Result<&'a str, AllocError> {
-        Ok(self.as_str())
+    fn of_word(text: &str) -> Option<MetricType> {
+        text.parse().ok()
     }
 
-    #[tactic(auto, using(sentry_members::proofs::Ways::unchanged))]
-    fn copied(&self, _way: Way) -> Result<MetricType, AllocError> {
-        Ok(*self)
-    }
-
-    fn hold(&self) {}
+    ghost copies = { λ value copy same. same };
 }

@@ -1,32 +1,29 @@
-//! How a check-in of a monitor went.
+//! Statuses of monitor check-ins.
 
-ghost use Rattle.std.specs.Prelude.{◌≡◌};
-ghost use Rattle.sentry_members.specs.Spelling.{word_cell};
+ghost use Rattle.std.specs.Prelude.{◌≡◌, Some};
+ghost use Rattle.sentry_words.specs.MonitorCheckInStatus.{check_in_status_word, check_in_status_of};
 
-use sentry_members::{AsText, Formed, Room, Spelled, TreeError, Way};
-use std::alloc::{AllocError, Global};
+use sentry_members::Word;
 
-/// How a check-in of a monitor went.
+/// Status of a monitor check-in.
 ///
-/// The words are those of check-ins: <https://develop.sentry.dev/sdk/telemetry/check-ins/>.
+/// <https://develop.sentry.dev/sdk/telemetry/check-ins/>
 #[derive(Clone, Copy, Debug, PartialEq)]
 pub enum MonitorCheckInStatus {
-    /// It succeeded: `ok`.
+    /// Success: `ok`.
     Ok,
-    /// It failed: `error`.
+    /// Failure: `error`.
     Error,
-    /// It began: `in_progress`.
+    /// In progress: `in_progress`.
     InProgress,
-    /// It did not come in time: `missed`.
+    /// Missed check-in: `missed`.
     Missed,
-    /// Any other: `unknown`.
+    /// Any other status: `unknown`.
     Unknown,
 }
 
 impl MonitorCheckInStatus {
-    ghost use Rattle.sentry_words.specs.MonitorCheckInStatus.{check_in_status_word, check_in_status_of};
-
-    /// The word.
+    /// Returns the word in payloads, such as `in_progress`.
     pub fn as_str(&self) -> &'static str
         ensures { result.now ≡ check_in_status_word self.now }
     {
@@ -39,7 +36,7 @@ impl MonitorCheckInStatus {
         }
     }
 
-    /// The status that the word names, and [`MonitorCheckInStatus::Unknown`] for any text that is no word of another.
+    /// Parses a status; [`MonitorCheckInStatus::Unknown`] if the text is not a known one.
     pub fn from_word(word: &str) -> MonitorCheckInStatus
         ensures { result ≡ check_in_status_of word.now }
     {
@@ -53,29 +50,18 @@ impl MonitorCheckInStatus {
     }
 }
 
-impl Formed for MonitorCheckInStatus {
-    type Form = AsText;
-}
+impl Word for MonitorCheckInStatus {
+    ghost word = { check_in_status_word };
 
-impl Spelled for MonitorCheckInStatus {
-    ghost use Rattle.sentry_words.specs.MonitorCheckInStatus.{check_in_status_word, check_in_status_spelling};
+    ghost of_word = { λ text. Some (check_in_status_of text) };
 
-    ghost spelling = { check_in_status_spelling };
-
-    ghost cell_of = { word_cell check_in_status_word };
-
-    fn of_text(_alloc: Global, text: &str) -> Result<MonitorCheckInStatus, TreeError> {
-        Ok(MonitorCheckInStatus::from_word(text))
+    fn word(&self) -> &'static str {
+        self.as_str()
     }
 
-    fn text<'a>(&'a self, _room: &'a mut Room) -> Result<&'a str, AllocError> {
-        Ok(self.as_str())
+    fn of_word(text: &str) -> Option<MonitorCheckInStatus> {
+        Some(MonitorCheckInStatus::from_word(text))
     }
 
-    #[tactic(auto, using(sentry_members::proofs::Ways::unchanged))]
-    fn copied(&self, _way: Way) -> Result<MonitorCheckInStatus, AllocError> {
-        Ok(*self)
-    }
-
-    fn hold(&self) {}
+    ghost copies = { λ value copy same. same };
 }

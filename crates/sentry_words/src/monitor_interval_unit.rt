@@ -1,37 +1,34 @@
-//! The unit of a monitor's interval.
+//! Units of monitors' intervals.
 
 ghost use Rattle.std.specs.Prelude.{◌≡◌};
 ghost use Rattle.std.specs.Result.{result_ok};
-ghost use Rattle.sentry_members.specs.Spelling.{word_cell};
+ghost use Rattle.sentry_words.specs.MonitorIntervalUnit.{interval_unit_word, interval_unit_of};
 
 use crate::parse_word_error::ParseWordError;
-use sentry_members::{AsText, Formed, Room, Spelled, TreeError, Way};
-use std::alloc::{AllocError, Global};
+use sentry_members::Word;
 use std::str::FromStr;
 
-/// The unit of a monitor's interval.
+/// Unit of a monitor's interval schedule.
 ///
-/// The words are those of check-ins: <https://develop.sentry.dev/sdk/telemetry/check-ins/>.
+/// <https://develop.sentry.dev/sdk/telemetry/check-ins/>
 #[derive(Clone, Copy, Debug, PartialEq)]
 pub enum MonitorIntervalUnit {
-    /// A year: `year`.
+    /// Year: `year`.
     Year,
-    /// A month: `month`.
+    /// Month: `month`.
     Month,
-    /// A week: `week`.
+    /// Week: `week`.
     Week,
-    /// A day: `day`.
+    /// Day: `day`.
     Day,
-    /// An hour: `hour`.
+    /// Hour: `hour`.
     Hour,
-    /// A minute: `minute`.
+    /// Minute: `minute`.
     Minute,
 }
 
 impl MonitorIntervalUnit {
-    ghost use Rattle.sentry_words.specs.MonitorIntervalUnit.{interval_unit_word};
-
-    /// The word.
+    /// Returns the word in payloads, such as `hour`.
     pub fn as_str(&self) -> &'static str
         ensures { result.now ≡ interval_unit_word self.now }
     {
@@ -49,15 +46,13 @@ impl MonitorIntervalUnit {
 impl FromStr for MonitorIntervalUnit {
     type Err = ParseWordError;
 
-    ghost use Rattle.sentry_words.specs.MonitorIntervalUnit.{interval_unit_of};
-
     ghost from_str_gives = { λ text r. result_ok r ≡ interval_unit_of text };
 
-    /// The unit of a word.
+    /// Parses an interval unit.
     ///
     /// # Errors
     ///
-    /// `ParseWordError` where the text is no word of a unit, in lower case.
+    /// `ParseWordError` if the text is not a known unit, in lower case.
     fn from_str(text: &str) -> Result<MonitorIntervalUnit, ParseWordError> {
         match text {
             "year" => Ok(MonitorIntervalUnit::Year),
@@ -71,32 +66,18 @@ impl FromStr for MonitorIntervalUnit {
     }
 }
 
-impl Formed for MonitorIntervalUnit {
-    type Form = AsText;
-}
+impl Word for MonitorIntervalUnit {
+    ghost word = { interval_unit_word };
 
-impl Spelled for MonitorIntervalUnit {
-    ghost use Rattle.sentry_words.specs.MonitorIntervalUnit.{interval_unit_word, interval_unit_spelling};
+    ghost of_word = { interval_unit_of };
 
-    ghost spelling = { interval_unit_spelling };
-
-    ghost cell_of = { word_cell interval_unit_word };
-
-    fn of_text(_alloc: Global, text: &str) -> Result<MonitorIntervalUnit, TreeError> {
-        match text.parse() {
-            Ok(value) => Ok(value),
-            Err(_) => Err(TreeError::Misfit),
-        }
+    fn word(&self) -> &'static str {
+        self.as_str()
     }
 
-    fn text<'a>(&'a self, _room: &'a mut Room) -> Result<&'a str, AllocError> {
-        Ok(self.as_str())
+    fn of_word(text: &str) -> Option<MonitorIntervalUnit> {
+        text.parse().ok()
     }
 
-    #[tactic(auto, using(sentry_members::proofs::Ways::unchanged))]
-    fn copied(&self, _way: Way) -> Result<MonitorIntervalUnit, AllocError> {
-        Ok(*self)
-    }
-
-    fn hold(&self) {}
+    ghost copies = { λ value copy same. same };
 }

@@ -1,8 +1,8 @@
-//! The refusal of a word.
+//! Parse error of words.
 
 use thiserror::Error;
 
-/// The text is no word of the type.
+/// Not a known word of the type.
 #[derive(Debug, Drop, Error)]
 #[error("ParseWordError")]
 pub struct ParseWordError;

@@ -1,29 +1,26 @@
-//! Truth values as texts.
+//! Booleans as JSON strings.
 
 ghost use Rattle.std.specs.Prelude.{◌≡◌};
 ghost use Rattle.sentry_members.specs.Spelling.{ReadsSpelling};
 ghost use Rattle.sentry_words.specs.Sampled.{sampled_word, sampled_kind, sampled_spelling, sampled_cell};
 
 use json::Writer;
+use sentry_json::Node;
 use sentry_members::{Codec, ReadCodec, TreeError, Way};
-use sentry_trees::Node;
 use serde_json::Value;
 use std::alloc::{AllocError, Global};
 
-/// The form of a truth value that is a text, `true` or `false`.
+/// The form of a boolean as the string `true` or `false`; `sampled` in trace headers has it.
 ///
-/// So is `sampled` in the trace header of an envelope:
-/// <https://develop.sentry.dev/sdk/telemetry/traces/dynamic-sampling-context/>.
+/// <https://develop.sentry.dev/sdk/telemetry/traces/dynamic-sampling-context/>
 pub struct Sampled;
 
-/// The text of a truth value.
 fn word(truth: bool) -> &'static str
     ensures { result.now ≡ sampled_word truth }
 {
     if truth { "true" } else { "false" }
 }
 
-/// The truth value that a text spells.
 fn truth_of(text: &str) -> Result<bool, TreeError>
     ensures { ReadsSpelling sampled_spelling sampled_cell text.now result }
 {
@@ -50,7 +47,7 @@ impl Codec<bool> for Sampled {
     }
 
     #[tactic(auto, using(sentry_members::proofs::Ways::unchanged))]
-    fn remade(value: &bool, _way: Way) -> Result<bool, AllocError> {
+    fn remake(value: &bool, _way: Way) -> Result<bool, AllocError> {
         Ok(*value)
     }
 

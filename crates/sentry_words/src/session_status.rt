@@ -1,43 +1,37 @@
-//! How a session goes, or how it ended.
+//! Statuses of release-health sessions.
 
 ghost use Rattle.std.specs.Prelude.{◌≡◌, Some};
 ghost use Rattle.std.specs.Result.{result_ok};
-ghost use Rattle.sentry_members.specs.Spelling.{word_cell};
+ghost use Rattle.sentry_words.specs.SessionStatus.{session_status_word, session_status_of};
 
-use sentry_members::member::Usual;
-use sentry_members::{AsText, Formed, Room, Spelled, TreeError, Way};
-use std::alloc::{AllocError, Global};
+use sentry_members::Word;
 use std::fmt;
 use std::str::FromStr;
 use thiserror::Error;
 
-/// How a session goes, or how it ended.
+/// Status of a session; defaults to [`SessionStatus::Ok`].
 ///
-/// The words are those of sessions: <https://develop.sentry.dev/sdk/telemetry/sessions/>.
-///
-/// The default is [`SessionStatus::Ok`].
+/// <https://develop.sentry.dev/sdk/telemetry/sessions/>
 #[derive(Clone, Copy, Debug, Default, PartialEq, Eq, PartialOrd, Ord, Hash)]
 pub enum SessionStatus {
-    /// It goes on: `ok`.
+    /// In progress: `ok`.
     #[default]
     Ok,
-    /// It ended well: `exited`.
+    /// Ended normally: `exited`.
     Exited,
-    /// It crashed: `crashed`.
+    /// Ended in a crash: `crashed`.
     Crashed,
-    /// It ended in some other way: `abnormal`.
+    /// Ended abnormally, without a crash: `abnormal`.
     Abnormal,
 }
 
-/// The text is no status of a session.
+/// Not a known session status.
 #[derive(Debug, Drop, Error)]
 #[error("invalid session status")]
 pub struct ParseSessionStatusError;
 
 impl SessionStatus {
-    ghost use Rattle.sentry_words.specs.SessionStatus.{session_status_word};
-
-    /// The word.
+    /// Returns the word in payloads, such as `exited`.
     pub fn as_str(&self) -> &'static str
         ensures { result.now ≡ session_status_word self.now }
     {
@@ -51,8 +45,6 @@ impl SessionStatus {
 }
 
 impl fmt::Display for SessionStatus {
-    ghost use Rattle.sentry_words.specs.SessionStatus.{session_status_word};
-
     ghost output = { λ v. Some (session_status_word v) };
 
     fn fmt<W: fmt::Write>(&self, f: &mut fmt::Formatter<W>) -> fmt::Result {
@@ -63,15 +55,13 @@ impl fmt::Display for SessionStatus {
 impl FromStr for SessionStatus {
     type Err = ParseSessionStatusError;
 
-    ghost use Rattle.sentry_words.specs.SessionStatus.{session_status_of};
-
     ghost from_str_gives = { λ text r. result_ok r ≡ session_status_of text };
 
-    /// The status of a word.
+    /// Parses a session status.
     ///
     /// # Errors
     ///
-    /// `ParseSessionStatusError` where the text is no word of a status, in lower case.
+    /// `ParseSessionStatusError` if the text is not a known status, in lower case.
     fn from_str(text: &str) -> Result<SessionStatus, ParseSessionStatusError> {
         match text {
             "ok" => Ok(SessionStatus::Ok),
@@ -83,38 +73,18 @@ impl FromStr for SessionStatus {
     }
 }
 
-impl Formed for SessionStatus {
-    type Form = AsText;
-}
+impl Word for SessionStatus {
+    ghost word = { session_status_word };
 
-impl Spelled for SessionStatus {
-    ghost use Rattle.sentry_words.specs.SessionStatus.{session_status_word, session_status_spelling};
+    ghost of_word = { session_status_of };
 
-    ghost spelling = { session_status_spelling };
-
-    ghost cell_of = { word_cell session_status_word };
-
-    fn of_text(_alloc: Global, text: &str) -> Result<SessionStatus, TreeError> {
-        match text.parse() {
-            Ok(value) => Ok(value),
-            Err(_) => Err(TreeError::Misfit),
-        }
+    fn word(&self) -> &'static str {
+        self.as_str()
     }
 
-    fn text<'a>(&'a self, _room: &'a mut Room) -> Result<&'a str, AllocError> {
-        Ok(self.as_str())
+    fn of_word(text: &str) -> Option<SessionStatus> {
+        text.parse().ok()
     }
 
-    #[tactic(auto, using(sentry_members::proofs::Ways::unchanged))]
-    fn copied(&self, _way: Way) -> Result<SessionStatus, AllocError> {
-        Ok(*self)
-    }
-
-    fn hold(&self) {}
-}
-
-impl Usual for SessionStatus {
-    fn is(&self, usual: &SessionStatus) -> bool {
-        *self == *usual
-    }
+    ghost copies = { λ value copy same. same };
 }

@@ -1,65 +1,62 @@
-//! How a span ended.
+//! Statuses of spans.
 
 ghost use Rattle.std.specs.Prelude.{◌≡◌, Some};
 ghost use Rattle.std.specs.Result.{result_ok};
-ghost use Rattle.sentry_members.specs.Spelling.{word_cell};
+ghost use Rattle.sentry_words.specs.SpanStatus.{span_status_word, span_status_of};
 
-use sentry_members::{AsText, Formed, Room, Spelled, TreeError, Way};
-use std::alloc::{AllocError, Global};
+use sentry_members::Word;
 use std::fmt;
 use std::str::FromStr;
 use thiserror::Error;
 
-/// How a span ended.
+/// Status of a span: the outcome of its operation.
 ///
-/// The words are those of spans: <https://develop.sentry.dev/sdk/data-model/event-payloads/span/>.
+/// <https://develop.sentry.dev/sdk/data-model/event-payloads/span/>
 #[derive(Clone, Copy, Debug, PartialEq, Eq, Hash)]
 pub enum SpanStatus {
-    /// It succeeded: `ok`.
+    /// Success: `ok`.
     Ok,
-    /// Its time ran out: `deadline_exceeded`.
+    /// Deadline exceeded: `deadline_exceeded`.
     DeadlineExceeded,
-    /// The caller was not known: `unauthenticated`.
+    /// Missing or invalid credentials: `unauthenticated`.
     Unauthenticated,
-    /// The caller was not allowed it: `permission_denied`.
+    /// Caller without permission: `permission_denied`.
     PermissionDenied,
-    /// What it asked for was not found: `not_found`.
+    /// Entity not found: `not_found`.
     NotFound,
-    /// Something ran out, as a quota: `resource_exhausted`.
+    /// Exhausted resource, such as a quota: `resource_exhausted`.
     ResourceExhausted,
-    /// An argument was wrong: `invalid_argument`.
+    /// Invalid argument: `invalid_argument`.
     InvalidArgument,
-    /// It is not implemented: `unimplemented`.
+    /// Operation not implemented: `unimplemented`.
     Unimplemented,
-    /// A service was not available: `unavailable`.
+    /// Service unavailable: `unavailable`.
     Unavailable,
-    /// Something inside failed: `internal_error`.
+    /// Internal error: `internal_error`.
     InternalError,
-    /// It failed for no known reason: `unknown_error`.
+    /// Unknown error: `unknown_error`.
     UnknownError,
-    /// It was cancelled: `cancelled`.
+    /// Cancelled operation: `cancelled`.
     Cancelled,
-    /// What it was to make exists: `already_exists`.
+    /// Entity exists already: `already_exists`.
     AlreadyExists,
-    /// The system was not in the state that it needs: `failed_precondition`.
+    /// System not in the required state: `failed_precondition`.
     FailedPrecondition,
-    /// It was aborted: `aborted`.
+    /// Aborted operation: `aborted`.
     Aborted,
-    /// It went past the valid range: `out_of_range`.
+    /// Operation past the valid range: `out_of_range`.
     OutOfRange,
-    /// Data were lost: `data_loss`.
+    /// Data loss or corruption: `data_loss`.
     DataLoss,
 }
 
-/// The text is no status of a span.
+/// Not a known span status.
 #[derive(Debug, Drop, Error)]
 #[error("invalid status")]
 pub struct ParseStatusError;
 
 impl SpanStatus {
-    ghost use Rattle.sentry_words.specs.SpanStatus.{span_status_word};
-
-    /// The word.
+    /// Returns the word in payloads, such as `not_found`.
     pub fn as_str(&self) -> &'static str
         ensures { result.now ≡ span_status_word self.now }
     {
@@ -86,8 +83,6 @@ impl SpanStatus {
 }
 
 impl fmt::Display for SpanStatus {
-    ghost use Rattle.sentry_words.specs.SpanStatus.{span_status_word};
-
     ghost output = { λ v. Some (span_status_word v) };
 
     fn fmt<W: fmt::Write>(&self, f: &mut fmt::Formatter<W>) -> fmt::Result {
@@ -98,15 +93,13 @@ impl fmt::Display for SpanStatus {
 impl FromStr for SpanStatus {
     type Err = ParseStatusError;
 
-    ghost use Rattle.sentry_words.specs.SpanStatus.{span_status_of};
-
     ghost from_str_gives = { λ text r. result_ok r ≡ span_status_of text };
 
-    /// The status of a word.
+    /// Parses a span status.
     ///
     /// # Errors
     ///
-    /// `ParseStatusError` where the text is no word of a status, in lower case.
+    /// `ParseStatusError` if the text is not a known status, in lower case.
     fn from_str(text: &str) -> Result<SpanStatus, ParseStatusError> {
         match text {
             "ok" => Ok(SpanStatus::Ok),
@@ -131,32 +124,18 @@ impl FromStr for SpanStatus {
     }
 }
 
-impl Formed for SpanStatus {
-    type Form = AsText;
-}
+impl Word for SpanStatus {
+    ghost word = { span_status_word };
 
-impl Spelled for SpanStatus {
-    ghost use Rattle.sentry_words.specs.SpanStatus.{span_status_word, span_status_spelling};
+    ghost of_word = { span_status_of };
 
-    ghost spelling = { span_status_spelling };
-
-    ghost cell_of = { word_cell span_status_word };
-
-    fn of_text(_alloc: Global, text: &str) -> Result<SpanStatus, TreeError> {
-        match text.parse() {
-            Ok(value) => Ok(value),
-            Err(_) => Err(TreeError::Misfit),
-        }
+    fn word(&self) -> &'static str {
+        self.as_str()
     }
 
-    fn text<'a>(&'a self, _room: &'a mut Room) -> Result<&'a str, AllocError> {
-        Ok(self.as_str())
+    fn of_word(text: &str) -> Option<SpanStatus> {
+        text.parse().ok()
     }
 
-    #[tactic(auto, using(sentry_members::proofs::Ways::unchanged))]
-    fn copied(&self, _way: Way) -> Result<SpanStatus, AllocError> {
-        Ok(*self)
-    }
-
-    fn hold(&self) {}
+    ghost copies = { λ value copy same. same };
 }

@@ -1,7 +1,7 @@
 -- The members that no row names.
 use Rattle.std.proofs.Common.{◌≡◌, ℕ, List, [], ◌∷◌, ap, ◌∙◌, refl, bytes_eq, ◌||◌}
 use Rattle.serde_json.specs.Data.{Members, no_members, member}
-use Rattle.sentry_trees.specs.Keys.{is_among, beside}
+use Rattle.sentry_json.specs.Keys.{is_among, beside}
 use Rattle.sentry_tables.specs.Kind.{has_key, without}
 
 pub is_key : (key : List ℕ) (names : List (List ℕ)) → is_among key names ≡ has_key key names

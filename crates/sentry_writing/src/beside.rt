@@ -149,7 +149,8 @@ impl<'s, L: Others, S: Sink> Sink for Beside<'s, L, S> {
     ghost use Rattle.std.specs.Prelude.{refl, ⊤};
     ghost use Rattle.std.proofs.Common.{◌∙◌};
 
-    ghost Adds = { λ a b ms. (b.sink.ghost_name ≡ a.sink.ghost_name) × Merges (S.Adds a.sink.now b.sink.now) (L.left a.others) (L.left b.others) ms };
+    ghost Adds = { λ a b ms. (b.sink.ghost_name ≡ a.sink.ghost_name) ×
+        Merges (S.Adds a.sink.now b.sink.now) (L.left a.others) (L.left b.others) ms };
 
     ghost Tests = { λ a b P Q. ⊤ };
 
@@ -174,9 +175,14 @@ impl<'s, L: Others, S: Sink> Sink for Beside<'s, L, S> {
 
     fn absent(&mut self) {}
 
-    ghost nothing = { λ s. (refl, merges_nothing S.Adds S.nothing S.joined s.sink.now (L.left s.others)) };
+    ghost nothing = { λ s.
+        (refl, merges_nothing S.Adds S.nothing S.joined s.sink.now (L.left s.others)) };
 
-    ghost joined = { λ a b c ms ns x y. (y.0 ∙ x.0, merges_joined S.Adds S.nothing S.joined a.sink.now b.sink.now c.sink.now (L.left a.others) (L.left b.others) (L.left c.others) ms ns x.1 y.1) };
+    ghost joined = { λ a b c ms ns x y. (
+      y.0 ∙ x.0,
+      merges_joined S.Adds S.nothing S.joined a.sink.now b.sink.now c.sink.now
+          (L.left a.others) (L.left b.others) (L.left c.others) ms ns x.1 y.1,
+    ) };
 }
 
 /// Gives the rows of a table to a sink, with others among them.

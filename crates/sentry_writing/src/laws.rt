@@ -12,7 +12,8 @@ use sentry_members::Member;
 /// so exactly where their cells are the same, if that is what `==` says of the values.
 #[tactic(auto, using(sentry_members::proofs::Equal::lists_decide))]
 pub fn equal_values<T: Member + PartialEq>()
-    ensures by_values { (a b : Lists T) → ⟦<Values<T> as PartialEq>⟧.eq a b ≡ pointwise T.eq a.values.items b.values.items }
+    ensures by_values { (a b : Lists T) →
+        ⟦<Values<T> as PartialEq>⟧.eq a b ≡ pointwise T.eq a.values.items b.values.items }
     ensures by_cells { ((x y : T) → T.eq x y ≡ true ↔ (T.cell_of x ≡ T.cell_of y))
         → (a b : Lists T) → ⟦<Values<T> as PartialEq>⟧.eq a b ≡ true
         ↔ (list_cell T.cell_of a.values.items ≡ list_cell T.cell_of b.values.items) }

@@ -45,8 +45,10 @@ impl Sink for PlainTest {
 
 /// Whether each row of a value is plain.
 pub fn rows_are_plain<T: Table>(value: &T) -> bool
-    ensures plain { IsTrue result ↔ RowsMeet plain_demand (rows_of T.lines) (cells_by T.lines value.now) }
-    ensures stored { IsTrue result → RowsMeet stored_demand (rows_of T.lines) (cells_by T.lines value.now) }
+    ensures plain { IsTrue result ↔
+        RowsMeet plain_demand (rows_of T.lines) (cells_by T.lines value.now) }
+    ensures stored { IsTrue result →
+        RowsMeet stored_demand (rows_of T.lines) (cells_by T.lines value.now) }
 {
     let mut test = PlainTest { plain: true };
     value.rows(&mut test);

@@ -36,7 +36,8 @@ pub trait Sink {
 
     /// A member that is a text.
     fn word(&mut self, key: &str, text: &str)
-        ensures { Took Adds Tests (member key.now (string text.now) no_members) ⊤ (IsUtf8 text.now) self.old self.new };
+        ensures { Took Adds Tests (member key.now (string text.now) no_members) ⊤
+            (IsUtf8 text.now) self.old self.new };
 
     /// A value that no member holds, since its row leaves it out.
     fn left_out<F: Codec<T>, T>(&mut self, value: &T)
@@ -69,7 +70,8 @@ pub trait Sink {
     /// A row that is left out where there is no value.
     #[tactic(auto, unfolding(crate::specs::Given::row_given, crate::specs::Given::GivesRow))]
     final fn optional_as<F: Codec<T>, T>(&mut self, key: &str, value: &Option<T>)
-        ensures { GivesRow Adds Tests key.now may F.kind (option_cell F.cell_of value.now) self.old self.new }
+        ensures { GivesRow Adds Tests key.now may F.kind
+            (option_cell F.cell_of value.now) self.old self.new }
     {
         match value {
             Some(value) => self.member::<F, T>(key, value),
@@ -79,7 +81,8 @@ pub trait Sink {
 
     /// A row that is left out where there is no value.
     final fn optional<T: Member>(&mut self, key: &str, value: &Option<T>)
-        ensures { GivesRow Adds Tests key.now may T.kind (option_cell T.cell_of value.now) self.old self.new }
+        ensures { GivesRow Adds Tests key.now may T.kind
+            (option_cell T.cell_of value.now) self.old self.new }
     {
         self.optional_as::<Own, T>(key, value)
     }
@@ -87,7 +90,8 @@ pub trait Sink {
     /// A row that is null where there is no value.
     #[tactic(auto, unfolding(crate::specs::Given::row_given, crate::specs::Given::GivesRow))]
     final fn optional_or_null<T: Member>(&mut self, key: &str, value: &Option<T>)
-        ensures { GivesRow Adds Tests key.now may_null T.kind (option_cell T.cell_of value.now) self.old self.new }
+        ensures { GivesRow Adds Tests key.now may_null T.kind
+            (option_cell T.cell_of value.now) self.old self.new }
     {
         match value {
             Some(value) => self.member::<Own, T>(key, value),
@@ -98,7 +102,8 @@ pub trait Sink {
     /// A row that is left out where there is no value, and may not be null.
     #[tactic(auto, unfolding(crate::specs::Given::row_given, crate::specs::Given::GivesRow))]
     final fn optional_strict_as<F: Codec<T>, T>(&mut self, key: &str, value: &Option<T>)
-        ensures { GivesRow Adds Tests key.now may_strict F.kind (option_cell F.cell_of value.now) self.old self.new }
+        ensures { GivesRow Adds Tests key.now may_strict F.kind
+            (option_cell F.cell_of value.now) self.old self.new }
     {
         match value {
             Some(value) => self.member::<F, T>(key, value),
@@ -109,7 +114,8 @@ pub trait Sink {
     /// A row with a default that is written whatever it holds.
     #[tactic(auto, unfolding(crate::specs::Given::row_given, crate::specs::Given::GivesRow))]
     final fn always<T: Member>(&mut self, key: &str, value: &T)
-        ensures { (e : Cell) → GivesRow Adds Tests key.now (always e) T.kind (T.cell_of value.now) self.old self.new }
+        ensures { (e : Cell) →
+            GivesRow Adds Tests key.now (always e) T.kind (T.cell_of value.now) self.old self.new }
     {
         self.member::<Own, T>(key, value)
     }
@@ -117,7 +123,8 @@ pub trait Sink {
     /// A row whose default is the moment of reading, written whatever it holds.
     #[tactic(auto, unfolding(crate::specs::Given::row_given, crate::specs::Given::GivesRow))]
     final fn at_once_as<F: Codec<T>, T>(&mut self, key: &str, value: &T)
-        ensures { GivesRow Adds Tests key.now at_once F.kind (F.cell_of value.now) self.old self.new }
+        ensures { GivesRow Adds Tests key.now at_once F.kind
+            (F.cell_of value.now) self.old self.new }
     {
         self.member::<F, T>(key, value)
     }
@@ -125,7 +132,8 @@ pub trait Sink {
     /// A row whose default is drawn, written whatever it holds.
     #[tactic(auto, unfolding(crate::specs::Given::row_given, crate::specs::Given::GivesRow))]
     final fn drawn_as<F: Drawn<T>, T>(&mut self, key: &str, value: &T)
-        ensures { GivesRow Adds Tests key.now (draw F.IsDrawn) F.kind (F.cell_of value.now) self.old self.new }
+        ensures { GivesRow Adds Tests key.now (draw F.IsDrawn) F.kind
+            (F.cell_of value.now) self.old self.new }
     {
         self.member::<F, T>(key, value)
     }
@@ -133,7 +141,8 @@ pub trait Sink {
     /// A list that is left out where it is empty.
     #[tactic(auto, unfolding(crate::specs::Given::row_given, crate::specs::Given::GivesRow))]
     final fn list<T: Member>(&mut self, key: &str, list: &Vec<T>)
-        ensures { GivesRow Adds Tests key.now (default empty_list) (list_kind T.kind) (list_cell T.cell_of list.now.items) self.old self.new }
+        ensures { GivesRow Adds Tests key.now (default empty_list) (list_kind T.kind)
+            (list_cell T.cell_of list.now.items) self.old self.new }
     {
         if list.is_empty() {
             self.left_out::<Own, Vec<T>>(list)
@@ -145,7 +154,8 @@ pub trait Sink {
     /// A list with an empty default that is written whatever it holds.
     #[tactic(auto, unfolding(crate::specs::Given::row_given, crate::specs::Given::GivesRow))]
     final fn written_list<T: Member>(&mut self, key: &str, list: &Vec<T>)
-        ensures { GivesRow Adds Tests key.now (always empty_list) (list_kind T.kind) (list_cell T.cell_of list.now.items) self.old self.new }
+        ensures { GivesRow Adds Tests key.now (always empty_list) (list_kind T.kind)
+            (list_cell T.cell_of list.now.items) self.old self.new }
     {
         self.member::<Own, Vec<T>>(key, list)
     }
@@ -153,7 +163,8 @@ pub trait Sink {
     /// A map that is left out where it is empty.
     #[tactic(auto, unfolding(crate::specs::Given::row_given, crate::specs::Given::GivesRow))]
     final fn map<T: Member>(&mut self, key: &str, map: &Map<String, T>)
-        ensures { GivesRow Adds Tests key.now (default empty_map) (map_kind T.kind) (map_cell T.cell_of map.now.entries) self.old self.new }
+        ensures { GivesRow Adds Tests key.now (default empty_map) (map_kind T.kind)
+            (map_cell T.cell_of map.now.entries) self.old self.new }
     {
         if map.is_empty() {
             self.left_out::<Own, Map<String, T>>(map)
@@ -165,7 +176,8 @@ pub trait Sink {
     /// A list under the key `values` that is left out where it is empty.
     #[tactic(auto, unfolding(crate::specs::Given::row_given, crate::specs::Given::GivesRow))]
     final fn values<T: Member>(&mut self, key: &str, list: &Values<T>)
-        ensures { GivesRow Adds Tests key.now (default empty_list) (values_kind T.kind) (list_cell T.cell_of list.now.values.items) self.old self.new }
+        ensures { GivesRow Adds Tests key.now (default empty_list) (values_kind T.kind)
+            (list_cell T.cell_of list.now.values.items) self.old self.new }
     {
         if list.values.is_empty() {
             self.left_out::<Own, Values<T>>(list)
@@ -177,7 +189,8 @@ pub trait Sink {
     /// A text that is left out where it is the usual one.
     #[tactic(auto, unfolding(crate::specs::Given::row_given, crate::specs::Given::GivesRow, sentry_members::specs::Written::written))]
     final fn text_unless<T: AsStr>(&mut self, key: &str, value: &T, usual: &str)
-        ensures { GivesRow Adds Tests key.now (default (text_of usual.now)) text_kind (text_of (T.text value.now)) self.old self.new }
+        ensures { GivesRow Adds Tests key.now (default (text_of usual.now)) text_kind
+            (text_of (T.text value.now)) self.old self.new }
     {
         let text = value.as_str();
         if text == usual {
@@ -190,7 +203,8 @@ pub trait Sink {
     /// A value that is left out where it is the usual one.
     #[tactic(auto, unfolding(crate::specs::Given::row_given, crate::specs::Given::GivesRow))]
     final fn unless<T: Usual>(&mut self, key: &str, value: &T, usual: &T)
-        ensures { GivesRow Adds Tests key.now (default (T.cell_of usual.now)) T.kind (T.cell_of value.now) self.old self.new }
+        ensures { GivesRow Adds Tests key.now (default (T.cell_of usual.now)) T.kind
+            (T.cell_of value.now) self.old self.new }
     {
         if value.is(usual) {
             self.left_out::<Own, T>(value)
@@ -202,7 +216,8 @@ pub trait Sink {
     /// A value that is left out where it is the usual one of its form.
     #[tactic(auto, unfolding(crate::specs::Given::row_given, crate::specs::Given::GivesRow))]
     final fn unless_usual_as<F: DefaultedCodec<T>, T>(&mut self, key: &str, value: &T)
-        ensures { GivesRow Adds Tests key.now (default F.usual) F.kind (F.cell_of value.now) self.old self.new }
+        ensures { GivesRow Adds Tests key.now (default F.usual) F.kind
+            (F.cell_of value.now) self.old self.new }
     {
         if F::is_usual(value) {
             self.left_out::<F, T>(value)
@@ -213,12 +228,14 @@ pub trait Sink {
 
     /// A value that is left out where it is the usual one of its type.
     final fn unless_usual<T: Defaulted>(&mut self, key: &str, value: &T)
-        ensures { GivesRow Adds Tests key.now (default T.usual) T.kind (T.cell_of value.now) self.old self.new }
+        ensures { GivesRow Adds Tests key.now (default T.usual) T.kind
+            (T.cell_of value.now) self.old self.new }
     {
         self.unless_usual_as::<Own, T>(key, value)
     }
 
     ghost nothing: { (s : Self) → Adds s s no_members };
 
-    ghost joined: { (a b c : Self) (ms ns : Members) → Adds a b ms → Adds b c ns → Adds a c (both ms ns) };
+    ghost joined: { (a b c : Self) (ms ns : Members) → Adds a b ms → Adds b c ns →
+        Adds a c (both ms ns) };
 }

@@ -61,7 +61,9 @@ pub fn leave<S>(_sink: &mut S)
 /// The tree of a value's rows, put among members. It fails where memory runs out.
 pub fn rows_tree<T: Table>(value: &T, mut rows: TreeRows) -> Result<Value, AllocError>
     ensures { IfOk result (λ t. (rows.failed ≡ None)
-        × (view t ≡ object (put_all (rows_given (rows_of T.lines) (cells_by T.lines value.now)) (members_so_far rows)))) }
+        × (view t ≡
+        object (put_all (rows_given (rows_of T.lines) (cells_by T.lines value.now))
+        (members_so_far rows)))) }
 {
     value.give(&mut rows);
     rows.into_tree()
@@ -105,7 +107,9 @@ pub fn write_rows<T: Table, L: Others>(
 
 // Writes the members of a value's rows.
 fn write_own<T: Table>(value: &T, out: &mut Writer) -> Result<(), AllocError>
-    ensures { OnOk result (WritesMembers (rows_given (rows_of T.lines) (cells_by T.lines value.now)) out.old out.new) }
+    ensures { OnOk result
+        (WritesMembers (rows_given (rows_of T.lines) (cells_by T.lines value.now)) out.old
+        out.new) }
 {
     let mut text = TextRows { out, failed: None };
     value.give(&mut text);
@@ -126,7 +130,8 @@ pub fn table_tree<T: Table>(value: &T, alloc: Global) -> Result<Value, AllocErro
 
 /// Writes the text of that tree. It fails where memory runs out, with a part of the text written.
 pub fn write_table<T: Table>(value: &T, out: &mut Writer) -> Result<(), AllocError>
-    ensures { OnOk result (WritesTree (written (table_of T.lines) (fields_by T.lines value.now)) out.old out.new) }
+    ensures { OnOk result
+        (WritesTree (written (table_of T.lines) (fields_by T.lines value.now)) out.old out.new) }
 {
     out.begin_object()?;
     write_own(value, out)?;
@@ -136,7 +141,8 @@ pub fn write_table<T: Table>(value: &T, out: &mut Writer) -> Result<(), AllocErr
 /// The written tree of a case: its rows, put among its tag and members. It fails where memory runs out.
 pub fn case_tree<T: Table>(value: &T, word: &str, mut rows: TreeRows) -> Result<Value, AllocError>
     ensures { IfOk result (λ t. (rows.failed ≡ None)
-        × (view t ≡ case_written word.now (rows_of T.lines) (cells_by T.lines value.now) (members_so_far rows))) }
+        × (view t ≡ case_written word.now (rows_of T.lines) (cells_by T.lines value.now)
+        (members_so_far rows))) }
 {
     rows.word("type", word);
     rows_tree(value, rows)

@@ -23,7 +23,8 @@ impl<'w> Sink for TextRows<'w> {
     ghost use Rattle.sentry_members.specs.Continued.{no_members_wrote};
     ghost use Rattle.std.proofs.Common.{◌∙◌};
 
-    ghost Adds = { λ a b ms. (b.out.ghost_name ≡ a.out.ghost_name) × While a.failed b.failed (WritesMembers ms a.out.now b.out.now) };
+    ghost Adds = { λ a b ms. (b.out.ghost_name ≡ a.out.ghost_name) ×
+        While a.failed b.failed (WritesMembers ms a.out.now b.out.now) };
 
     ghost Tests = { λ a b P Q. ⊤ };
 
@@ -62,7 +63,11 @@ impl<'w> Sink for TextRows<'w> {
 
     ghost nothing = { λ s. (refl, nothing_while s.failed (no_members_wrote s.out.now)) };
 
-    ghost joined = { λ a b c ms ns x y. (y.0 ∙ x.0, joined_while a.failed b.failed c.failed (members_join ms ns a.out.now b.out.now c.out.now) x.1 y.1) };
+    ghost joined = { λ a b c ms ns x y. (
+      y.0 ∙ x.0,
+      joined_while a.failed b.failed c.failed
+          (members_join ms ns a.out.now b.out.now c.out.now) x.1 y.1,
+    ) };
 }
 
 pub(crate) fn write_member<F: Codec<T>, T>(
@@ -70,7 +75,9 @@ pub(crate) fn write_member<F: Codec<T>, T>(
     key: &str,
     value: &T,
 ) -> Result<(), AllocError>
-    ensures { OnOk result (WritesMembers (member key.now (written F.kind (F.cell_of value.now)) no_members) out.old out.new) }
+    ensures { OnOk result
+        (WritesMembers (member key.now (written F.kind (F.cell_of value.now)) no_members) out.old
+        out.new) }
 {
     out.key(key)?;
     F::write(value, out)
@@ -84,7 +91,8 @@ fn write_null(out: &mut Writer, key: &str) -> Result<(), AllocError>
 }
 
 fn write_word(out: &mut Writer, key: &str, text: &str) -> Result<(), AllocError>
-    ensures { OnOk result (WritesMembers (member key.now (string text.now) no_members) out.old out.new) }
+    ensures { OnOk result
+        (WritesMembers (member key.now (string text.now) no_members) out.old out.new) }
 {
     out.key(key)?;
     out.string(text)

@@ -53,7 +53,8 @@ impl TreeRows {
 
     /// The object of the members. It fails where memory ran out.
     pub fn into_tree(self) -> Result<Value, AllocError>
-        ensures { IfOk result (λ t. (self.failed ≡ None) × (view t ≡ object (members_so_far self))) }
+        ensures { IfOk result (λ t. (self.failed ≡ None) ×
+            (view t ≡ object (members_so_far self))) }
     {
         match self.failed {
             None => Ok(Value::from(self.members)),
@@ -80,7 +81,8 @@ impl Sink for TreeRows {
     ghost use Rattle.sentry_writing.specs.Joined.{put_both};
     ghost use Rattle.sentry_writing.specs.Sinks.{members_so_far};
 
-    ghost Adds = { λ a b ms. While a.failed b.failed (members_so_far b ≡ put_all ms (members_so_far a)) };
+    ghost Adds = { λ a b ms.
+        While a.failed b.failed (members_so_far b ≡ put_all ms (members_so_far a)) };
 
     ghost Tests = { λ a b P Q. ⊤ };
 
@@ -115,5 +117,7 @@ impl Sink for TreeRows {
 
     ghost nothing = { λ s. nothing_while s.failed refl };
 
-    ghost joined = { λ a b c ms ns x y. joined_while a.failed b.failed c.failed (put_both ms ns (members_so_far a) (members_so_far b) (members_so_far c)) x y };
+    ghost joined = { λ a b c ms ns x y.
+        joined_while a.failed b.failed c.failed (put_both ms ns (members_so_far a)
+        (members_so_far b) (members_so_far c)) x y };
 }

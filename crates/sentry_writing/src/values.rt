@@ -7,9 +7,9 @@ use crate::sink::Sink;
 use crate::text::write_member;
 use crate::tree::TreeRows;
 use json::Writer;
+use sentry_json::Node;
 use sentry_members::read::read_values;
 use sentry_members::{Codec, Formed, FromTree, Member, Own, ReadCodec, TreeError, Way};
-use sentry_trees::Node;
 use serde_json::Value;
 use std::alloc::{AllocError, Global};
 use std::slice::{Iter, IterMut};
@@ -80,7 +80,8 @@ impl<T: Drop> Values<T> {
     /// The values in order, each lent.
     pub fn iter(&self) -> Iter<'_, T>
         ensures rest { iter_rest result ≡ self.now.values.items }
-        ensures runs { EveryRun (iter_steps {A = T}) (λ p. ItemsMapTo p (λ x. x.now) (iter_rest p.from)) }
+        ensures runs { EveryRun (iter_steps {A = T}) (λ p.
+            ItemsMapTo p (λ x. x.now) (iter_rest p.from)) }
     {
         self.values.as_slice().iter()
     }
@@ -89,7 +90,8 @@ impl<T: Drop> Values<T> {
     pub fn iter_mut(&mut self) -> IterMut<'_, T>
         ensures* writes_back { sem 𝓛 (lends_iter T.row self.entry result) }
         ensures rest { iter_mut_rest result ≡ self.old.values.items }
-        ensures runs { EveryRun (iter_mut_steps {A = T}) (λ p. ItemsMapTo p (λ x. x.now) (iter_mut_rest p.from)) }
+        ensures runs { EveryRun (iter_mut_steps {A = T}) (λ p.
+            ItemsMapTo p (λ x. x.now) (iter_mut_rest p.from)) }
     {
         self.as_mut_slice().iter_mut()
     }
@@ -99,8 +101,10 @@ impl<T: Drop> Values<T> {
         alloc: Global,
         items: I,
     ) -> Result<Values<T>, AllocError>
-        requires { (it : I.IntoIter) → I.into_iter_gives items it → I.IntoIter.can_next it × IsFinite (I.IntoIter.remaining it) }
-        ensures { IfOk result (λ v. (it : I.IntoIter) × I.into_iter_gives items it × Drains I.IntoIter.next_gives it v.values.items) }
+        requires { (it : I.IntoIter) → I.into_iter_gives items it → I.IntoIter.can_next it ×
+            IsFinite (I.IntoIter.remaining it) }
+        ensures { IfOk result (λ v. (it : I.IntoIter) × I.into_iter_gives items it ×
+            Drains I.IntoIter.next_gives it v.values.items) }
     {
         let mut list = Values::new(alloc);
         list.try_extend(items)?;
@@ -112,8 +116,10 @@ impl<T: Drop> Values<T> {
     /// It fails where memory is refused; then the values that were there, and those that came before
     /// the refusal, stay.
     pub fn try_extend<I: IntoIterator<Item = T>>(&mut self, items: I) -> Result<(), AllocError>
-        requires { (it : I.IntoIter) → I.into_iter_gives items it → I.IntoIter.can_next it × IsFinite (I.IntoIter.remaining it) }
-        ensures { ExtendsWithItems I.into_iter_gives I.IntoIter.next_gives Extends items self.old self.new result }
+        requires { (it : I.IntoIter) → I.into_iter_gives items it → I.IntoIter.can_next it ×
+            IsFinite (I.IntoIter.remaining it) }
+        ensures { ExtendsWithItems I.into_iter_gives I.IntoIter.next_gives Extends items self.old
+            self.new result }
     {
         self.values.extend(items)
     }
@@ -124,7 +130,8 @@ impl<T: Member> Values<T> {
 
     /// The same values. It fails where memory is refused.
     pub fn clone(&self) -> Result<Values<T>, AllocError>
-        ensures { IfOk result (λ copy. list_cell T.cell_of copy.values.items ≡ list_cell T.cell_of self.now.values.items) }
+        ensures { IfOk result (λ copy.
+            list_cell T.cell_of copy.values.items ≡ list_cell T.cell_of self.now.values.items) }
     {
         Ok(Values {
             values: self.values.copy()?,
@@ -143,7 +150,8 @@ impl<T: Drop> IntoIterator for Values<T> {
     type IntoIter = IntoIter<T>;
 
     ghost into_iter_gives = { λ v it. (into_iter_items it ≡ v.values.items)
-        × EveryRun (into_iter_steps {X = T} {Z = Global}) (λ p. ItemsAre p (into_iter_items p.from)) };
+        × EveryRun (into_iter_steps {X = T} {Z = Global}) (λ p.
+        ItemsAre p (into_iter_items p.from)) };
 
     /// The values themselves, in order.
     fn into_iter(self) -> IntoIter<T> {
@@ -182,13 +190,15 @@ impl<'a, T: Drop> IntoIterator for &'a mut Values<T> {
     type IntoIter = IterMut<'a, T>;
 
     ghost into_iter_gives = { λ v it. (iter_mut_rest it ≡ v.now.values.items)
-        × EveryRun (iter_mut_steps {A = T}) (λ p. ItemsMapTo p (λ x. x.now) (iter_mut_rest p.from)) };
+        × EveryRun (iter_mut_steps {A = T}) (λ p.
+        ItemsMapTo p (λ x. x.now) (iter_mut_rest p.from)) };
 
     /// The values in order, each lent to be changed.
     fn into_iter(self) -> IterMut<'a, T>
         ensures* writes_back { sem 𝓛 (lends_iter T.row self.entry result) }
         ensures into_iter_gives { (iter_mut_rest result ≡ self.old.values.items)
-            × EveryRun (iter_mut_steps {A = T}) (λ p. ItemsMapTo p (λ x. x.now) (iter_mut_rest p.from)) }
+            × EveryRun (iter_mut_steps {A = T}) (λ p.
+            ItemsMapTo p (λ x. x.now) (iter_mut_rest p.from)) }
     {
         self.iter_mut()
     }
@@ -229,9 +239,9 @@ impl<T: Member> Codec<Values<T>> for AsValues {
     }
 
     #[tactic(auto, using(crate::proofs::ValuesMade::values_made))]
-    fn remade(value: &Values<T>, way: Way) -> Result<Values<T>, AllocError> {
+    fn remake(value: &Values<T>, way: Way) -> Result<Values<T>, AllocError> {
         Ok(Values {
-            values: value.values.remade(way)?,
+            values: value.values.remake(way)?,
         })
     }
 

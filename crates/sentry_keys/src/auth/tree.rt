@@ -1,4 +1,4 @@
-// An authentication as JSON. The moment that the client told never stands in it.
+//! Client authentication as a JSON object, which never holds the timestamp.
 
 ghost use Rattle.std.specs.Prelude.{◌≡◌, None, IfOk};
 ghost use Rattle.sentry_members.specs.Reading.{Reads};
@@ -6,10 +6,10 @@ ghost use Rattle.sentry_keys.specs.AuthFields.{auth_table, rows_cell};
 
 use crate::auth::{Auth, LATEST};
 use json::Writer;
+use sentry_json::Node;
 use sentry_members::{FromTree, Member, TreeError, Way};
 use sentry_rows::table::{table_tree, write_table};
 use sentry_rows::{Reader, Sink, Table};
-use sentry_trees::Node;
 use serde_json::Value;
 use std::alloc::{AllocError, Global};
 
@@ -46,7 +46,7 @@ impl Member for Auth {
     }
 
     #[tactic(auto, using(crate::proofs::AuthMade::copy_made, crate::proofs::AuthMade::normal_made))]
-    fn remade(&self, way: Way) -> Result<Auth, AllocError> {
+    fn remake(&self, way: Way) -> Result<Auth, AllocError> {
         let mut copy = self.clone()?;
         match way {
             Way::Same => Ok(copy),
@@ -67,7 +67,7 @@ impl Member for Auth {
     }
 }
 
-// What the rows of a tree show, without a moment.
+// Reads the rows of an object; the timestamp is `None`.
 #[tactic(auto, using(sentry_rows::proofs::Answering::no_object_fails), unfolding(crate::specs::AuthFields::auth_table))]
 fn read_rows<N: Node>(alloc: Global, node: &N) -> Result<Auth, TreeError>
     ensures rows { Reads auth_table rows_cell (N.data_of node.now) result }

@@ -1,4 +1,5 @@
-// Envelopes in files.
+//! Envelopes in files.
+
 use super::{is_written, read};
 use crate::wanted::wanted;
 use rand_pcg::Pcg32;

@@ -1,4 +1,5 @@
-// Headers of envelopes: what builders put in, getters give.
+//! Headers of envelopes: what builders put in, getters give.
+
 use super::is_written;
 use crate::wanted::wanted;
 use sentry_types::protocol::v7::{
@@ -14,7 +15,7 @@ fn text(alloc: Global, text: &str) -> Result<String, AllocError> {
 }
 
 /// What a trace is sampled by, with each of its texts.
-fn named(alloc: Global) -> Result<DynamicSamplingContext, AllocError> {
+fn texts(alloc: Global) -> Result<DynamicSamplingContext, AllocError> {
     Ok(
         DynamicSamplingContext::new()
             .with_public_key(text(alloc, "k")?)
@@ -27,7 +28,7 @@ fn named(alloc: Global) -> Result<DynamicSamplingContext, AllocError> {
 /// What a trace is sampled by, with each of its fields.
 fn sampling(alloc: Global, sample_rand: SampleRand) -> Result<DynamicSamplingContext, AllocError> {
     Ok(
-        named(alloc)?
+        texts(alloc)?
             .with_trace_id(TraceId::from([0x65; 16]))
             .with_sample_rate(210)
             .with_sample_rand(sample_rand)
@@ -80,7 +81,8 @@ fn software(alloc: Global) -> Result<ClientSdkInfo, AllocError> {
     })
 }
 
-/// A header with each of its fields; of what its trace is sampled by a number below 1 that six places round to 1.
+/// A header with each of its fields; of what its trace is sampled by a number below 1 that six
+/// places round to 1.
 fn header(alloc: Global, dsn: Dsn, sent_at: Moment) -> Result<EnvelopeHeaders, Fail> {
     let sample_rand = SampleRand::from_billionths(999_999_900).ok().ok_or("rand")?;
     let sdk = software(alloc)?;

@@ -1,4 +1,5 @@
-// Envelopes that are put together.
+//! Envelopes that are put together.
+
 use super::{HELLO, ID_LINE, hello, is_written, recording};
 use crate::wanted::wanted;
 use sentry_types::Uuid;
@@ -35,7 +36,8 @@ fn and_item(mut envelope: Envelope, item: EnvelopeItem) -> Result<Envelope, AddR
     Ok(envelope)
 }
 
-/// An envelope of the attachment of `helloworld`, raw bytes and a recording, with an id in its header.
+/// An envelope of the attachment of `helloworld`, raw bytes and a recording, with an id in its
+/// header.
 fn three_items(alloc: Global) -> Result<Envelope, AddRefused> {
     let two = and_item(one_item(alloc)?, EnvelopeItem::Raw)?;
     let three = and_item(two, recording(alloc))?;

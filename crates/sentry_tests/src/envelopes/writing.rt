@@ -1,4 +1,5 @@
-// Writers that fail.
+//! Writers that fail.
+
 use super::{HELLO, ID_LINE, read};
 use crate::wanted::wanted;
 use crate::writers::Full;
@@ -11,8 +12,8 @@ fn text(alloc: Global) -> Result<String, AllocError> {
     format!(in alloc; "{ID_LINE}{HELLO}")
 }
 
-/// Whether a writer with so much room gets that beginning of the text, and then the answer is `Io`; by a writer that
-/// counts failures too, which counts one.
+/// Whether a writer with so much room gets that beginning of the text, and then the answer is `Io`;
+/// by a writer that counts failures too, which counts one.
 fn is_cut(alloc: Global, envelope: &Envelope, text: &[u8], room: usize, by_error: bool) -> bool {
     let mut out = Full::new(alloc, room, 1, by_error);
     let mut counted = CountedWriter::new(Full::new(alloc, room, 1, by_error));

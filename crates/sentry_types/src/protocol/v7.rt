@@ -15,9 +15,9 @@ pub use sentry_envelope::{
 pub use sentry_event::{AsFingerprint, Event, Span, Transaction};
 pub use sentry_framing::{ItemHeader, ItemKind, read_item_header};
 pub use sentry_items::{
-    Attachment, AttachmentType, AttachmentWriteError, EnvelopeItem, ItemContainer, ReplayRecording,
+    Attachment, AttachmentType, AttachmentWriteError, EnvelopeItem, ItemContainer, ItemLossIter,
+    LossSlice, LossSource, ReplayRecording,
 };
-pub use sentry_losses::{ItemLossIter, LossSlice, LossSource};
 pub use sentry_parts::{
     AppleDebugImage, Breadcrumb, CError, ClientSdkInfo, ClientSdkPackage, DebugImage, DebugMeta,
     Exception, Frame, LogEntry, MachException, Mechanism, MechanismMeta, PosixSignal,
@@ -33,33 +33,31 @@ pub use sentry_reports::{Category, Item, ItemLoss, Reason, Report, Report as Cli
 pub use sentry_rows::Values;
 
 // Small texts.
-pub use sentry_addresses::{Addr, IpAddress, ParseIpError, RegVal};
-pub use sentry_crontab::{CrontabParseError, validate};
 pub use sentry_identifiers::{FromHexError, SpanId, TraceId};
 pub use sentry_moments::{
     Decimal, DecimalError, InvalidSampleRandError, Moment, SampleRand, SampleRate,
 };
-pub use sentry_numbers::{LogSeverityNumber, OrganizationId, ParseNumberError, SeverityOutOfRange};
-pub use sentry_units::Unit;
+pub use sentry_text::{
+    Addr, CrontabParseError, IpAddress, LogSeverityNumber, OrganizationId, ParseIpError,
+    ParseNumberError, RegVal, SeverityOutOfRange, validate,
+};
 pub use sentry_words::{
     Level, LogLevel, MetricType, MonitorCheckInStatus, MonitorIntervalUnit, Orientation,
     ParseLevelError, ParseSessionStatusError, ParseStatusError, ParseWordError, Sealed,
-    SessionStatus, SpanStatus,
+    SessionStatus, SpanStatus, Unit,
 };
 pub use url::Url;
 pub use uuid::Uuid;
 
 // Types as trees of JSON: the traits of their calls, and the forms of those that have several.
-pub use sentry_addresses::IpText;
 pub use sentry_identifiers::{Hyphenated, Simple};
+pub use sentry_json::Node;
 pub use sentry_members::{
     Codec, Drawn, Formed, FromTree, Member, Own, ReadCodec, TreeError, Way, read_line, whole,
 };
 pub use sentry_moments::{Rfc3339, Seconds};
-pub use sentry_numbers::OrganizationText;
 pub use sentry_rows::{FromTreeAt, ReadCodecAt};
-pub use sentry_trees::Node;
-pub use sentry_urls::UrlText;
+pub use sentry_text::{IpText, OrganizationText, UrlText};
 pub use sentry_words::Sampled;
 
 // Trees of JSON, and maps.
@@ -68,8 +66,8 @@ pub use self::value::Value;
 
 /// Losses, client reports, and the ledger that holds losses until they are reported.
 pub mod client_report {
+    pub use sentry_items::{ItemLossIter, LossSlice, LossSource};
     pub use sentry_ledger::{Ledger, LedgerFull, Step, StepAnswer, filter_recorded, run_steps};
-    pub use sentry_losses::{ItemLossIter, LossSlice, LossSource};
     pub use sentry_reports::{Category, Item, ItemLoss, Reason, Report};
 }
 

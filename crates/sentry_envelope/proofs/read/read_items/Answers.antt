@@ -22,11 +22,11 @@ returns-in_err-add_item-clause-err g c =
     rw (p.1, p.2) (λ ne. elim c.in_err-add_item.ensures.err [
       | inl is ↦ absurd (ne is)
       | inr refused ↦ subst (BodyIsAtFault profile c.args.frames.now.rest) (sym refused.0)
-          (payload_at_fault (moment_cell c.args.now) c.args.frames.now.rest c.loop-answer.items.items c.loop-answer.frames.rest c.loop-answer.invariant (frame_of c.in_ok-frame.frame) c.next_item_into.new.self.rest remains first refused.1)
+          (payload_at_fault (moment_cell c.args.now) c.args.frames.now.rest c.loop-answer.items.items c.loop-answer.frames.rest c.loop-answer.invariant (frame_of c.in_ok-frame.frame) c.next_item_into.new.frames.rest remains first refused.1)
     ])
 
 pub loop-answer-preserved : goal.loop-answer-preserved
 loop-answer-preserved g c =
     let first = rw c.in_ok-frame.was at c.in-Some.ensures.frame in
-    one_more (moment_cell c.args.now) c.args.frames.now.rest c.loop-answer.items.items c.loop-answer.frames.rest c.loop-answer.invariant (frame_of c.in_ok-frame.frame) c.next_item_into.new.self.rest
+    one_more (moment_cell c.args.now) c.args.frames.now.rest c.loop-answer.items.items c.loop-answer.frames.rest c.loop-answer.invariant (frame_of c.in_ok-frame.frame) c.next_item_into.new.frames.rest
     c.add_item.new.items.items first c.in_ok-add_item.ensures.ok

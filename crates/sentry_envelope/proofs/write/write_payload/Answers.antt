@@ -8,4 +8,4 @@ use Rattle.sentry_envelope.proofs.write.write_payload.Goals as goal
 pub returns : goal.returns
 unfolding written
 returns c = λ h.
-    text_written _ _ _ _ c.new-writer.ensures.tokens c.in_ok-write.ensures c.into_inner.ensures.items h ∙ ap (λ b. b ++ compact_text (container_tree c.args.container.now)) (c.new-writer.ensures.before ∙ ap (λ v. v.items) c.replace.ensures.value)
+    text_written _ _ _ _ c.new-writer.ensures.tokens c.in_ok-write_container_payload.ensures c.into_inner.ensures.items h ∙ ap (λ b. b ++ compact_text (container_tree c.args.container.now)) (c.new-writer.ensures.before ∙ ap (λ v. v.items) c.replace.ensures.value)

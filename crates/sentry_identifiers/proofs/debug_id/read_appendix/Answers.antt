@@ -1,6 +1,6 @@
 use Rattle.std.proofs.Common.{ℕ, List, ◌∷◌, sym, ap, ◌∙◌, arith, lit<, rules}
 use Rattle.std.proofs.lemmas.Str.Pattern.{starts_char}
-use Rattle.sentry_numbers.proofs.NumberTexts.{no_plus}
+use Rattle.sentry_text.proofs.NumberTexts.{no_plus}
 use Rattle.sentry_identifiers.proofs.DebugIds.{no_tail, no_hyphen, digits_refused, number_read, number_refused}
 use Rattle.std.proofs.lemmas.Bool.{true≢false}
 use Rattle.sentry_identifiers.proofs.debug_id.read_appendix.Goals as goal

@@ -2,8 +2,8 @@ use Rattle.std.proofs.Common.{◌≡◌, Some, drop, arith, rules, true, false, 
 use Rattle.std.specs.Prelude.{is_some}
 use Rattle.std.proofs.lemmas.List.{drop_all}
 use Rattle.serde_json.specs.Find.{get_member}
-use Rattle.sentry_trees.specs.Nodes.{named_by}
-use Rattle.sentry_trees.proofs.Latest.{one_passed_over, one_put, one_counts}
+use Rattle.sentry_json.specs.Nodes.{named_by}
+use Rattle.sentry_json.proofs.Latest.{one_passed_over, one_put, one_counts}
 use Rattle.sentry_tables.specs.Kind.{tagged_map}
 use Rattle.sentry_tables.specs.Shows.{MembersShow}
 use Rattle.sentry_members.specs.Cells.{entries}

@@ -4,5 +4,4 @@ use Rattle.sentry_contexts.proofs.otel.OtelContextReadKept.read.Goals as goal
 
 pub returns : goal.returns
 unfolding otel_fields
-returns g c =
-    (_, (_, c.map.ensures, (_, c.map-2.ensures, refl)), rw c.names.ensures at c.others.ensures)
+returns g c = (_, (_, c.map.ensures, (_, c.map-2.ensures, refl)), rw c.names.ensures at c.others.ensures)

@@ -4,5 +4,4 @@ use Rattle.sentry_contexts.proofs.runtime.RuntimeContextReadKept.read.Goals as g
 
 pub returns : goal.returns
 unfolding runtime_fields
-returns g c =
-    (_, (_, c.optional.ensures, (_, c.optional-2.ensures, refl)), rw c.names.ensures at c.others.ensures)
+returns g c = (_, (_, c.optional.ensures, (_, c.optional-2.ensures, refl)), rw c.names.ensures at c.others.ensures)

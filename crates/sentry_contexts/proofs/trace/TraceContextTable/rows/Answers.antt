@@ -1,7 +1,7 @@
 use Rattle.std.proofs.Common.{refl}
-use Rattle.sentry_contexts.specs.Telemetry.{tracing_fields}
+use Rattle.sentry_contexts.specs.Telemetry.{trace_context_fields}
 use Rattle.sentry_contexts.proofs.trace.TraceContextTable.rows.Goals as goal
 
 pub returns : goal.returns
-unfolding tracing_fields
+unfolding trace_context_fields
 returns g c = (_, c.map.ensures, (_, c.optional.ensures, (_, c.optional-2.ensures, (_, c.optional-3.ensures, (_, c.optional-4.ensures, (_, c.drawn_as.ensures, (_, c.optional-5.ensures, (_, c.drawn_as-2.ensures, refl))))))))

@@ -1,5 +1,5 @@
 use Rattle.std.proofs.Common.{◌≡◌, fold}
-use Rattle.sentry_losses.specs.Losses.{losses_left, losses_of_item}
+use Rattle.sentry_items.specs.Losses.{losses_left, losses_of_item}
 use Rattle.sentry_env.specs.Sums.{add_loss}
 use Rattle.sentry_env.proofs.losses.LossSums.add_item.Given as goal
 

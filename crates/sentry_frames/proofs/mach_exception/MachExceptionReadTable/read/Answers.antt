@@ -1,3 +1,4 @@
+-- by hand: the numbers fit their types
 use Rattle.std.proofs.Common.{SFits, w32, refl, rules, to_z-of_z}
 use Rattle.sentry_frames.specs.Causes.{mach_fields}
 use Rattle.sentry_frames.proofs.mach_exception.MachExceptionReadTable.read.Goals as goal

@@ -1,5 +1,5 @@
 use Rattle.std.proofs.Common.{◌≤◌, length, drop}
-use Rattle.sentry_trees.specs.Nodes.{named_by}
+use Rattle.sentry_json.specs.Nodes.{named_by}
 use Rattle.sentry_members.specs.Cells.{entries}
 use Rattle.sentry_tables.specs.Cell.{Cell}
 use Rattle.sentry_tables.specs.Shows.{Shows, MembersShow}

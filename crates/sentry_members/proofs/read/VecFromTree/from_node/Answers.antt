@@ -1,6 +1,6 @@
 use Rattle.std.proofs.Common.{◌≡◌, Some, take, arith, rules}
 use Rattle.std.proofs.lemmas.List.{take_all}
-use Rattle.sentry_trees.specs.Nodes.{items_by}
+use Rattle.sentry_json.specs.Nodes.{items_by}
 use Rattle.serde_json.specs.Find.{as_array}
 use Rattle.sentry_members.specs.Reading.{Only, Refused}
 use Rattle.sentry_tables.specs.Kind.{list}

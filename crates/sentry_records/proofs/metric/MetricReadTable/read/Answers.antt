@@ -1,3 +1,4 @@
+-- by hand: the value fits its type
 use Rattle.std.proofs.Common.{SFits, w64, refl, rules, to_z-of_z}
 use Rattle.sentry_records.specs.Metrics.{metric_fields}
 use Rattle.sentry_records.proofs.metric.MetricReadTable.read.Goals as goal

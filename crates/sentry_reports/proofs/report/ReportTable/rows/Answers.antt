@@ -1,3 +1,4 @@
+-- by hand: the report's own invariant
 use Rattle.std.proofs.Common.{refl}
 use Rattle.sentry_reports.specs.Reports.{report_fields}
 use Rattle.sentry_reports.proofs.report.ReportTable.rows.Goals as goal

@@ -1,5 +1,0 @@
-use Rattle.sentry_addresses.proofs.IpTrees.{stored_address}
-use Rattle.sentry_addresses.proofs.ip.IpAddressSpelled.hold.Goals as goal
-
-pub returns : goal.returns
-returns c = stored_address c.args.self.now c.hold_address.ensures

@@ -1,4 +1,0 @@
-pub mod Address
-pub mod Ip
-pub mod AddressTree
-pub mod IpTree

@@ -1,4 +1,0 @@
-pub mod CrontabItems
-pub mod CrontabParts
-pub mod CrontabSplits
-pub mod CrontabWords

@@ -1,5 +1,0 @@
-use Rattle.sentry_items.proofs.Made.{type_there}
-use Rattle.sentry_items.proofs.attachment.Attachment.remade_type.Goals as goal
-
-pub returns-in_ok-remade-in-Some : goal.returns-in_ok-remade-in-Some
-returns-in_ok-remade-in-Some c = type_there c.args.way c.args.self.now c.in-Some.ty c.in_ok-remade-in-Some.field-0 c.in-Some.is c.in_ok-remade-in-Some.ensures

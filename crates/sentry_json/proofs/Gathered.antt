@@ -1,0 +1,157 @@
+-- Nodes in lists and under keys, gathered one by one.
+use Rattle.std.proofs.Common.{◌≡◌, ℕ, zero, suc, ◌+◌, ◌<◌, ◌≤◌, arith, sym, false, true, true≢false, bytes_eq, subst, ◌≤◌, ◌-◌, Some, None, option_and_then, List, [], ◌∷◌, ◌++◌, length, get_or, take, String, Global, Ordering, Less, Equal, Greater, string_bytes, string_cmp, nat_cmp, refl, ap, ◌∙◌}
+use Rattle.std.proofs.lemmas.List.{take_more}
+use Rattle.std.specs.Ordering.{match_ordering, ordering_reverse}
+use Rattle.std.specs.BTreeMap.{insert_entry}
+use Rattle.std.specs.List.Sorted.{IsStrictlySortedBy}
+use Rattle.std.specs.Map.{keys_of}
+use Rattle.serde_json.specs.Data.{unsigned, negative, float, Data, null, boolean, number, string, array, object, Items, no_items, item, Members, no_members, member, put, depth, items_depth, members_depth}
+use Rattle.serde_json.specs.Find.{get_member, as_array, as_object, as_str, as_bool, as_number, as_u64, as_i64}
+use Rattle.serde_json.specs.Written.{has_float}
+use Rattle.std.specs.List.{AllByRecursion}
+use Rattle.std.specs.Cmp.Lexicographic.{slice_cmp}
+use Rattle.std.proofs.lemmas.Cmp.{nat_list_cmp_total}
+use Rattle.serde_json.specs.View.{view, items_view, members_view}
+use Rattle.serde_json.specs.declared.value.Value.{Value}
+use Rattle.serde_json.proofs.Views.{Entry, put_last, members_view-insert_entry, get_member-put, get_member-put_other}
+use Rattle.std.proofs.lemmas.Slice.Eq.{bytes_eq-Decides}
+use Rattle.sentry_json.proofs.Beside.{beside_named, beside_put}
+use Rattle.sentry_json.specs.Sound.{IsOrdered}
+use Rattle.sentry_json.proofs.Regular.{put_ordered}
+use Rattle.sentry_json.specs.Keys.{is_among, beside}
+use Rattle.sentry_json.specs.Nodes.{items_by, members_by, named_after, named_by}
+use Rattle.sentry_json.specs.declared.object.Named.{Named}
+
+more_items : {N : Type 0} (f : N → Data) (xs : List N) (x : N) (vs : List Value) (v : Value) → items_by f xs ≡ items_view vs → f x ≡ view v → items_by f (xs ++ x ∷ []) ≡ items_view (vs ++ v ∷ [])
+more_items f [] x [] v h s = ap (λ d. item d no_items) s
+more_items f [] x (w ∷ vs) v h s = absurd cc
+more_items f (y ∷ xs) x [] v h s = absurd cc
+more_items f (y ∷ xs) x (w ∷ vs) v h s =
+    let a : f y ≡ view w = cc in
+    let b : items_by f xs ≡ items_view vs = cc in
+    let r = more_items f xs x vs v b s in cc
+
+pub more_items_at : {N : Type 0} (f : N → Data) (xs new : List N) (x : N) (vs : List Value) (i : ℕ) (v : Value) → i < length vs → v ≡ get_or vs i v → new ≡ xs ++ x ∷ [] → items_by f xs ≡ items_view (take i vs) → f x ≡ view v
+    → items_by f new ≡ items_view (take (i + 1) vs)
+more_items_at f xs new x vs i v lt at made h s = rw (take_more vs i v lt, ← at, made) (more_items f xs x (take i vs) v h s)
+
+-- the data of some nodes, and then those of ds
+abbrev pub items_before : {N : Type 0} → (N → Data) → List N → Items → Items
+items_before f [] ds = ds
+items_before f (x ∷ xs) ds = item (f x) (items_before f xs ds)
+
+pub items_before_none : {N : Type 0} (f : N → Data) (xs : List N) → items_before f xs no_items ≡ items_by f xs
+items_before_none f [] = refl
+items_before_none f (x ∷ xs) = ap (item (f x)) (items_before_none f xs)
+
+pub items_push : {N : Type 0} (f : N → Data) (xs : List N) (x : N) (ds : Items) → items_before f xs (item (f x) ds) ≡ items_before f (xs ++ x ∷ []) ds
+items_push f [] x ds = refl
+items_push f (y ∷ xs) x ds = ap (item (f y)) (items_push f xs x ds)
+
+by_ordering : {N : Type 0} (f : N → Data) (o : Ordering) (a b c : List (String Global × N)) → members_by f (match_ordering o a b c) ≡ match_ordering o (members_by f a) (members_by f b) (members_by f c)
+by_ordering f Less a b c = refl
+by_ordering f Equal a b c = refl
+by_ordering f Greater a b c = refl
+
+pub insert_put : {N : Type 0} (f : N → Data) (es : List (String Global × N)) (k : String Global) (x : N) → members_by f (insert_entry string_cmp es k x) ≡ put (string_bytes k) (f x) (members_by f es)
+insert_put f [] k x = refl
+insert_put f (e ∷ es) k x = by_ordering f (string_cmp k e.0) _ _ _ ∙ rw (insert_put f es k x)
+
+pub insert_last : {N : Type 0} (f : N → Data) (es new : List (String Global × N)) (k : String Global) (x : N) (done : List Entry) (e : Entry) (more : List Entry) → IsStrictlySortedBy string_cmp (keys_of (done ++ e ∷ more)) → new ≡ insert_entry string_cmp es k x → string_bytes k ≡ string_bytes e.0 → f x ≡ view e.1
+    → members_by f es ≡ members_view done → members_by f new ≡ members_view (done ++ e ∷ [])
+insert_last f es new k x done e more sorted made named seen h = ap (members_by f) made ∙ insert_put f es k x ∙ rw (named, seen, h) (put_last done e more sorted)
+
+-- ---- members as they come, put one after the other
+
+pub named_last : {N : Type 0} (f : N → Data) (ms : List (Named N)) (m : Named N) → named_by f (ms ++ m ∷ []) ≡ put m.key.now (f m.node) (named_by f ms)
+named_last {N} f ms m = after no_members ms
+  where
+    after : (before : Members) (ms : List (Named N)) → named_after f before (ms ++ m ∷ []) ≡ put m.key.now (f m.node) (named_after f before ms)
+    after before [] = refl
+    after before (n ∷ ns) = after (put n.key.now (f n.node) before) ns
+
+-- the last of the members
+pub named_more : {N : Type 0} (f : N → Data) (ms : List (Named N)) (i : ℕ) (m : Named N) → i < length ms → m ≡ get_or ms i m → named_by f (take (i + 1) ms) ≡ put m.key.now (f m.node) (named_by f (take i ms))
+named_more f ms i m lt at = ap (named_by f) (take_more ms i m lt) ∙ rw (← at) (named_last f (take i ms) m)
+
+named_back : {N : Type 0} (f : N → Data) (ms : List (Named N)) (n : ℕ) (m : Named N) → 0 < n → n ≤ length ms → m ≡ get_or ms (n - 1) m → named_by f (take n ms) ≡ put m.key.now (f m.node) (named_by f (take (n - 1) ms))
+named_back f ms zero m some within at = absurd (omega (arith, some))
+named_back f ms (suc i) m some within at =
+    let back : suc i - 1 ≡ i = omega arith in
+    let next : i + 1 ≡ suc i = omega arith in
+    let here = named_more f ms i m (omega (arith, within)) (subst (λ k. m ≡ get_or ms k m) back at) in
+    rw back (subst (λ k. named_by f (take k ms) ≡ put m.key.now (f m.node) (named_by f (take i ms))) next here)
+
+-- the member that comes last is that of its key
+pub named_here : {N : Type 0} (f : N → Data) (ms : List (Named N)) (n : ℕ) (m : Named N) (key : List ℕ) → 0 < n → n ≤ length ms → m ≡ get_or ms (n - 1) m → bytes_eq m.key.now key ≡ true → get_member key (named_by f (take n ms)) ≡ Some (f m.node)
+named_here f ms n m key some within at same =
+    ap (get_member key) (named_back f ms n m some within at) ∙ ap (λ k. get_member key (put k (f m.node) (named_by f (take (n - 1) ms)))) ((bytes_eq-Decides m.key.now key).0 same) ∙ get_member-put key (f m.node) (named_by f (take (n - 1) ms))
+
+-- one of another key takes nothing from those before
+pub named_there : {N : Type 0} (f : N → Data) (ms : List (Named N)) (n : ℕ) (m : Named N) (key : List ℕ) → 0 < n → n ≤ length ms → m ≡ get_or ms (n - 1) m → bytes_eq m.key.now key ≡ false → get_member key (named_by f (take n ms)) ≡ get_member key (named_by f (take (n - 1) ms))
+named_there f ms n m key some within at other =
+    ap (get_member key) (named_back f ms n m some within at) ∙ get_member-put_other key m.key.now (f m.node) (named_by f (take (n - 1) ms)) (λ same. true≢false (sym ((bytes_eq-Decides m.key.now key).1 (sym same)) ∙ other))
+
+pub named_ordered : {N : Type 0} (f : N → Data) (ms : List (Named N)) → IsOrdered (named_by f ms)
+named_ordered {N} f ms = after no_members ms tt
+  where
+    after : (before : Members) (ms : List (Named N)) → IsOrdered before → IsOrdered (named_after f before ms)
+    after before [] ordered = ordered
+    after before (m ∷ ms) ordered = after (put m.key.now (f m.node) before) ms (put_ordered m.key.now (f m.node) before ordered)
+
+-- one more member, of one of the names
+pub beside_same : {N : Type 0} (f : N → Data) (names : List (List ℕ)) (ms : List (Named N)) (i : ℕ) (m : Named N) → i < length ms → m ≡ get_or ms i m → is_among m.key.now names ≡ true
+    → beside names (named_by f (take i ms)) ≡ beside names (named_by f (take (i + 1) ms))
+beside_same f names ms i m lt at named = sym (ap (beside names) (named_more f ms i m lt at) ∙ beside_named names m.key.now (f m.node) (named_by f (take i ms)) named)
+
+-- one more member, of another key
+pub beside_more : {N : Type 0} (f : N → Data) (names : List (List ℕ)) (ms : List (Named N)) (i : ℕ) (m : Named N) → i < length ms → m ≡ get_or ms i m → is_among m.key.now names ≡ false
+    → put m.key.now (f m.node) (beside names (named_by f (take i ms))) ≡ beside names (named_by f (take (i + 1) ms))
+beside_more f names ms i m lt at other = sym (ap (beside names) (named_more f ms i m lt at) ∙ beside_put names m.key.now (f m.node) (named_by f (take i ms)) (named_ordered f (take i ms)) other)
+
+-- those of a tree come in their order
+pub named_sorted : {N : Type 0} (f : N → Data) (ms new : List (Named N)) (m : Named N) (done : List Entry) (e : Entry) (more : List Entry) → IsStrictlySortedBy string_cmp (keys_of (done ++ e ∷ more)) → new ≡ ms ++ m ∷ [] → m.key.now ≡ string_bytes e.0 → f m.node ≡ view e.1
+    → named_by f ms ≡ members_view done → named_by f new ≡ members_view (done ++ e ∷ [])
+named_sorted f ms new m done e more sorted made named seen h = ap (named_by f) made ∙ named_last f ms m ∙ rw (named, seen, h) (put_last done e more sorted)
+
+-- ---- trees of their own, grown from nodes
+
+pub grown_item : {N : Type 0} (f : N → Data) (xs : List N) (i : ℕ) (x : N) (vs new : List Value) (v : Value) → i < length xs → x ≡ get_or xs i x → new ≡ vs ++ v ∷ [] → items_view vs ≡ items_by f (take i xs) → view v ≡ f x
+    → items_view new ≡ items_by f (take (i + 1) xs)
+grown_item f xs i x vs new v lt at made h s = rw (take_more xs i x lt, ← at, made) (sym (more_items f (take i xs) x vs v (sym h) (sym s)))
+
+pub item_depth : {N : Type 0} (f : N → Data) (xs : List N) (i : ℕ) (x : N) → i < length xs → depth (f (get_or xs i x)) ≤ items_depth (items_by f xs)
+item_depth f [] i x lt = absurd (omega arith)
+item_depth f (y ∷ ys) zero x lt = omega arith
+item_depth f (y ∷ ys) (suc i) x lt = omega (arith, item_depth f ys i x (omega arith))
+
+pub member_depth : {N : Type 0} (f : N → Data) (done : List (String Global × N)) (e : String Global × N) (more : List (String Global × N)) → depth (f e.1) ≤ members_depth (members_by f (done ++ e ∷ more))
+member_depth f [] e more = omega arith
+member_depth f (x ∷ xs) e more = omega (arith, member_depth f xs e more)
+
+below_middle : {N : Type 0} (first : String Global × N) (es : List (String Global × N)) (e : String Global × N) (more : List (String Global × N)) → AllByRecursion (λ y. string_cmp first.0 y ≡ Less) (keys_of (es ++ e ∷ more)) → string_cmp first.0 e.0 ≡ Less
+below_middle first [] e more h = h.0
+below_middle first (x ∷ es) e more h = below_middle first es e more h.1
+
+put_last_by : {N : Type 0} (f : N → Data) (done : List (String Global × N)) (e : String Global × N) (more : List (String Global × N)) → IsStrictlySortedBy string_cmp (keys_of (done ++ e ∷ more))
+    → put (string_bytes e.0) (f e.1) (members_by f done) ≡ members_by f (done ++ e ∷ [])
+unfolding IsStrictlySortedBy
+put_last_by f [] e more h = refl
+put_last_by f (first ∷ done) e more h =
+    let above : slice_cmp nat_cmp (string_bytes e.0) (string_bytes first.0) ≡ Greater =
+    nat_list_cmp_total.antisymm (string_bytes e.0) (string_bytes first.0) ∙ ap ordering_reverse (below_middle first done e more h.0) in
+    rw above (ap (member (string_bytes first.0) (f first.1)) (put_last_by f done e more h.1))
+
+pub grown_member : {N : Type 0} (f : N → Data) (done : List (String Global × N)) (e : String Global × N) (more : List (String Global × N)) (es new : List Entry) (k : String Global) (v : Value) → IsStrictlySortedBy string_cmp (keys_of (done ++ e ∷ more)) → new ≡ insert_entry string_cmp es k v
+    → string_bytes k ≡ string_bytes e.0 → view v ≡ f e.1 → members_view es ≡ members_by f done → members_view new ≡ members_by f (done ++ e ∷ [])
+grown_member f done e more es new k v sorted made named seen h = ap members_view made ∙ members_view-insert_entry es k v ∙ rw (named, seen, h) (put_last_by f done e more sorted)
+
+pub only_null : (d : Data) → as_array d ≡ None → as_object d ≡ None → None ≡ as_str d → None ≡ as_bool d → None ≡ option_and_then as_u64 (as_number d) → None ≡ option_and_then as_i64 (as_number d) → has_float d ≡ false → null ≡ d
+only_null null a b c e f g h = refl
+only_null (boolean x) a b c e f g h = absurd cc
+only_null (number (unsigned n)) a b c e f g h = absurd cc
+only_null (number (negative z)) a b c e f g h = absurd cc
+only_null (number (float x)) a b c e f g h = absurd (true≢false h)
+only_null (string s) a b c e f g h = absurd cc
+only_null (array ds) a b c e f g h = absurd cc
+only_null (object ms) a b c e f g h = absurd cc

@@ -1,0 +1,208 @@
+//! A place in a tape.
+
+ghost use Rattle.std.specs.Prelude.{◌≡◌, true, None, IfOk, option_map};
+ghost use Rattle.serde_json.specs.Find.{as_array, as_object};
+ghost use Rattle.serde_json.specs.View.{view, items_view, members_view};
+ghost use Rattle.sentry_json.specs.Nodes.{items_by, members_by};
+ghost use Rattle.sentry_json.specs.Tree.{data_at, is_tree};
+
+use crate::keys::place;
+use crate::node::Node;
+use crate::number;
+use crate::object::Named;
+use json::Element;
+use serde_json::{Map, Value};
+use std::alloc::{AllocError, Global};
+
+/// A place in a tape, where a value begins whose numbers are whole, nested no deeper than a line may.
+#[derive(Drop)]
+pub struct Branch<'t, 'a> {
+    at: Element<'t, 'a>,
+    ghost tame: { is_tree at ≡ true },
+}
+
+impl<'t, 'a> Branch<'t, 'a> {
+    pub(crate) fn new(at: Element<'t, 'a>) -> Branch<'t, 'a>
+        requires { is_tree at ≡ true }
+        ensures { result.at ≡ at.entry }
+    {
+        Branch { at }
+    }
+}
+
+impl<'t, 'a> Node for Branch<'t, 'a> {
+    ghost data_of = { λ b. data_at b.at };
+
+    fn is_null(&self) -> bool {
+        self.at.is_null()
+    }
+
+    fn is_object(&self) -> bool {
+        self.at.members().is_some()
+    }
+
+    fn is_array(&self) -> bool {
+        self.at.items().is_some()
+    }
+
+    fn as_bool(&self) -> Option<bool> {
+        self.at.as_bool()
+    }
+
+    fn as_u64(&self) -> Option<u64> {
+        match self.at.as_number() {
+            Some(text) => number::parse_unsigned(text),
+            None => None,
+        }
+    }
+
+    fn as_i64(&self) -> Option<i64> {
+        match self.at.as_number() {
+            Some(text) => number::parse_signed(text),
+            None => None,
+        }
+    }
+
+    fn as_str(&self) -> Option<&str> {
+        self.at.as_str()
+    }
+
+    fn get(&self, key: &str) -> Option<Branch<'t, 'a>> {
+        match self.at.get(key) {
+            Some(at) => Some(Branch { at }),
+            None => None,
+        }
+    }
+
+    fn get_each(&self, keys: &[&str], places: &mut [Option<Branch<'t, 'a>>]) {
+        let Some(mut members) = self.at.members() else {
+            return;
+        };
+        while let Some((key, at)) = members.next() {
+            if let Some(i) = place(keys, key) {
+                places[i] = Some(Branch { at });
+            }
+        }
+    }
+
+    fn text_at(&self, key: &str) -> Option<&str> {
+        match self.at.get(key) {
+            Some(at) => at.as_str(),
+            None => None,
+        }
+    }
+
+    fn items(&self, alloc: Global) -> Result<Option<Vec<Branch<'t, 'a>>>, AllocError> {
+        let mut items = match self.at.items() {
+            Some(items) => items,
+            None => return Ok(None),
+        };
+        let mut nodes = Vec::new(alloc);
+        while let Some(at) = items.next() {
+            nodes.push(Branch { at })?;
+        }
+        Ok(Some(nodes))
+    }
+
+    fn members(&self, alloc: Global) -> Result<Option<Vec<Named<'_, Branch<'t, 'a>>>>, AllocError> {
+        let mut members = match self.at.members() {
+            Some(members) => members,
+            None => return Ok(None),
+        };
+        let mut named = Vec::with_capacity(alloc, USUAL)?;
+        while let Some((key, at)) = members.next() {
+            let node = Branch { at };
+            named.push(Named { key, node })?;
+        }
+        Ok(Some(named))
+    }
+
+    fn to_value(&self, alloc: Global) -> Result<Value, AllocError> {
+        grow(self, alloc)
+    }
+}
+
+/// Room for as many members as an object usually has, taken at once.
+const USUAL: usize = 16;
+
+/// The tree of its own.
+#[cycle(grow)]
+fn grow(node: &Branch<'_, '_>, alloc: Global) -> Result<Value, AllocError>
+    ensures { IfOk result (λ v. view v ≡ data_at node.now.at) }
+{
+    if let Some(items) = node.items(alloc)? {
+        return Ok(Value::Array(grow_items(&items, alloc)?));
+    }
+    if let Some(members) = members(node, alloc)? {
+        return Ok(Value::Object(grow_members(&members, alloc)?));
+    }
+    leaf(node, alloc)
+}
+
+#[cycle(grow)]
+fn grow_items(nodes: &[Branch<'_, '_>], alloc: Global) -> Result<Vec<Value>, AllocError>
+    ensures { IfOk result (λ v. items_view v.items ≡ items_by (λ b. data_at b.at) nodes.now) }
+{
+    let mut values = Vec::with_capacity(alloc, nodes.len())?;
+    for node in nodes {
+        values.push(grow(node, alloc)?)?;
+    }
+    Ok(values)
+}
+
+#[cycle(grow)]
+fn grow_members(
+    nodes: &Map<String, Branch<'_, '_>>,
+    alloc: Global,
+) -> Result<Map<String, Value>, AllocError>
+    ensures { IfOk result (λ m. members_view m.entries ≡ members_by (λ b.
+        data_at b.at) nodes.now.entries) }
+{
+    let mut values = Map::new(alloc);
+    for (key, node) in nodes.iter() {
+        let name = key.clone()?;
+        drop(values.insert(name, grow(node, alloc)?)?);
+    }
+    Ok(values)
+}
+
+/// The members of an object, each key once.
+fn members<'t, 'a>(
+    node: &Branch<'t, 'a>,
+    alloc: Global,
+) -> Result<Option<Map<String, Branch<'t, 'a>>>, AllocError>
+    ensures { IfOk result (λ o. option_map (λ m. members_by (λ b. data_at b.at) m.entries) o
+        ≡ as_object (data_at node.now.at)) }
+{
+    let mut members = match node.at.members() {
+        Some(members) => members,
+        None => return Ok(None),
+    };
+    let mut nodes = Map::new(alloc);
+    while let Some((key, at)) = members.next() {
+        let name = String::from_str(alloc, key)?;
+        drop(nodes.insert(name, Branch { at })?);
+    }
+    Ok(Some(nodes))
+}
+
+/// The tree of a value with nothing inside.
+fn leaf(node: &Branch<'_, '_>, alloc: Global) -> Result<Value, AllocError>
+    requires no_array { as_array (data_at node.now.at) ≡ None }
+    requires no_object { as_object (data_at node.now.at) ≡ None }
+    ensures { IfOk result (λ v. view v ≡ data_at node.now.at) }
+{
+    if let Some(text) = node.as_str() {
+        return Value::try_from_str(alloc, text);
+    }
+    if let Some(truth) = node.as_bool() {
+        return Ok(Value::from(truth));
+    }
+    if let Some(number) = node.as_u64() {
+        return Ok(Value::from(number));
+    }
+    if let Some(number) = node.as_i64() {
+        return Ok(Value::from(number));
+    }
+    Ok(Value::Null)
+}

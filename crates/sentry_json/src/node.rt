@@ -1,0 +1,176 @@
+//! A place in a tree of JSON.
+
+ghost use Rattle.std.specs.Prelude.{◌≡◌, true, None, map, is_some, option_map, option_and_then, IfOk, IfSome};
+ghost use Rattle.serde_json.specs.Data.{Data};
+ghost use Rattle.serde_json.specs.Find as find;
+ghost use Rattle.serde_json.specs.View.{view, number_view};
+ghost use Rattle.sentry_json.specs.Sound.{IsRanged};
+ghost use Rattle.sentry_json.specs.Keys.{are_distinct};
+ghost use Rattle.sentry_json.specs.Nodes.{items_by, named_by};
+
+use crate::object::Named;
+use serde_json::{Number, Value};
+use std::alloc::{AllocError, Global};
+
+/// A place in a tree of JSON, whatever holds the tree.
+pub trait Node: Sized + Drop {
+    ghost data_of: { Self → Data };
+
+    /// Whether null stands here.
+    fn is_null(&self) -> bool
+        ensures { result ≡ is_some (find.as_null (data_of self.now)) };
+
+    /// Whether an object stands here.
+    fn is_object(&self) -> bool
+        ensures { result ≡ is_some (find.as_object (data_of self.now)) };
+
+    /// Whether an array stands here.
+    fn is_array(&self) -> bool
+        ensures { result ≡ is_some (find.as_array (data_of self.now)) };
+
+    /// The truth value that stands here.
+    fn as_bool(&self) -> Option<bool>
+        ensures { result ≡ find.as_bool (data_of self.now) };
+
+    /// The number that stands here, if it is one from 0 that 64 bits hold.
+    fn as_u64(&self) -> Option<u64>
+        ensures { result ≡ option_and_then find.as_u64 (find.as_number (data_of self.now)) };
+
+    /// The number that stands here, if 64 bits hold it with its sign.
+    fn as_i64(&self) -> Option<i64>
+        ensures value { result ≡ option_and_then find.as_i64 (find.as_number (data_of self.now)) }
+        ensures ranged { IfSome (find.as_number (data_of self.now)) IsRanged };
+
+    /// The text that stands here.
+    fn as_str(&self) -> Option<&str>
+        ensures { option_map (λ s. s.now) result ≡ find.as_str (data_of self.now) };
+
+    /// The place at a key of the object that stands here.
+    fn get(&self, key: &str) -> Option<Self>
+        ensures { option_map data_of result ≡ find.get key.now (data_of self.now) };
+
+    /// The places at several keys of the object that stands here, found in one walk.
+    ///
+    /// Each key takes the place of its own number in `places`, all of which are empty before.
+    fn get_each(&self, keys: &[&str], places: &mut [Option<Self>])
+        requires distinct { are_distinct (map (λ key. key.now) keys.now) ≡ true }
+        requires empty { map (option_map data_of) places.old ≡ map (λ key. None) keys.now }
+        ensures { map (option_map data_of) places.new
+            ≡ map (λ key. find.get key.now (data_of self.now)) keys.now };
+
+    /// The text at a key of the object that stands here.
+    fn text_at(&self, key: &str) -> Option<&str>
+        ensures { option_map (λ s. s.now) result
+            ≡ option_and_then find.as_str (find.get key.now (data_of self.now)) };
+
+    /// The items of the array that stands here.
+    fn items(&self, alloc: Global) -> Result<Option<Vec<Self>>, AllocError>
+        ensures { IfOk result (λ o. option_map (λ v. items_by data_of v.items) o
+            ≡ find.as_array (data_of self.now)) };
+
+    /// The members of the object that stands here, each with its key, as they come. Of members of one
+    /// key the last one counts.
+    ///
+    /// It fails where memory is refused.
+    fn members(&self, alloc: Global) -> Result<Option<Vec<Named<'_, Self>>>, AllocError>
+        ensures { IfOk result (λ o. option_map (λ v. named_by data_of v.items) o
+            ≡ find.as_object (data_of self.now)) };
+
+    /// A tree of its own.
+    fn to_value(&self, alloc: Global) -> Result<Value, AllocError>
+        ensures { IfOk result (λ v. view v ≡ data_of self.now) };
+}
+
+impl<'v> Node for &'v Value {
+    ghost data_of = { λ tree. view tree.now };
+
+    fn is_null(&self) -> bool {
+        Value::is_null(*self)
+    }
+
+    fn is_object(&self) -> bool {
+        Value::is_object(*self)
+    }
+
+    fn is_array(&self) -> bool {
+        Value::is_array(*self)
+    }
+
+    fn as_bool(&self) -> Option<bool> {
+        Value::as_bool(*self)
+    }
+
+    fn as_u64(&self) -> Option<u64> {
+        Value::as_u64(*self)
+    }
+
+    fn as_i64(&self) -> Option<i64> {
+        match Value::as_number(*self) {
+            Some(number) => number_as_i64(number),
+            None => None,
+        }
+    }
+
+    fn as_str(&self) -> Option<&str> {
+        Value::as_str(*self)
+    }
+
+    fn get(&self, key: &str) -> Option<&'v Value> {
+        Value::get(*self, key)
+    }
+
+    fn get_each(&self, keys: &[&str], places: &mut [Option<&'v Value>]) {
+        for i in 0..keys.len() {
+            places[i] = Value::get(*self, keys[i]);
+        }
+    }
+
+    fn text_at(&self, key: &str) -> Option<&str> {
+        match Value::get(*self, key) {
+            Some(text) => Value::as_str(text),
+            None => None,
+        }
+    }
+
+    fn items(&self, alloc: Global) -> Result<Option<Vec<&'v Value>>, AllocError> {
+        let items = match Value::as_array(*self) {
+            Some(items) => items,
+            None => return Ok(None),
+        };
+        let mut nodes = Vec::with_capacity(alloc, items.len())?;
+        for item in items {
+            nodes.push(item)?;
+        }
+        Ok(Some(nodes))
+    }
+
+    fn members(&self, alloc: Global) -> Result<Option<Vec<Named<'_, &'v Value>>>, AllocError> {
+        let members = match Value::as_object(*self) {
+            Some(members) => members,
+            None => return Ok(None),
+        };
+        let mut named = Vec::with_capacity(alloc, members.len())?;
+        for (key, node) in members.iter() {
+            named.push(Named {
+                key: key.as_str(),
+                node,
+            })?;
+        }
+        Ok(Some(named))
+    }
+
+    fn to_value(&self, _alloc: Global) -> Result<Value, AllocError> {
+        Value::clone(*self)
+    }
+}
+
+/// The number, if it is whole and 64 bits hold it with its sign.
+fn number_as_i64(number: &Number) -> Option<i64>
+    ensures value { result ≡ find.as_i64 (number_view number.now) }
+    ensures ranged { IsRanged (number_view number.now) }
+{
+    match number.as_u64() {
+        Some(_) => number.as_i64(),
+        None => number.as_i64(),
+    }
+}

@@ -1,0 +1,79 @@
+//! An object whose members are walked once, to be looked up by their keys.
+
+ghost use Rattle.std.specs.Prelude.{◌≡◌, map, option_map, IfOk};
+ghost use Rattle.serde_json.specs.Find as find;
+ghost use Rattle.serde_json.specs.View.{members_view};
+ghost use Rattle.sentry_json.specs.Keys.{beside};
+ghost use Rattle.sentry_json.specs.Nodes.{named_by, tree_of};
+
+use crate::keys::is_among;
+use crate::node::Node;
+use serde_json::{Map, Value};
+use std::alloc::{AllocError, Global};
+
+/// A member of an object: its key, and the place of its value.
+#[derive(Drop)]
+pub struct Named<'n, N> {
+    pub key: &'n str,
+    pub node: N,
+}
+
+/// An object whose members were walked once. Of members of one key the last one counts.
+#[derive(Drop)]
+pub struct Object<'n, N> {
+    pub members: Vec<Named<'n, N>>,
+}
+
+impl<'n, N: Node> Object<'n, N> {
+    /// The object that stands at a place, if one does.
+    ///
+    /// It fails where memory is refused.
+    pub fn new(alloc: Global, node: &'n N) -> Result<Option<Object<'n, N>>, AllocError>
+        ensures { IfOk result (λ o. option_map (λ it. named_by N.data_of it.members.items) o
+            ≡ find.as_object (N.data_of node.now)) }
+    {
+        match node.members(alloc)? {
+            Some(members) => Ok(Some(Object { members })),
+            None => Ok(None),
+        }
+    }
+
+    /// The place at a key.
+    pub fn get(&self, key: &str) -> Option<&N>
+        ensures { option_map (λ node. N.data_of node.now) result
+            ≡ find.get key.now (tree_of N.data_of self.now) }
+    {
+        let mut left = self.members.len();
+        while left > 0 {
+            left -= 1;
+            let member = &self.members[left];
+            if member.key == key {
+                return Some(&member.node);
+            }
+        }
+        None
+    }
+
+    /// Trees of the members whose key is none of the names.
+    ///
+    /// It fails where memory is refused.
+    pub fn members_beside(
+        &self,
+        alloc: Global,
+        names: &[&str],
+    ) -> Result<Map<String, Value>, AllocError>
+        ensures { IfOk result (λ m. members_view m.entries
+            ≡ beside (map (λ name.
+            name.now) names.now) (named_by N.data_of self.now.members.items)) }
+    {
+        let mut others = Map::new(alloc);
+        for member in &self.members {
+            if is_among(names, member.key) {
+                continue;
+            }
+            let name = String::from_str(alloc, member.key)?;
+            drop(others.insert(name, member.node.to_value(alloc)?)?);
+        }
+        Ok(others)
+    }
+}

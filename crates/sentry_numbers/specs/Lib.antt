@@ -1,4 +1,0 @@
-pub mod Number
-pub mod ProjectId
-pub mod ProjectTree
-pub mod Severity

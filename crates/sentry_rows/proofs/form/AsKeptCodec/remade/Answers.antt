@@ -1,6 +1,0 @@
-use Rattle.std.proofs.lemmas.Result.{IfOk-weaker}
-use Rattle.sentry_rows.proofs.Copying.{kept_ended}
-use Rattle.sentry_rows.proofs.form.AsKeptCodec.remade.Goals as goal
-
-pub returns : goal.returns
-returns g c = IfOk-weaker c.end.result _ _ (kept_ended _ g.T.Table.lines _ g.T.KeptTable.others_of c.args.value.now _ _ _ c.new-copies.ensures.way c.in_ok-copy.ensures) c.end.ensures

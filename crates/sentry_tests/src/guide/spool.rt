@@ -1,0 +1,75 @@
+//! A spool: it keeps envelopes in files, finds doubles, and reads files that were cut off.
+
+use crate::envelopes::read;
+use crate::wanted::wanted;
+use sentry_types::protocol::v7::{Envelope, EnvelopeError, EnvelopeWriteError, Frames};
+use std::alloc::Global;
+use std::fs;
+use std::test::Fail;
+
+/// Stores an envelope as a file.
+fn store(rt: &HostRuntime, path: &str, envelope: &Envelope) -> Result<(), Fail> {
+    let mut text = Vec::new(rt.alloc());
+    envelope.to_writer(rt.alloc(), &mut text)?;
+    fs::write(rt, path, &text)?;
+    Ok(())
+}
+
+/// Returns the text of an envelope's normal form. Two plain, readable envelopes have the same
+/// normal form exactly if these texts are the same.
+fn canonical(alloc: Global, envelope: &Envelope) -> Result<Vec<u8>, EnvelopeWriteError> {
+    let Ok(normal) = envelope.normalized() else {
+        return Err(EnvelopeWriteError::Memory);
+    };
+    let mut text = Vec::new(alloc);
+    normal.to_writer(alloc, &mut text)?;
+    Ok(text)
+}
+
+/// Returns how many of the bytes are the header line and items that were written whole: each ends in
+/// a line feed, behind its header and behind its payload.
+fn whole_len(alloc: Global, bytes: &[u8]) -> usize {
+    let mut frames = Frames::new(bytes);
+    let mut whole = bytes.len().saturating_sub(frames.rest().len());
+    for _ in 0..bytes.len() {
+        let Some(Ok(frame)) = frames.next_frame(alloc) else {
+            break;
+        };
+        let end = bytes.len().saturating_sub(frames.rest().len());
+        let texts = frame.header.len().saturating_add(frame.payload.len());
+        if end.saturating_sub(whole) < texts.saturating_add(2) {
+            break;
+        }
+        whole = end;
+    }
+    whole
+}
+
+const STORED: &str = "{}\n{\"length\":3,\"type\":\"replay_recording\"}\nabc\n";
+
+#[test]
+fn doubles_are_found(rt: HostRuntime) -> Result<(), Fail> {
+    let alloc = rt.alloc();
+    let spelled = "{ }\n{\"type\": \"replay_recording\"}\nabc";
+    store(&rt, "stored", &read(alloc, spelled.as_bytes())?)?;
+    let stored = fs::read(&rt, "stored")?;
+    wanted(stored.as_slice() == STORED.as_bytes())?;
+    let (one, other) = (read(alloc, spelled.as_bytes())?, read(alloc, &stored)?);
+    wanted(canonical(alloc, &one)? == canonical(alloc, &other)?)
+}
+
+#[test]
+fn a_cut_file_has_whole_items(rt: HostRuntime) -> Result<(), Fail> {
+    let alloc = rt.alloc();
+    let cut = "{}\n{\"length\":3,\"type\":\"replay_recording\"}\nabc\n{\"length\":9,\"type\":\"a";
+    wanted(read(alloc, cut.as_bytes()).is_err())?;
+    let whole = whole_len(alloc, cut.as_bytes());
+    wanted(whole == STORED.len())?;
+    let prefix = cut.as_bytes().get(..whole).unwrap_or(&[]);
+    wanted(read(alloc, prefix)?.items().count() == 1)?;
+    let logs = "{}\n{\"type\":\"log\"}\n{\"items\":[";
+    wanted(
+        whole_len(alloc, logs.as_bytes()) == 3
+            && whole_len(alloc, b"{}\n{\"type\":\"log\"}\n") == 3,
+    )
+}

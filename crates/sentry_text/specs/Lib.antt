@@ -1,0 +1,11 @@
+pub mod Number
+pub mod ProjectId
+pub mod ProjectTree
+pub mod Severity
+pub mod Crontab
+pub mod Address
+pub mod Ip
+pub mod AddressTree
+pub mod IpTree
+pub mod CellParts
+pub mod UrlTree

@@ -1,0 +1,148 @@
+//! IP addresses of users.
+
+ghost use Rattle.std.specs.Prelude.{◌≡◌, ◌↔◌, IsTrue, Some, None};
+ghost use Rattle.std.specs.Net.Grammar.{Parses};
+ghost use Rattle.sentry_text.specs.declared.ip.IpAddress.TheVariants.{Exact};
+ghost use Rattle.sentry_text.specs.Ip.{IsStoredIpAddress};
+
+use crate::ip_text::hold_ip;
+use sentry_members::spelled::print_into;
+use sentry_members::{AsText, Formed, Room, Spelled, TreeError, Way};
+use std::alloc::{AllocError, Global};
+use std::cmp::Ordering;
+use std::fmt;
+use std::net::IpAddr;
+use std::str::FromStr;
+use thiserror::Error;
+
+/// The IP address of a user.
+///
+/// It is read from `{{auto}}` or an IPv4 or IPv6 address, and written as that. An IPv6 address is read
+/// from each text of RFC 4291, section 2.2. It is written as RFC 5952 recommends: in lower case without
+/// leading zeros, with `::` for its longest run of two or more zero groups; one that holds an IPv4
+/// address as `::ffff:` and that address.
+#[derive(Clone, Copy, Debug, Default, PartialEq, Eq, PartialOrd, Ord, Hash)]
+pub enum IpAddress {
+    /// The address that the user's connection has.
+    #[default]
+    Auto,
+    /// This address.
+    Exact(IpAddr),
+}
+
+/// The text is neither `{{auto}}` nor an IP address.
+#[derive(Debug, Drop, Error)]
+#[error("ParseIpError")]
+pub struct ParseIpError;
+
+impl IpAddress {
+    /// Whether this is that very address; `Auto` is none.
+    pub fn eq_ip(&self, other: &IpAddr) -> bool
+        ensures { IsTrue result ↔ (self.now ≡ Exact other.now) }
+    {
+        match self {
+            IpAddress::Auto => false,
+            IpAddress::Exact(ip) => *ip == *other,
+        }
+    }
+
+    /// How this address and the other one are ordered: IPv4 before IPv6, and then by their numbers.
+    /// `Auto` is not ordered.
+    pub fn partial_cmp_ip(&self, other: &IpAddr) -> Option<Ordering>
+        ensures auto { self.now ≡ IpAddress.Auto → result ≡ None }
+        ensures exact { (ip : IpAddr) → self.now ≡ Exact ip →
+            result ≡ Some (⟦<IpAddr as Ord>⟧.cmp ip other.now) }
+    {
+        match self {
+            IpAddress::Auto => None,
+            IpAddress::Exact(ip) => Some(ip.cmp(other)),
+        }
+    }
+}
+
+impl From<IpAddr> for IpAddress {
+    ghost from_gives = { λ ip a. a ≡ Exact ip };
+
+    fn from(ip: IpAddr) -> IpAddress {
+        Self::Exact(ip)
+    }
+}
+
+impl FromStr for IpAddress {
+    type Err = ParseIpError;
+
+    ghost use Rattle.sentry_text.specs.Ip.{IsIpAddress};
+
+    ghost from_str_gives = { Parses IsIpAddress };
+
+    /// Reads `{{auto}}` or an IP address, with nothing around it.
+    ///
+    /// # Errors
+    ///
+    /// [`ParseIpError`] where the text is neither.
+    fn from_str(text: &str) -> Result<IpAddress, ParseIpError> {
+        match text {
+            "{{auto}}" => Ok(IpAddress::Auto),
+            _ => match text.parse::<IpAddr>() {
+                Ok(ip) => Ok(IpAddress::Exact(ip)),
+                Err(_) => Err(ParseIpError),
+            },
+        }
+    }
+}
+
+impl fmt::Display for IpAddress {
+    ghost use Rattle.sentry_text.specs.Ip.{ip_address_text};
+
+    ghost output = { λ a. Some (ip_address_text a) };
+
+    fn fmt<W: fmt::Write>(&self, f: &mut fmt::Formatter<W>) -> fmt::Result {
+        match self {
+            IpAddress::Auto => f.write_str("{{auto}}"),
+            IpAddress::Exact(ip) => fmt::Display::fmt(ip, f),
+        }
+    }
+}
+
+impl Formed for IpAddress {
+    type Form = AsText;
+}
+
+impl Spelled for IpAddress {
+    ghost use Rattle.sentry_text.specs.IpTree.{ip_address_cell, ip_address_spelling};
+
+    ghost spelling = { ip_address_spelling };
+
+    ghost cell_of = { ip_address_cell };
+
+    fn of_text(_alloc: Global, text: &str) -> Result<IpAddress, TreeError> {
+        match text.parse::<IpAddress>() {
+            Ok(address) => Ok(address),
+            Err(_) => Err(TreeError::Misfit),
+        }
+    }
+
+    fn text<'a>(&'a self, room: &'a mut Room) -> Result<&'a str, AllocError> {
+        hold_address(self);
+        print_into(self, room)
+    }
+
+    #[tactic(auto, using(sentry_members::proofs::Ways::unchanged))]
+    fn respell(&self, _way: Way) -> Result<IpAddress, AllocError> {
+        Ok(*self)
+    }
+
+    fn hold(&self) {
+        hold_address(self);
+    }
+}
+
+// Nothing; an address has numbers in range.
+fn hold_address(address: &IpAddress)
+    ensures { IsStoredIpAddress address.now }
+{
+    match address {
+        IpAddress::Auto => {}
+        IpAddress::Exact(ip) => hold_ip(ip),
+    }
+}

@@ -1,0 +1,303 @@
+//! Ids of projects and organizations.
+
+ghost use Rattle.std.specs.Prelude.{◌≡◌, ◌↔◌, [], IfOk, IsErrOf, Some, decimal};
+ghost use Rattle.sentry_text.specs.Number.{ReadsAs, number_of};
+ghost use Rattle.sentry_text.specs.ProjectTree.{project_spelling, organization_kind, organization_spelling, organization_text_kind};
+ghost use Rattle.sentry_members.specs.Spelling.{ReadsSpelling};
+
+use crate::number::{ParseNumberError, parse_number};
+use json::Writer;
+use sentry_json::Node;
+use sentry_members::spelled::print_into;
+use sentry_members::{
+    AsText, Codec, Formed, FromTree, Member, ReadCodec, Room, Spelled, TreeError, Way,
+};
+use serde_json::Value;
+use std::alloc::{AllocError, Global};
+use std::fmt;
+use std::str::FromStr;
+use thiserror::Error;
+
+/// The id of a project: any text, as at the end of a DSN's path:
+/// <https://develop.sentry.dev/sdk/overview/#parsing-the-dsn>.
+#[derive(Debug, Drop, PartialEq, Eq, PartialOrd, Ord, Hash)]
+pub struct ProjectId {
+    text: String,
+}
+
+/// A text was refused as a [`ProjectId`].
+#[derive(Debug, Drop, PartialEq, Eq, PartialOrd, Ord, Error)]
+pub enum ParseProjectIdError {
+    /// The text is empty.
+    #[error("empty or missing project id")]
+    EmptyValue,
+    /// There was no memory for the text.
+    #[error("out of memory")]
+    Memory,
+}
+
+impl From<AllocError> for ParseProjectIdError {
+    ghost use Rattle.sentry_text.specs.declared.project_id.ParseProjectIdError.TheVariants.{Memory};
+
+    ghost from_gives = { λ _ e. e ≡ Memory };
+
+    fn from(_error: AllocError) -> ParseProjectIdError {
+        ParseProjectIdError::Memory
+    }
+}
+
+impl ProjectId {
+    ghost use Rattle.sentry_text.specs.ProjectId.{project_text};
+
+    /// The id of this text, whatever it is.
+    ///
+    /// # Errors
+    ///
+    /// `AllocError` where there is no memory for the text.
+    pub fn new(alloc: Global, text: &str) -> Result<ProjectId, AllocError>
+        ensures { IfOk result (λ id. project_text id ≡ text.now) }
+    {
+        Ok(ProjectId {
+            text: String::from_str(alloc, text)?,
+        })
+    }
+
+    /// The id of a text that is not empty.
+    ///
+    /// # Errors
+    ///
+    /// `EmptyValue` exactly where the text is empty, else `Memory` where there is none for the text.
+    pub fn from_str(alloc: Global, text: &str) -> Result<ProjectId, ParseProjectIdError>
+        ensures ok { IfOk result (λ id. project_text id ≡ text.now) }
+        ensures empty { IsErrOf result ParseProjectIdError.EmptyValue ↔ (text.now ≡ []) }
+    {
+        if text.is_empty() {
+            return Err(ParseProjectIdError::EmptyValue);
+        }
+        Ok(ProjectId::new(alloc, text)?)
+    }
+
+    /// The text of the id.
+    pub fn value(&self) -> &str
+        ensures { result.now ≡ project_text self.now }
+    {
+        self.text.as_str()
+    }
+
+    /// A copy of the id.
+    ///
+    /// # Errors
+    ///
+    /// `AllocError` where there is no memory for the text.
+    pub fn clone(&self) -> Result<ProjectId, AllocError>
+        ensures { IfOk result (λ id. project_text id ≡ project_text self.now) }
+    {
+        Ok(ProjectId {
+            text: self.text.clone()?,
+        })
+    }
+}
+
+impl fmt::Display for ProjectId {
+    ghost use Rattle.sentry_text.specs.ProjectId.{project_text};
+
+    ghost output = { λ id. Some (project_text id) };
+
+    fn fmt<W: fmt::Write>(&self, f: &mut fmt::Formatter<W>) -> fmt::Result {
+        f.write_str(self.value())
+    }
+}
+
+/// In a tree the empty text is an id too.
+impl Formed for ProjectId {
+    type Form = AsText;
+}
+
+impl Spelled for ProjectId {
+    ghost use Rattle.sentry_text.specs.ProjectTree.{project_cell};
+
+    ghost spelling = { project_spelling };
+
+    ghost cell_of = { project_cell };
+
+    fn of_text(alloc: Global, text: &str) -> Result<ProjectId, TreeError> {
+        Ok(ProjectId::new(alloc, text)?)
+    }
+
+    fn text<'a>(&'a self, _room: &'a mut Room) -> Result<&'a str, AllocError> {
+        Ok(self.value())
+    }
+
+    #[tactic(auto, using(sentry_members::proofs::Ways::unchanged))]
+    fn respell(&self, _way: Way) -> Result<ProjectId, AllocError> {
+        self.clone()
+    }
+
+    fn hold(&self) {
+        let _text = self.value();
+    }
+}
+
+/// The id of an organization: a number.
+///
+/// It is read from a decimal number of at most 64 bits, with or without a `+` before it. It is the `org_id`
+/// of a trace: <https://develop.sentry.dev/sdk/telemetry/traces/dynamic-sampling-context/>.
+#[derive(Clone, Copy, Debug, PartialEq)]
+pub struct OrganizationId(u64);
+
+impl OrganizationId {
+    ghost use Rattle.sentry_text.specs.ProjectId.{organization_value};
+
+    /// The number.
+    pub fn value(&self) -> u64
+        ensures { result ≡ organization_value self.now }
+    {
+        self.0
+    }
+}
+
+impl From<u64> for OrganizationId {
+    ghost use Rattle.sentry_text.specs.ProjectId.{organization_value};
+
+    ghost from_gives = { λ n id. organization_value id ≡ n };
+
+    fn from(number: u64) -> OrganizationId {
+        OrganizationId(number)
+    }
+}
+
+impl FromStr for OrganizationId {
+    type Err = ParseNumberError;
+
+    ghost use Rattle.sentry_text.specs.ProjectId.{organization_value};
+
+    ghost from_str_gives = { ReadsAs (number_of 10) organization_value };
+
+    /// The id of a number in base 10, with or without a `+` before it.
+    ///
+    /// # Errors
+    ///
+    /// `ParseNumberError` where the text is no such number, or the number has more than 64 bits.
+    fn from_str(text: &str) -> Result<OrganizationId, ParseNumberError> {
+        Ok(OrganizationId(parse_number(text, 10)?))
+    }
+}
+
+impl fmt::Display for OrganizationId {
+    ghost use Rattle.sentry_text.specs.ProjectId.{organization_value};
+
+    ghost output = { λ id. Some (decimal (organization_value id)) };
+
+    fn fmt<W: fmt::Write>(&self, f: &mut fmt::Formatter<W>) -> fmt::Result {
+        write!(f, "{}", self.value())
+    }
+}
+
+/// An organization's id stands in a tree as a number.
+impl Member for OrganizationId {
+    ghost use Rattle.sentry_text.specs.ProjectTree.{organization_cell};
+
+    ghost kind = { organization_kind };
+
+    ghost cell_of = { organization_cell };
+
+    fn to_tree(&self, alloc: Global) -> Result<Value, AllocError> {
+        self.value().to_tree(alloc)
+    }
+
+    fn write(&self, out: &mut Writer) -> Result<(), AllocError> {
+        self.value().write(out)
+    }
+
+    #[tactic(auto, using(sentry_members::proofs::Ways::unchanged))]
+    fn remake(&self, _way: Way) -> Result<OrganizationId, AllocError> {
+        Ok(*self)
+    }
+
+    fn is_null_tree(&self) -> bool {
+        false
+    }
+
+    fn is_plain(&self) -> bool {
+        self.value().is_plain()
+    }
+}
+
+impl FromTree for OrganizationId {
+    fn from_node<N: Node>(alloc: Global, node: &N) -> Result<OrganizationId, TreeError> {
+        Ok(OrganizationId(u64::from_node(alloc, node)?))
+    }
+}
+
+/// The form of a number that stands in a tree as a text of decimal digits.
+///
+/// A `+` before the digits is read, and not written.
+pub struct OrganizationText;
+
+impl OrganizationId {
+    ghost use Rattle.sentry_text.specs.ProjectId.{organization_value};
+    ghost use Rattle.sentry_text.specs.ProjectTree.{organization_cell};
+
+    // The id that a text spells.
+    fn of_text(text: &str) -> Result<OrganizationId, TreeError>
+        ensures { ReadsSpelling organization_spelling organization_cell text.now result }
+    {
+        match text.parse() {
+            Ok(id) => Ok(id),
+            Err(_) => Err(TreeError::Misfit),
+        }
+    }
+
+    // The text of the id, in `room`.
+    #[tactic(auto, using(crate::proofs::Lengths::decimal_size))]
+    fn text<'a>(&self, room: &'a mut Room) -> Result<&'a str, AllocError>
+        ensures { IfOk result (λ s. s.now ≡ decimal (organization_value self.now)) }
+    {
+        let _number = self.0;
+        print_into(self, room)
+    }
+}
+
+impl Codec<OrganizationId> for OrganizationText {
+    ghost use Rattle.sentry_text.specs.ProjectTree.{organization_cell};
+
+    ghost kind = { organization_text_kind };
+
+    ghost cell_of = { organization_cell };
+
+    #[tactic(auto, using(sentry_members::proofs::Spellings::text_tree))]
+    fn to_tree(id: &OrganizationId, alloc: Global) -> Result<Value, AllocError> {
+        let mut room = Room::new();
+        Value::try_from_str(alloc, id.text(&mut room)?)
+    }
+
+    #[tactic(auto, using(sentry_members::proofs::Spellings::spelling_wrote))]
+    fn write(id: &OrganizationId, out: &mut Writer) -> Result<(), AllocError> {
+        let mut room = Room::new();
+        out.string(id.text(&mut room)?)
+    }
+
+    #[tactic(auto, using(sentry_members::proofs::Ways::unchanged))]
+    fn remake(id: &OrganizationId, _way: Way) -> Result<OrganizationId, AllocError> {
+        Ok(*id)
+    }
+
+    fn is_null_tree(_id: &OrganizationId) -> bool {
+        false
+    }
+
+    fn is_plain(id: &OrganizationId) -> bool {
+        let _number = id.0;
+        true
+    }
+}
+
+impl ReadCodec<OrganizationId> for OrganizationText {
+    #[tactic(auto, using(sentry_members::proofs::Spellings::text_read, sentry_members::proofs::Spellings::not_text))]
+    fn from_node<N: Node>(_alloc: Global, node: &N) -> Result<OrganizationId, TreeError> {
+        match node.as_str() {
+            Some(text) => OrganizationId::of_text(text),
+            None => Err(TreeError::Misfit),
+        }
+    }
+}

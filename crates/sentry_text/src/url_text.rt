@@ -1,0 +1,100 @@
+//! The form of URLs as trees.
+
+ghost use Rattle.std.specs.Prelude.{◌≡◌};
+ghost use Rattle.url.specs.Parts.{IsValid};
+ghost use Rattle.sentry_members.specs.Spelling.{ReadsSpelling};
+ghost use Rattle.sentry_text.specs.UrlTree as spec;
+ghost use Rattle.sentry_text.specs.UrlTree.{url_cell, url_kind, url_spelling};
+
+use json::Writer;
+use sentry_json::Node;
+use sentry_members::{Codec, ReadCodec, TreeError, Way};
+use serde_json::Value;
+use std::alloc::{AllocError, Global};
+use url::{ParseError, Url};
+
+/// The form of a URL that is its text.
+///
+/// A URL is read from each text that the URL Standard's parser takes without a base, and written as
+/// its serialization. Each URL that was read is read back from that text as it was, and so is each
+/// URL of the schemes `http`, `https`, `ws`, `wss` and `ftp`.
+///
+/// Reading fails with `Misfit` where the tree is no text or the text is no URL, and with `Memory` where
+/// memory is refused or the URL takes 4 GB.
+pub struct UrlText;
+
+impl Codec<Url> for UrlText {
+    ghost kind = { url_kind };
+
+    ghost cell_of = { url_cell };
+
+    #[tactic(auto, using(crate::proofs::UrlTrees::tree_made))]
+    fn to_tree(value: &Url, alloc: Global) -> Result<Value, AllocError> {
+        Value::try_from_str(alloc, value.as_str())
+    }
+
+    #[tactic(auto, using(crate::proofs::UrlTrees::url_wrote))]
+    fn write(value: &Url, out: &mut Writer) -> Result<(), AllocError> {
+        out.string(value.as_str())
+    }
+
+    #[tactic(auto, using(sentry_members::proofs::Ways::unchanged))]
+    fn remake(value: &Url, _way: Way) -> Result<Url, AllocError> {
+        value.clone()
+    }
+
+    fn is_null_tree(_value: &Url) -> bool {
+        false
+    }
+
+    fn is_plain(value: &Url) -> bool {
+        hold_url(value);
+        true
+    }
+}
+
+impl ReadCodec<Url> for UrlText {
+    #[tactic(auto, using(sentry_members::proofs::Spellings::text_read, sentry_members::proofs::Spellings::not_text))]
+    fn from_node<N: Node>(alloc: Global, node: &N) -> Result<Url, TreeError> {
+        match node.as_str() {
+            Some(text) => read_url(alloc, text),
+            None => Err(TreeError::Misfit),
+        }
+    }
+}
+
+// The URL of a text.
+fn read_url(alloc: Global, text: &str) -> Result<Url, TreeError>
+    ensures { ReadsSpelling url_spelling url_cell text.now result }
+{
+    match Url::parse(alloc, text) {
+        Ok(url) => Ok(url),
+        Err(error) => Err(tree_error(error)),
+    }
+}
+
+// The error of a tree with a text that was refused, or for which there was no room.
+fn tree_error(error: ParseError) -> TreeError
+    ensures { result ≡ spec.tree_error error }
+{
+    match error {
+        ParseError::Overflow | ParseError::OutOfMemory => TreeError::Memory,
+        ParseError::EmptyHost
+        | ParseError::IdnaError
+        | ParseError::InvalidPort
+        | ParseError::InvalidIpv4Address
+        | ParseError::InvalidIpv6Address
+        | ParseError::InvalidDomainCharacter
+        | ParseError::RelativeUrlWithoutBase
+        | ParseError::RelativeUrlWithCannotBeABaseBase
+        | ParseError::SetHostOnCannotBeABaseUrl
+        | ParseError::CannotSet => TreeError::Misfit,
+    }
+}
+
+// Nothing; the parts of a URL are valid.
+fn hold_url(url: &Url)
+    ensures { IsValid url.now }
+{
+    let _port = url.port();
+}

@@ -1,4 +1,0 @@
-pub mod Keys
-pub mod Lines
-pub mod Nodes
-pub mod Tree

@@ -1,4 +1,0 @@
-pub mod Utf8Bytes
-pub mod UrlHosts
-pub mod ParsedUrls
-pub mod UrlTrees

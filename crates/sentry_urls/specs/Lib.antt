@@ -1,2 +1,0 @@
-pub mod CellParts
-pub mod UrlTree

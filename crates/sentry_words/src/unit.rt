@@ -1,0 +1,267 @@
+//! Units of metrics.
+
+ghost use Rattle.std.specs.Prelude.{◌≡◌, IfOk, option_map, string_bytes};
+ghost use Rattle.std.specs.Cow.{cow_str_bytes};
+ghost use Rattle.sentry_words.specs.Units.{times, sizes, binary_sizes, shares, units, found, unit_cell, unit_of, unit_text, unit_spelling};
+
+use sentry_members::{AsText, Formed, Room, Spelled, TreeError, Way};
+use std::alloc::{AllocError, Global};
+use std::borrow::CowStr;
+
+/// Unit of a metric: one that Sentry knows, or any other text.
+///
+/// <https://develop.sentry.dev/sdk/foundations/state-management/scopes/attributes/#units>
+///
+/// A known unit is read from its name, in lower case or with a capital, from the plural with `s`
+/// (except fractions), and from its symbol. `Other` of a known spelling, such as `ms`, differs from
+/// the known unit, but is read back as the known unit.
+#[derive(Debug, Drop, PartialEq)]
+pub enum Unit {
+    Nanosecond,
+    Microsecond,
+    Millisecond,
+    Second,
+    Minute,
+    Hour,
+    Day,
+    Week,
+    Bit,
+    Byte,
+    Kilobyte,
+    Kibibyte,
+    Megabyte,
+    Mebibyte,
+    Gigabyte,
+    Gibibyte,
+    Terabyte,
+    Tebibyte,
+    Petabyte,
+    Pebibyte,
+    Exabyte,
+    Exbibyte,
+    Ratio,
+    Percent,
+    /// Any other unit.
+    Other(CowStr<'static>),
+}
+
+impl Unit {
+    #[tactic(auto, unfolding(crate::specs::Units::times))]
+    fn time(text: &str) -> Option<Unit>
+        ensures { option_map unit_cell result ≡ found times text.now }
+    {
+        match text {
+            "nanosecond" | "Nanosecond" | "nanoseconds" | "Nanoseconds" | "ns" => Some(
+                Unit::Nanosecond,
+            ),
+            "microsecond" | "Microsecond" | "microseconds" | "Microseconds" | "μs" | "µs" => Some(
+                Unit::Microsecond,
+            ),
+            "millisecond" | "Millisecond" | "milliseconds" | "Milliseconds" | "ms" => Some(
+                Unit::Millisecond,
+            ),
+            "second" | "Second" | "seconds" | "Seconds" | "s" => Some(Unit::Second),
+            "minute" | "Minute" | "minutes" | "Minutes" | "min" => Some(Unit::Minute),
+            "hour" | "Hour" | "hours" | "Hours" | "h" => Some(Unit::Hour),
+            "day" | "Day" | "days" | "Days" | "d" => Some(Unit::Day),
+            "week" | "Week" | "weeks" | "Weeks" => Some(Unit::Week),
+            _ => None,
+        }
+    }
+
+    // bits, bytes and powers of 1000
+    #[tactic(auto, unfolding(crate::specs::Units::sizes))]
+    fn size(text: &str) -> Option<Unit>
+        ensures { option_map unit_cell result ≡ found sizes text.now }
+    {
+        match text {
+            "bit" | "Bit" | "bits" | "Bits" | "b" => Some(Unit::Bit),
+            "byte" | "Byte" | "bytes" | "Bytes" | "B" => Some(Unit::Byte),
+            "kilobyte" | "Kilobyte" | "kilobytes" | "Kilobytes" | "kB" => Some(Unit::Kilobyte),
+            "megabyte" | "Megabyte" | "megabytes" | "Megabytes" | "MB" => Some(Unit::Megabyte),
+            "gigabyte" | "Gigabyte" | "gigabytes" | "Gigabytes" | "GB" => Some(Unit::Gigabyte),
+            "terabyte" | "Terabyte" | "terabytes" | "Terabytes" | "TB" => Some(Unit::Terabyte),
+            "petabyte" | "Petabyte" | "petabytes" | "Petabytes" | "PB" => Some(Unit::Petabyte),
+            "exabyte" | "Exabyte" | "exabytes" | "Exabytes" | "EB" => Some(Unit::Exabyte),
+            _ => None,
+        }
+    }
+
+    // powers of 1024
+    #[tactic(auto, unfolding(crate::specs::Units::binary_sizes))]
+    fn binary_size(text: &str) -> Option<Unit>
+        ensures { option_map unit_cell result ≡ found binary_sizes text.now }
+    {
+        match text {
+            "kibibyte" | "Kibibyte" | "kibibytes" | "Kibibytes" | "KiB" => Some(Unit::Kibibyte),
+            "mebibyte" | "Mebibyte" | "mebibytes" | "Mebibytes" | "MiB" => Some(Unit::Mebibyte),
+            "gibibyte" | "Gibibyte" | "gibibytes" | "Gibibytes" | "GiB" => Some(Unit::Gibibyte),
+            "tebibyte" | "Tebibyte" | "tebibytes" | "Tebibytes" | "TiB" => Some(Unit::Tebibyte),
+            "pebibyte" | "Pebibyte" | "pebibytes" | "Pebibytes" | "PiB" => Some(Unit::Pebibyte),
+            "exbibyte" | "Exbibyte" | "exbibytes" | "Exbibytes" | "EiB" => Some(Unit::Exbibyte),
+            _ => None,
+        }
+    }
+
+    // fractions
+    #[tactic(auto, unfolding(crate::specs::Units::shares))]
+    fn share(text: &str) -> Option<Unit>
+        ensures { option_map unit_cell result ≡ found shares text.now }
+    {
+        match text {
+            "ratio" | "Ratio" => Some(Unit::Ratio),
+            "percent" | "Percent" | "%" => Some(Unit::Percent),
+            _ => None,
+        }
+    }
+
+    fn known(text: &str) -> Option<Unit>
+        ensures { option_map unit_cell result ≡ found units text.now }
+    {
+        if let Some(unit) = Unit::time(text) {
+            return Some(unit);
+        }
+        if let Some(unit) = Unit::size(text) {
+            return Some(unit);
+        }
+        if let Some(unit) = Unit::binary_size(text) {
+            return Some(unit);
+        }
+        Unit::share(text)
+    }
+
+    /// Returns the text in payloads: a known unit's name in lower case, or the text of `Other`.
+    pub fn as_str(&self) -> &str
+        ensures { result.now ≡ unit_text (unit_cell self.now) }
+    {
+        match self {
+            Unit::Nanosecond => "nanosecond",
+            Unit::Microsecond => "microsecond",
+            Unit::Millisecond => "millisecond",
+            Unit::Second => "second",
+            Unit::Minute => "minute",
+            Unit::Hour => "hour",
+            Unit::Day => "day",
+            Unit::Week => "week",
+            Unit::Bit => "bit",
+            Unit::Byte => "byte",
+            Unit::Kilobyte => "kilobyte",
+            Unit::Kibibyte => "kibibyte",
+            Unit::Megabyte => "megabyte",
+            Unit::Mebibyte => "mebibyte",
+            Unit::Gigabyte => "gigabyte",
+            Unit::Gibibyte => "gibibyte",
+            Unit::Terabyte => "terabyte",
+            Unit::Tebibyte => "tebibyte",
+            Unit::Petabyte => "petabyte",
+            Unit::Pebibyte => "pebibyte",
+            Unit::Exabyte => "exabyte",
+            Unit::Exbibyte => "exbibyte",
+            Unit::Ratio => "ratio",
+            Unit::Percent => "percent",
+            Unit::Other(text) => text.as_str(),
+        }
+    }
+
+    /// Clones the unit.
+    ///
+    /// # Errors
+    ///
+    /// `AllocError` if the allocation of `Other`'s text fails.
+    pub fn clone(&self) -> Result<Unit, AllocError>
+        ensures { IfOk result (λ unit. unit_cell unit ≡ unit_cell self.now) }
+    {
+        Ok(match self {
+            Unit::Nanosecond => Unit::Nanosecond,
+            Unit::Microsecond => Unit::Microsecond,
+            Unit::Millisecond => Unit::Millisecond,
+            Unit::Second => Unit::Second,
+            Unit::Minute => Unit::Minute,
+            Unit::Hour => Unit::Hour,
+            Unit::Day => Unit::Day,
+            Unit::Week => Unit::Week,
+            Unit::Bit => Unit::Bit,
+            Unit::Byte => Unit::Byte,
+            Unit::Kilobyte => Unit::Kilobyte,
+            Unit::Kibibyte => Unit::Kibibyte,
+            Unit::Megabyte => Unit::Megabyte,
+            Unit::Mebibyte => Unit::Mebibyte,
+            Unit::Gigabyte => Unit::Gigabyte,
+            Unit::Gibibyte => Unit::Gibibyte,
+            Unit::Terabyte => Unit::Terabyte,
+            Unit::Tebibyte => Unit::Tebibyte,
+            Unit::Petabyte => Unit::Petabyte,
+            Unit::Pebibyte => Unit::Pebibyte,
+            Unit::Exabyte => Unit::Exabyte,
+            Unit::Exbibyte => Unit::Exbibyte,
+            Unit::Ratio => Unit::Ratio,
+            Unit::Percent => Unit::Percent,
+            Unit::Other(text) => Unit::Other(text.clone()?),
+        })
+    }
+}
+
+/// Parses a unit; `Other` if the text is not a known one.
+impl From<CowStr<'static>> for Unit {
+    ghost from_gives = { λ text unit. unit_cell unit ≡ unit_of (cow_str_bytes text) };
+
+    fn from(text: CowStr<'static>) -> Unit {
+        match Unit::known(text.as_str()) {
+            Some(unit) => unit,
+            None => Unit::Other(text),
+        }
+    }
+}
+
+impl From<&'static str> for Unit {
+    ghost from_gives = { λ text unit. unit_cell unit ≡ unit_of text.now };
+
+    fn from(text: &'static str) -> Unit {
+        Unit::from(CowStr::Borrowed(text))
+    }
+}
+
+impl From<String> for Unit {
+    ghost from_gives = { λ text unit. unit_cell unit ≡ unit_of (string_bytes text) };
+
+    fn from(text: String) -> Unit {
+        Unit::from(CowStr::Owned(text))
+    }
+}
+
+impl Formed for Unit {
+    type Form = AsText;
+}
+
+impl Spelled for Unit {
+    ghost spelling = { unit_spelling };
+
+    ghost cell_of = { unit_cell };
+
+    fn of_text(alloc: Global, text: &str) -> Result<Unit, TreeError> {
+        match Unit::known(text) {
+            Some(unit) => Ok(unit),
+            None => Ok(Unit::Other(CowStr::Owned(String::from_str(alloc, text)?))),
+        }
+    }
+
+    fn text<'a>(&'a self, _room: &'a mut Room) -> Result<&'a str, AllocError> {
+        Ok(self.as_str())
+    }
+
+    #[tactic(auto, using(sentry_members::proofs::Ways::made_same, crate::proofs::UnitLaws::known_normal, crate::proofs::UnitLaws::other_normal))]
+    fn respell(&self, way: Way) -> Result<Unit, AllocError> {
+        match way {
+            Way::Same => self.clone(),
+            Way::Normal(_) => match Unit::known(self.as_str()) {
+                Some(unit) => Ok(unit),
+                None => self.clone(),
+            },
+        }
+    }
+
+    #[tactic(auto, using(crate::proofs::UnitLaws::unit_stored))]
+    fn hold(&self) {
+        let _text = self.as_str();
+    }
+}
