@@ -1,4 +1,4 @@
-//! A place in a tape.
+//! Nodes of the tape of a line.
 
 ghost use Rattle.std.specs.Prelude.{◌≡◌, true, None, IfOk, option_map};
 ghost use Rattle.serde_json.specs.Find.{as_array, as_object};
@@ -14,7 +14,7 @@ use json::Element;
 use serde_json::{Map, Value};
 use std::alloc::{AllocError, Global};
 
-/// A place in a tape, where a value begins whose numbers are whole, nested no deeper than a line may.
+/// A node of a [`Line`](crate::Line): nested at most 127 deep, with integers of 64 bits as numbers.
 #[derive(Drop)]
 pub struct Branch<'t, 'a> {
     at: Element<'t, 'a>,
@@ -122,10 +122,10 @@ impl<'t, 'a> Node for Branch<'t, 'a> {
     }
 }
 
-/// Room for as many members as an object usually has, taken at once.
+// Initial capacity for the members of an object.
 const USUAL: usize = 16;
 
-/// The tree of its own.
+// Copies the tree at a node.
 #[cycle(grow)]
 fn grow(node: &Branch<'_, '_>, alloc: Global) -> Result<Value, AllocError>
     ensures { IfOk result (λ v. view v ≡ data_at node.now.at) }
@@ -166,7 +166,7 @@ fn grow_members(
     Ok(values)
 }
 
-/// The members of an object, each key once.
+// Collects the members of an object by key; of members with equal keys, the last stays.
 fn members<'t, 'a>(
     node: &Branch<'t, 'a>,
     alloc: Global,
@@ -186,7 +186,7 @@ fn members<'t, 'a>(
     Ok(Some(nodes))
 }
 
-/// The tree of a value with nothing inside.
+// Copies a node that is neither an array nor an object.
 fn leaf(node: &Branch<'_, '_>, alloc: Global) -> Result<Value, AllocError>
     requires no_array { as_array (data_at node.now.at) ≡ None }
     requires no_object { as_object (data_at node.now.at) ≡ None }

@@ -1,9 +1,8 @@
-//! Keys among others.
+//! Lookup of a key in a list of keys.
 
 ghost use Rattle.std.specs.Prelude.{◌≡◌, ◌<◌, ◌≤◌, ℕ, IfSome, IfNone, false, map, length};
 ghost use Rattle.sentry_json.specs.Keys.{is_among as among, StandsAt};
 
-/// Where a key stands among others, from the place `from` on and before the place `to`, if it does.
 fn place_in(keys: &[&str], from: usize, to: usize, key: &str) -> Option<usize>
     requires { to ≤ length keys.now }
     ensures found { IfSome result (λ i. StandsAt key.now i (map (λ k. k.now) keys.now)) }
@@ -18,7 +17,7 @@ fn place_in(keys: &[&str], from: usize, to: usize, key: &str) -> Option<usize>
     None
 }
 
-/// Where a key stands among others, looked for from the place `next` on, and then from the first.
+// Searches from the index `next` to the end, then from the start.
 pub(crate) fn place_from(keys: &[&str], next: usize, key: &str) -> Option<usize>
     ensures found { IfSome result (λ i. StandsAt key.now i (map (λ k. k.now) keys.now)) }
     ensures none { IfNone result (among key.now (map (λ k. k.now) keys.now) ≡ false) }
@@ -31,14 +30,14 @@ pub(crate) fn place_from(keys: &[&str], next: usize, key: &str) -> Option<usize>
     }
 }
 
-/// Whether a key is one of the names.
+/// Returns whether a key is one of `names`.
 pub fn is_among(names: &[&str], key: &str) -> bool
     ensures { result ≡ among key.now (map (λ name. name.now) names.now) }
 {
     place_from(names, 0, key).is_some()
 }
 
-/// Where a key stands among others, counted from 0, if it does.
+/// Returns the index of a key in `keys`; `None` if absent.
 pub fn place(keys: &[&str], key: &str) -> Option<usize>
     ensures found { IfSome result (λ i. StandsAt key.now i (map (λ k. k.now) keys.now)) }
     ensures none { IfNone result (among key.now (map (λ k. k.now) keys.now) ≡ false) }

@@ -1,6 +1,6 @@
-//! JSON lines over `serde_json`: what a line is read as, which trees are sound, which texts are balanced pieces.
+//! Lines of JSON: parsing onto a tape, and access to trees on a tape or in a `serde_json` value.
 //!
-//! The definitions stand in `specs/`; [`laws`] is what holds of them.
+//! `specs/` defines the tree of a line, sound trees and balanced texts; [`laws`] states their laws.
 #![tactic(auto)]
 
 pub mod branch;

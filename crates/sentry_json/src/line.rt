@@ -1,4 +1,4 @@
-//! A line of JSON as a tape.
+//! Parsing of a JSON line onto a tape: the flat list of its nodes.
 
 ghost use Rattle.std.specs.Prelude.{◌≡◌, ◌+◌, ◌<◌, ◌⊎◌, ◌∷◌, List, IfOk, SomeIff, Err, Some, None, true, false, map, length, option_map, unwrap_or, vec_capacity};
 ghost use Rattle.json.specs.Lex.{tokens};
@@ -16,27 +16,27 @@ use json::{Error, MAX_LEN, Node, Scratch, Tape};
 use std::alloc::Global;
 use std::str;
 
-/// Why a line gives no tape.
+/// Error of parsing a line onto a tape.
 #[derive(Clone, Copy, Debug, PartialEq, Eq, Drop)]
 pub enum LineError {
-    /// The line has no tree.
+    /// Not UTF-8, or not a JSON text that nests at most 128 deep.
     Misfit,
-    /// Memory was refused.
+    /// An allocation failed.
     Memory,
-    /// Only a tree of values can tell: the line is longer than 4 GiB less 256 bytes, or it nests 128 deep,
-    /// or a number in it is not whole or is more than 64 bits hold.
+    /// UTF-8 that a tape doesn't serve for: longer than 4 GiB less 256 bytes, or JSON that nests
+    /// 128 deep, or JSON with a number that is not an integer of 64 bits (as `1.0`, `1e3`, `-0`).
     Unfit,
 }
 
-/// The memory that reading lines needs, to be lent to each read.
+/// Returns working memory for parsing lines, to be lent to each call.
 ///
-/// It is large, and cleared when it is made: a call of its own keeps that out of its callers.
+/// Not inlined: a `Scratch` is large, and is zeroed here.
 #[inline(never)]
 pub fn scratch(alloc: Global) -> Scratch {
     Scratch::new(alloc)
 }
 
-/// A line of JSON as a tape.
+/// A parsed line of JSON; its strings are borrowed from the line or the `Scratch`.
 #[derive(Drop)]
 pub struct Line<'a> {
     tape: Tape<'a>,
@@ -44,14 +44,15 @@ pub struct Line<'a> {
 }
 
 impl<'a> Line<'a> {
-    /// Reads a line. The nodes go into `buffer`.
+    /// Parses a line. The nodes replace the contents of `buffer`, which grows if necessary.
     ///
     /// # Errors
     ///
-    /// - `Misfit`: the bytes are no UTF-8, or no JSON text that nests 128 deep at most.
-    /// - `Unfit`: the line is longer than 4 GiB less 256 bytes, or it is such a text and nests deeper than
-    ///   127, or has a number that is not whole or that 64 bits don't hold.
-    /// - `Memory`: memory was refused. None is asked for where `buffer` and `scratch` have room.
+    /// - `Misfit` if the line is not UTF-8, or not a JSON text that nests at most 128 deep.
+    /// - `Unfit` if the line is UTF-8 and longer than 4 GiB less 256 bytes, or is JSON that nests
+    ///   128 deep or has a number that is not an integer of 64 bits.
+    /// - `Memory` if an allocation fails; never if `buffer` has capacity for each token of the line
+    ///   and `scratch` has room for its length (`Scratch::reserve_tape`).
     pub fn parse(
         line: &'a [u8],
         scratch: &'a mut Scratch,
@@ -85,7 +86,7 @@ impl<'a> Line<'a> {
         Ok(Line { tape })
     }
 
-    /// Where the tree begins.
+    /// Returns the root node.
     pub fn root(&self) -> Branch<'_, 'a>
         ensures { data_at result.at ≡ data_at self.now.tape }
     {
@@ -93,7 +94,7 @@ impl<'a> Line<'a> {
     }
 }
 
-/// How many brackets are open after a node, if the node may stand where `depth` are.
+// Returns the number of brackets that are open after a node; `None` if the node doesn't fit.
 fn after(node: &Node<'_>, depth: u8) -> Option<u8>
     ensures { (ts : List Token) → fits (node_token node.now ∷ ts) depth
         ≡ unwrap_or (option_map (fits ts) result) false }
@@ -115,14 +116,14 @@ fn after(node: &Node<'_>, depth: u8) -> Option<u8>
     }
 }
 
-/// How many brackets are open inside one that opens where `depth` are, if one more may be.
+// A line nests at most 127 deep.
 fn enter(depth: u8) -> Option<u8>
     ensures { SomeIff result (depth < max_depth) (depth + 1) }
 {
     if depth < 127 { Some(depth + 1) } else { None }
 }
 
-/// Whether the nodes of a text nest no deeper than a line may, and each number is whole.
+// Whether the nodes nest at most 127 deep, and each number is an integer of 64 bits.
 fn all_fit(nodes: &[Node<'_>]) -> bool
     ensures { result ≡ fits (map node_token nodes.now) 0 }
 {

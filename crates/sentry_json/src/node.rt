@@ -1,4 +1,4 @@
-//! A place in a tree of JSON.
+//! Nodes of JSON trees, on a tape or in a `serde_json` value.
 
 ghost use Rattle.std.specs.Prelude.{◌≡◌, true, None, map, is_some, option_map, option_and_then, IfOk, IfSome};
 ghost use Rattle.serde_json.specs.Data.{Data};
@@ -12,71 +12,85 @@ use crate::object::Named;
 use serde_json::{Number, Value};
 use std::alloc::{AllocError, Global};
 
-/// A place in a tree of JSON, whatever holds the tree.
+/// A node of a JSON tree, which a [`Value`] or the tape of a [`Line`](crate::Line) holds.
 pub trait Node: Sized + Drop {
+    // the tree at the node
     ghost data_of: { Self → Data };
 
-    /// Whether null stands here.
+    /// Returns whether the node is null.
     fn is_null(&self) -> bool
         ensures { result ≡ is_some (find.as_null (data_of self.now)) };
 
-    /// Whether an object stands here.
+    /// Returns whether the node is an object.
     fn is_object(&self) -> bool
         ensures { result ≡ is_some (find.as_object (data_of self.now)) };
 
-    /// Whether an array stands here.
+    /// Returns whether the node is an array.
     fn is_array(&self) -> bool
         ensures { result ≡ is_some (find.as_array (data_of self.now)) };
 
-    /// The truth value that stands here.
+    /// Returns the boolean; `None` for other nodes.
     fn as_bool(&self) -> Option<bool>
         ensures { result ≡ find.as_bool (data_of self.now) };
 
-    /// The number that stands here, if it is one from 0 that 64 bits hold.
+    /// Returns the number if it is an integer in the range of `u64`; `None` for other nodes.
     fn as_u64(&self) -> Option<u64>
         ensures { result ≡ option_and_then find.as_u64 (find.as_number (data_of self.now)) };
 
-    /// The number that stands here, if 64 bits hold it with its sign.
+    /// Returns the number if it is an integer in the range of `i64`; `None` for other nodes.
     fn as_i64(&self) -> Option<i64>
         ensures value { result ≡ option_and_then find.as_i64 (find.as_number (data_of self.now)) }
         ensures ranged { IfSome (find.as_number (data_of self.now)) IsRanged };
 
-    /// The text that stands here.
+    /// Returns the string, unescaped; `None` for other nodes.
     fn as_str(&self) -> Option<&str>
         ensures { option_map (λ s. s.now) result ≡ find.as_str (data_of self.now) };
 
-    /// The place at a key of the object that stands here.
+    /// Returns the member at a key; `None` if absent, or if the node is not an object.
+    ///
+    /// Of members with equal keys, the last counts.
     fn get(&self, key: &str) -> Option<Self>
         ensures { option_map data_of result ≡ find.get key.now (data_of self.now) };
 
-    /// The places at several keys of the object that stands here, found in one walk.
+    /// Looks up several keys at once: `places[i]` becomes the member at `keys[i]`, if present.
     ///
-    /// Each key takes the place of its own number in `places`, all of which are empty before.
+    /// The keys are distinct; `places` has as many elements, each `None` before the call.
     fn get_each(&self, keys: &[&str], places: &mut [Option<Self>])
         requires distinct { are_distinct (map (λ key. key.now) keys.now) ≡ true }
         requires empty { map (option_map data_of) places.old ≡ map (λ key. None) keys.now }
         ensures { map (option_map data_of) places.new
             ≡ map (λ key. find.get key.now (data_of self.now)) keys.now };
 
-    /// The text at a key of the object that stands here.
+    /// Returns the string at a key; `None` if absent or not a string.
     fn text_at(&self, key: &str) -> Option<&str>
         ensures { option_map (λ s. s.now) result
             ≡ option_and_then find.as_str (find.get key.now (data_of self.now)) };
 
-    /// The items of the array that stands here.
+    /// Returns the items of an array; `None` for other nodes.
+    ///
+    /// # Errors
+    ///
+    /// `AllocError` if an allocation fails.
     fn items(&self, alloc: Global) -> Result<Option<Vec<Self>>, AllocError>
         ensures { IfOk result (λ o. option_map (λ v. items_by data_of v.items) o
             ≡ find.as_array (data_of self.now)) };
 
-    /// The members of the object that stands here, each with its key, as they come. Of members of one
-    /// key the last one counts.
+    /// Returns the members of an object, in the order of the tree; `None` for other nodes.
     ///
-    /// It fails where memory is refused.
+    /// Keys may repeat: of members with equal keys, the last counts.
+    ///
+    /// # Errors
+    ///
+    /// `AllocError` if an allocation fails.
     fn members(&self, alloc: Global) -> Result<Option<Vec<Named<'_, Self>>>, AllocError>
         ensures { IfOk result (λ o. option_map (λ v. named_by data_of v.items) o
             ≡ find.as_object (data_of self.now)) };
 
-    /// A tree of its own.
+    /// Copies the tree at the node.
+    ///
+    /// # Errors
+    ///
+    /// `AllocError` if an allocation fails.
     fn to_value(&self, alloc: Global) -> Result<Value, AllocError>
         ensures { IfOk result (λ v. view v ≡ data_of self.now) };
 }
@@ -164,7 +178,7 @@ impl<'v> Node for &'v Value {
     }
 }
 
-/// The number, if it is whole and 64 bits hold it with its sign.
+// Both arms are equal; the match serves the proof of `ranged`.
 fn number_as_i64(number: &Number) -> Option<i64>
     ensures value { result ≡ find.as_i64 (number_view number.now) }
     ensures ranged { IsRanged (number_view number.now) }

@@ -1,4 +1,4 @@
-//! The whole numbers that texts of JSON spell.
+//! Integers in JSON text: digits without a point or an exponent.
 
 ghost use Rattle.std.specs.Prelude.{◌≡◌, ◌<◌, ◌==◌, option_and_then, slice_index, length, IsTrue, true, false};
 ghost use Rattle.serde_json.specs.Find.{as_i64, as_u64};
@@ -29,7 +29,7 @@ fn negative(numeral: &Numeral<'_>) -> Option<i64>
     }
 }
 
-/// The number that a text spells, if it is whole and from 0.
+// Parses a JSON number; `None` unless it is an integer in the range of `u64`, without a sign.
 pub(crate) fn parse_unsigned(text: &str) -> Option<u64>
     ensures { result ≡ option_and_then as_u64 (number_of text.now) }
 {
@@ -41,7 +41,7 @@ pub(crate) fn parse_unsigned(text: &str) -> Option<u64>
     }
 }
 
-/// The number that a text spells, if it is whole and 64 bits hold it with its sign.
+// Parses a JSON number; `None` unless it is an integer in the range of `i64`. `-0` is a float.
 pub(crate) fn parse_signed(text: &str) -> Option<i64>
     ensures { result ≡ option_and_then as_i64 (number_of text.now) }
 {
@@ -59,7 +59,7 @@ pub(crate) fn parse_signed(text: &str) -> Option<i64>
     }
 }
 
-/// Whether a text spells a whole number that 64 bits hold.
+// Whether a JSON number is an integer in the range of `u64` or `i64`.
 pub(crate) fn is_whole(text: &str) -> bool
     ensures { result ≡ is_whole_number text.now }
 {

@@ -1,4 +1,4 @@
-//! An object whose members are walked once, to be looked up by their keys.
+//! JSON objects whose members are collected once, for lookups by key.
 
 ghost use Rattle.std.specs.Prelude.{◌≡◌, map, option_map, IfOk};
 ghost use Rattle.serde_json.specs.Find as find;
@@ -11,23 +11,28 @@ use crate::node::Node;
 use serde_json::{Map, Value};
 use std::alloc::{AllocError, Global};
 
-/// A member of an object: its key, and the place of its value.
+/// A member of an object: its key and the node of its value.
 #[derive(Drop)]
 pub struct Named<'n, N> {
+    /// Key, unescaped.
     pub key: &'n str,
+    /// Node of the value.
     pub node: N,
 }
 
-/// An object whose members were walked once. Of members of one key the last one counts.
+/// An object with its members collected; of members with equal keys, the last counts.
 #[derive(Drop)]
 pub struct Object<'n, N> {
+    /// Members in the order of the tree; keys may repeat.
     pub members: Vec<Named<'n, N>>,
 }
 
 impl<'n, N: Node> Object<'n, N> {
-    /// The object that stands at a place, if one does.
+    /// Collects the members of the object at a node; `None` if the node is not an object.
     ///
-    /// It fails where memory is refused.
+    /// # Errors
+    ///
+    /// `AllocError` if an allocation fails.
     pub fn new(alloc: Global, node: &'n N) -> Result<Option<Object<'n, N>>, AllocError>
         ensures { IfOk result (λ o. option_map (λ it. named_by N.data_of it.members.items) o
             ≡ find.as_object (N.data_of node.now)) }
@@ -38,7 +43,7 @@ impl<'n, N: Node> Object<'n, N> {
         }
     }
 
-    /// The place at a key.
+    /// Returns the node at a key; `None` if absent.
     pub fn get(&self, key: &str) -> Option<&N>
         ensures { option_map (λ node. N.data_of node.now) result
             ≡ find.get key.now (tree_of N.data_of self.now) }
@@ -54,9 +59,11 @@ impl<'n, N: Node> Object<'n, N> {
         None
     }
 
-    /// Trees of the members whose key is none of the names.
+    /// Copies the members whose keys are none of `names`.
     ///
-    /// It fails where memory is refused.
+    /// # Errors
+    ///
+    /// `AllocError` if an allocation fails.
     pub fn members_beside(
         &self,
         alloc: Global,

@@ -1,4 +1,4 @@
-//! Trees of JSON as members.
+//! JSON trees as members.
 
 ghost use Rattle.std.specs.Prelude.{OnOk};
 ghost use Rattle.serde_json.specs.Data.{number as number_data};
@@ -45,7 +45,13 @@ impl Member for Value {
     }
 }
 
-/// Writes the text of a tree. It fails where memory runs out, with a part of the text written.
+/// Writes a tree as JSON text.
+///
+/// The contract covers trees without floats.
+///
+/// # Errors
+///
+/// `AllocError` if an allocation fails; part of the text may have been written.
 #[cycle(write_value)]
 pub fn write_value(value: &Value, out: &mut Writer) -> Result<(), AllocError>
     ensures { OnOk result (WritesTree (view value.now) out.old out.new) }

@@ -1,4 +1,4 @@
-//! The forms of values whose Rust type does not fix one.
+//! Codecs: JSON forms of values, chosen per field.
 
 ghost use Rattle.std.specs.Prelude.{◌≡◌, ◌↔◌, IfOk, IsTrue, OnOk};
 ghost use Rattle.serde_json.specs.View.{view};
@@ -17,29 +17,45 @@ use json::Writer;
 use serde_json::Value;
 use std::alloc::{AllocError, Global};
 
-/// A form of the values of `T` as trees.
+/// A JSON form of the values of `T`.
 pub trait Codec<T> {
+    // which trees stand for which cells
     ghost kind: { Kind };
 
+    // the value, as contracts see it
     ghost cell_of: { T → Cell };
 
-    /// The written tree. It fails where memory runs out.
+    /// Returns the JSON tree of a value.
+    ///
+    /// # Errors
+    ///
+    /// `AllocError` if an allocation fails.
     fn to_tree(value: &T, alloc: Global) -> Result<Value, AllocError>
         ensures { IfOk result (λ t. view t ≡ written kind (cell_of value.now)) };
 
-    /// Writes the text of that tree. It fails where memory runs out, with a part of the text written.
+    /// Writes a value as JSON text.
+    ///
+    /// The contract covers values whose tree has no float.
+    ///
+    /// # Errors
+    ///
+    /// `AllocError` if an allocation fails; part of the text may have been written.
     fn write(value: &T, out: &mut Writer) -> Result<(), AllocError>
         ensures { OnOk result (WritesTree (written kind (cell_of value.now)) out.old out.new) };
 
-    /// The same value, or its normal form. It fails where memory runs out.
+    /// Clones a value, or returns its normal form, by `way`.
+    ///
+    /// # Errors
+    ///
+    /// `AllocError` if an allocation fails.
     fn remake(value: &T, way: Way) -> Result<T, AllocError>
         ensures { IfOk result (λ v. cell_of v ≡ made way kind (cell_of value.now)) };
 
-    /// Whether the value is the tree null.
+    /// Returns whether the value is written as null.
     fn is_null_tree(value: &T) -> bool
         ensures { result ≡ is_null_of kind (cell_of value.now) };
 
-    /// The same value. It fails where memory runs out.
+    /// Clones a value. `AllocError` if an allocation fails.
     #[tactic(auto, unfolding(crate::specs::Made::made))]
     final fn copy(value: &T) -> Result<T, AllocError>
         ensures { IfOk result (λ v. cell_of v ≡ cell_of value.now) }
@@ -47,13 +63,14 @@ pub trait Codec<T> {
         Self::remake(value, Way::Same)
     }
 
-    /// Whether the value's trees hold no floats, and no member that no row names clashes with a row.
+    /// Returns whether the value is plain: no tree in it has a float, and no additional member has
+    /// the key of a field.
     fn is_plain(value: &T) -> bool
         ensures plain { IsTrue result ↔ IsPlain kind (cell_of value.now) }
         ensures stored { IsTrue result → IsStored kind (cell_of value.now) };
 }
 
-/// The form that a type has by itself.
+/// The codec of a [`Member`]: its own form.
 pub struct Own;
 
 impl<T: Member> Codec<T> for Own {
@@ -82,11 +99,12 @@ impl<T: Member> Codec<T> for Own {
     }
 }
 
-/// A form with a usual value, which a row may leave out.
+/// A codec with a default value, which may be omitted.
 pub trait DefaultedCodec<T>: Codec<T> {
+    // the default value
     ghost usual: { Cell };
 
-    /// Whether the value is written as the usual one is.
+    /// Returns whether the normal form of the value is the default.
     fn is_usual(value: &T) -> bool
         ensures { result ≡ same_cell (norm Self.kind (Self.cell_of value.now)) usual };
 }
@@ -99,7 +117,13 @@ impl<T: Defaulted> DefaultedCodec<T> for Own {
     }
 }
 
-/// A row that may be absent or null, made anew. It fails where memory runs out.
+/// Clones an optional value, or returns its normal form, by `way`.
+///
+/// The normal form of a value that is written as null is `None`.
+///
+/// # Errors
+///
+/// `AllocError` if an allocation fails.
 #[tactic(auto, using(crate::proofs::Ways::null_made, crate::proofs::Ways::there_made, crate::proofs::Ways::absent_made))]
 pub fn remake_option_as<F: Codec<T>, T>(
     value: &Option<T>,
@@ -120,7 +144,11 @@ pub fn remake_option_as<F: Codec<T>, T>(
     }
 }
 
-/// A row that may be absent, but not null, made anew. It fails where memory runs out.
+/// Clones an optional value whose member rejects null, or returns its normal form, by `way`.
+///
+/// # Errors
+///
+/// `AllocError` if an allocation fails.
 #[tactic(auto, using(crate::proofs::Ways::strict_made, crate::proofs::Ways::strict_absent_made))]
 pub fn remake_strict_as<F: Codec<T>, T>(
     value: &Option<T>,

@@ -1,16 +1,16 @@
-//! Values that are drawn where they are absent.
+//! Values that are drawn if absent, as ids.
 
 ghost use Rattle.sentry_tables.specs.Cell.{Cell};
 
 use crate::read::ReadCodec;
 use rand_core::Rng;
 
-/// A form whose absent values are drawn.
+/// A codec of values that are drawn from a generator if absent.
 pub trait Drawn<T>: ReadCodec<T> {
-    // what may be drawn
+    // the value may be drawn
     ghost IsDrawn: { Cell → Type 0 };
 
-    /// A value from the generator.
+    /// Draws a value from the generator.
     fn random<R: Rng>(ids: &mut R) -> T
         ensures { IsDrawn (Self.cell_of result) };
 }

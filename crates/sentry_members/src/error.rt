@@ -1,17 +1,17 @@
-//! Why a tree gives no value.
+//! The error of reading values from JSON.
 
 ghost use Rattle.std.specs.Prelude.{◌≡◌};
 
 use std::alloc::{AllocError, AllocFailed};
 use thiserror::Error;
 
-/// Why a tree gives no value.
+/// Error of reading a value from a JSON tree or a line of JSON.
 #[derive(Clone, Copy, Debug, PartialEq, Eq, Error)]
 pub enum TreeError {
-    /// The tree shows no value of the type.
+    /// The tree is not a value of the type, or [`read_tree`](crate::read_tree) rejects the line.
     #[error("Misfit")]
     Misfit,
-    /// Memory was refused.
+    /// An allocation failed.
     #[error("out of memory")]
     Memory,
 }

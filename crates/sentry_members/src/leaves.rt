@@ -1,4 +1,4 @@
-//! Texts, truth values and numbers.
+//! Strings, booleans, integers and pairs of integers as members.
 
 ghost use Rattle.std.specs.Prelude.{◌^◌};
 ghost use Rattle.sentry_tables.specs.Cell.{truth, whole};

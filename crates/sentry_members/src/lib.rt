@@ -1,9 +1,9 @@
-//! What rows of tables hold, read and written.
+//! Members: the values of fields, as they are written to JSON and read from JSON.
 //!
-//! A type with a form as a tree is a [`Member`]; [`codec`] names the forms of values whose Rust type
-//! does not fix one, and [`spelled`] is of values that stand in a tree as texts. [`read`] says which
-//! types are read from trees, and [`draw`] which of them may be drawn. [`line`] reads a value from a
-//! line of text, and [`text`] writes one.
+//! A type with one JSON form is a [`Member`]; a [`Codec`] is a form that is chosen per field.
+//! [`spelled`] has the form of values that are JSON strings. [`read`] reads values from JSON trees,
+//! and [`draw`] draws absent ones. [`line`] reads a value from a line of JSON, and [`text`] writes
+//! a value as compact text.
 #![tactic(auto)]
 
 pub mod any;

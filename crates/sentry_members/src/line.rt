@@ -1,4 +1,4 @@
-//! Lines of JSON, read.
+//! Reading of values from lines of JSON.
 
 ghost use Rattle.std.specs.Prelude.{◌≡◌, ◌↔◌, IsTrue, IfOk, IfErr, Some, None, false};
 ghost use Rattle.serde_json.specs.Data.{Data};
@@ -16,7 +16,7 @@ use sentry_json::{Line, LineError, Node, scratch};
 use serde_json::Value;
 use std::alloc::Global;
 
-/// Whether no number in the tree, at any depth, is held as a float.
+/// Returns whether no number in a tree, at any depth, is a float.
 pub fn whole(tree: &Value) -> bool
     ensures exactly { IsTrue result ↔ (has_float (view tree.now) ≡ false) }
     ensures sound { IsTrue result → IsSound (view tree.now) }
@@ -24,10 +24,13 @@ pub fn whole(tree: &Value) -> bool
     !has_float(tree)
 }
 
-/// The tree of a line: its bytes are UTF-8, they are one JSON text, and no number in it is held as a
-/// float.
+/// Parses a line as a JSON tree.
 ///
-/// Fails with `Misfit` where the line has no tree, and with `Memory` where memory is refused.
+/// # Errors
+///
+/// - `Misfit` if the line is not UTF-8, is not one JSON text that nests at most 127 deep, or has a
+///   number that is read as a float ([`has_float`]).
+/// - `Memory` if an allocation fails.
 #[inline(never)]
 pub fn read_tree(alloc: Global, line: &[u8]) -> Result<Value, TreeError>
     ensures ok { IfOk result (λ tree. tree_of line.now ≡ Some (view tree)) }
@@ -42,26 +45,33 @@ pub fn read_tree(alloc: Global, line: &[u8]) -> Result<Value, TreeError>
     }
 }
 
-/// What reads a value of type `T` at a node of a tree.
+/// A reader of values of type `T` from JSON nodes.
 pub trait ReadsNode<T>: Drop {
+    // the tree may be read as the value
     ghost shown: { Self → Data → T → Type 0 };
 
+    // the tree is read as no value
     ghost refused: { Self → Data → Type 0 };
 
-    /// The value that the tree at a node shows.
+    /// Reads a value from the tree at a node.
     ///
-    /// Fails with `Misfit` where the tree shows none, and with `Memory` where memory is refused.
+    /// # Errors
+    ///
+    /// - `Misfit` if the tree is not a value of the type.
+    /// - `Memory` if an allocation fails.
     fn read<N: Node>(self, alloc: Global, node: &N) -> Result<T, TreeError>
         ensures ok { IfOk result (λ value. shown self (N.data_of node.now) value) }
         ensures err { IfErr result (λ e. Only e (refused self (N.data_of node.now))) };
 }
 
-/// The value that a line shows, by what reads it at a node.
+/// Reads a value from a line with `reader`, in working memory that the caller lends.
 ///
-/// The line is read through a tape, and through a tree of values where a tape doesn't serve: both are
-/// read by the same reader.
+/// The line is parsed onto a tape, or as a tree if a tape doesn't serve ([`LineError::Unfit`]).
 ///
-/// Fails with `Misfit` where the line shows none, and with `Memory` where memory is refused.
+/// # Errors
+///
+/// - `Misfit` if [`read_tree`] rejects the line, or the tree is not a value of the type.
+/// - `Memory` if an allocation fails.
 #[tactic(auto, using(crate::proofs::Texts::line_shows, crate::proofs::Texts::line_refused, crate::proofs::Texts::no_line))]
 pub fn read_line_by<T, R: ReadsNode<T>>(
     alloc: Global,
@@ -83,7 +93,7 @@ pub fn read_line_by<T, R: ReadsNode<T>>(
     }
 }
 
-/// The value that a line shows, through a tree of values.
+// Not inlined: lines that a tape doesn't serve for are rare.
 #[cold]
 #[inline(never)]
 #[tactic(auto, using(crate::proofs::Texts::line_shows, crate::proofs::Texts::line_refused, crate::proofs::Texts::no_line))]
@@ -95,7 +105,7 @@ fn read_as_tree<T, R: ReadsNode<T>>(alloc: Global, line: &[u8], reader: R) -> Re
     reader.read(alloc, &&tree)
 }
 
-/// The reader of a type whose values are shown by a tree alone.
+// The reader of a type by its own `FromTree`.
 #[derive(Drop)]
 struct Plainly;
 
@@ -109,11 +119,14 @@ impl<T: FromTree> ReadsNode<T> for Plainly {
     }
 }
 
-/// The value that a line shows.
+/// Reads a value from a line.
 ///
-/// A reader of many lines makes one `Scratch` and calls [`read_line_with`].
+/// To read many lines, make one [`Scratch`] and call [`read_line_with`].
 ///
-/// Fails with `Misfit` where the line shows none, and with `Memory` where memory is refused.
+/// # Errors
+///
+/// - `Misfit` if [`read_tree`] rejects the line, or the tree is not a value of the type.
+/// - `Memory` if an allocation fails.
 #[inline(never)]
 pub fn read_line<T: FromTree>(alloc: Global, line: &[u8]) -> Result<T, TreeError>
     ensures { ReadsText T.kind T.cell_of line.now result }
@@ -122,9 +135,12 @@ pub fn read_line<T: FromTree>(alloc: Global, line: &[u8]) -> Result<T, TreeError
     read_line_with(alloc, line, &mut scratch)
 }
 
-/// The value that a line shows, with the memory that reading needs handed in.
+/// Reads a value from a line, in working memory that the caller lends.
 ///
-/// Fails with `Misfit` where the line shows none, and with `Memory` where memory is refused.
+/// # Errors
+///
+/// - `Misfit` if [`read_tree`] rejects the line, or the tree is not a value of the type.
+/// - `Memory` if an allocation fails.
 #[tactic(auto, using(crate::proofs::Texts::text_read_by))]
 pub fn read_line_with<T: FromTree>(
     alloc: Global,

@@ -1,4 +1,4 @@
-//! Lists and maps of members.
+//! Lists and maps of members, as JSON arrays and objects.
 
 ghost use Rattle.sentry_tables.specs.Kind.{list as list_kind, map as map_kind};
 ghost use Rattle.sentry_members.specs.Cells.{list_cell, map_cell};

@@ -1,4 +1,4 @@
-//! What a row of a table holds.
+//! Types with one JSON form, and their default values.
 
 ghost use Rattle.std.specs.Prelude.{◌≡◌, ◌↔◌, IfOk, IsTrue, OnOk};
 ghost use Rattle.serde_json.specs.View.{view};
@@ -15,29 +15,45 @@ use json::Writer;
 use serde_json::Value;
 use std::alloc::{AllocError, Global};
 
-/// A type with a form as a tree.
+/// A type with a JSON form.
 pub trait Member: Sized + Drop {
+    // which trees stand for which cells
     ghost kind: { Kind };
 
+    // the value, as contracts see it
     ghost cell_of: { Self → Cell };
 
-    /// The written tree. It fails where memory runs out.
+    /// Returns the JSON tree of the value.
+    ///
+    /// # Errors
+    ///
+    /// `AllocError` if an allocation fails.
     fn to_tree(&self, alloc: Global) -> Result<Value, AllocError>
         ensures { IfOk result (λ t. view t ≡ written kind (cell_of self.now)) };
 
-    /// Writes the text of that tree. It fails where memory runs out, with a part of the text written.
+    /// Writes the value as JSON text.
+    ///
+    /// The contract covers values whose tree has no float.
+    ///
+    /// # Errors
+    ///
+    /// `AllocError` if an allocation fails; part of the text may have been written.
     fn write(&self, out: &mut Writer) -> Result<(), AllocError>
         ensures { OnOk result (WritesTree (written kind (cell_of self.now)) out.old out.new) };
 
-    /// The same value, or its normal form. It fails where memory runs out.
+    /// Clones the value, or returns its normal form, by `way`.
+    ///
+    /// # Errors
+    ///
+    /// `AllocError` if an allocation fails.
     fn remake(&self, way: Way) -> Result<Self, AllocError>
         ensures { IfOk result (λ v. cell_of v ≡ made way kind (cell_of self.now)) };
 
-    /// Whether the value is the tree null.
+    /// Returns whether the value is written as null.
     fn is_null_tree(&self) -> bool
         ensures { result ≡ is_null_of kind (cell_of self.now) };
 
-    /// The same value. It fails where memory runs out.
+    /// Clones the value. `AllocError` if an allocation fails.
     #[tactic(auto, unfolding(crate::specs::Made::made))]
     final fn copy(&self) -> Result<Self, AllocError>
         ensures { IfOk result (λ v. cell_of v ≡ cell_of self.now) }
@@ -45,7 +61,11 @@ pub trait Member: Sized + Drop {
         self.remake(Way::Same)
     }
 
-    /// The value's normal form. It fails where memory runs out.
+    /// Returns the normal form: the value that is read back from what is written.
+    ///
+    /// # Errors
+    ///
+    /// `AllocError` if an allocation fails.
     #[tactic(auto, unfolding(crate::specs::Made::made))]
     final fn normal(&self, alloc: Global) -> Result<Self, AllocError>
         ensures { IfOk result (λ v. cell_of v ≡ norm kind (cell_of self.now)) }
@@ -53,14 +73,16 @@ pub trait Member: Sized + Drop {
         self.remake(Way::Normal(alloc))
     }
 
-    /// Whether the value's trees hold no floats, and no member that no row names clashes with a row.
+    /// Returns whether the value is plain: no tree in it has a float, and no additional member has
+    /// the key of a field.
     fn is_plain(&self) -> bool
         ensures plain { IsTrue result ↔ IsPlain kind (cell_of self.now) }
         ensures stored { IsTrue result → IsStored kind (cell_of self.now) };
 }
 
-/// A type whose form is one that serves many types, as that of texts or of tables.
+/// A type whose JSON form is a codec that serves many types, as [`AsText`](crate::AsText).
 pub trait Formed: Sized + Drop {
+    /// The type's codec.
     type Form;
 }
 
@@ -93,9 +115,9 @@ where
     }
 }
 
-/// A type of which any value may be the default of a row.
+/// A type of which any value may be the default of a field.
 pub trait Usual: Member {
-    /// Whether the value is written as the usual one is.
+    /// Returns whether the normal form of the value is `usual`.
     fn is(&self, usual: &Self) -> bool
         ensures { result ≡
             same_cell (norm Self.kind (Self.cell_of self.now)) (Self.cell_of usual.now) };
@@ -119,11 +141,12 @@ impl Usual for u64 {
     }
 }
 
-/// A type with a usual value, which a row may leave out.
+/// A type with a default value, which may be omitted.
 pub trait Defaulted: Member {
+    // the default value
     ghost usual: { Cell };
 
-    /// Whether the value is written as the usual one is.
+    /// Returns whether the normal form of the value is the default.
     fn is_usual(&self) -> bool
         ensures { result ≡ same_cell (norm Self.kind (Self.cell_of self.now)) usual };
 }

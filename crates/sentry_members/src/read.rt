@@ -1,4 +1,4 @@
-//! Reading what a row of a table holds.
+//! Reading of values from JSON trees.
 
 ghost use Rattle.std.specs.Prelude.{◌≡◌, ◌^◌, option_map, option_and_then};
 ghost use Rattle.serde_json.specs.Find.{as_number};
@@ -18,17 +18,23 @@ use serde_json::{Map, Value};
 use std::alloc::Global;
 use std::borrow::CowStr;
 
-/// A type whose values are shown by a tree alone.
+/// A type whose values are read from JSON trees, without the caller's `now` or a generator of ids.
 pub trait FromTree: Member {
-    /// The value that the tree at a node shows.
+    /// Reads a value from the tree at a node.
     ///
-    /// Fails with `Misfit` where the tree shows none, and with `Memory` where memory is refused.
+    /// # Errors
+    ///
+    /// - `Misfit` if the tree is not a value of the type.
+    /// - `Memory` if an allocation fails.
     fn from_node<N: Node>(alloc: Global, node: &N) -> Result<Self, TreeError>
         ensures { Reads Self.kind Self.cell_of (N.data_of node.now) result };
 
-    /// The value that a tree shows.
+    /// Reads a value from a JSON tree.
     ///
-    /// Fails with `Misfit` where the tree shows none, and with `Memory` where memory is refused.
+    /// # Errors
+    ///
+    /// - `Misfit` if the tree is not a value of the type.
+    /// - `Memory` if an allocation fails.
     final fn from_tree(alloc: Global, tree: &Value) -> Result<Self, TreeError>
         ensures { Reads Self.kind Self.cell_of (view tree.now) result }
     {
@@ -36,11 +42,14 @@ pub trait FromTree: Member {
     }
 }
 
-/// A form whose values are shown by a tree alone.
+/// A codec whose values are read from JSON trees, without the caller's `now` or a generator of ids.
 pub trait ReadCodec<T>: Codec<T> {
-    /// The value that the tree at a node shows.
+    /// Reads a value from the tree at a node.
     ///
-    /// Fails with `Misfit` where the tree shows none, and with `Memory` where memory is refused.
+    /// # Errors
+    ///
+    /// - `Misfit` if the tree is not a value of the type.
+    /// - `Memory` if an allocation fails.
     fn from_node<N: Node>(alloc: Global, node: &N) -> Result<T, TreeError>
         ensures { Reads Self.kind Self.cell_of (N.data_of node.now) result };
 }
@@ -135,7 +144,7 @@ impl FromTree for u64 {
     }
 }
 
-/// The whole number of a tree, if it is one that 64 bits hold with its sign.
+// `as_i64` with a contract in the terms of signed kinds.
 fn node_as_i64<N: Node>(node: &N) -> Option<i64>
     ensures { option_map whole result
         ≡ option_and_then (signed_at (2 ^ 63)) (as_number (N.data_of node.now)) }
@@ -171,7 +180,7 @@ impl FromTree for Value {
     }
 }
 
-/// The whole numbers of a list of exactly two.
+// `None` unless the items are exactly two integers in the range of `u64`.
 fn two_numbers<N: Node>(items: &[N]) -> Option<(u64, u64)>
     ensures { option_map pair_cell result ≡ pair_of (items_by N.data_of items.now) }
 {
@@ -210,7 +219,7 @@ impl<T: FromTree> FromTree for Vec<T> {
     }
 }
 
-/// Of members of one key the last one counts, so they are read from the last to the first.
+// Of members with equal keys, the last counts: members are read from the last to the first.
 impl<T: FromTree> FromTree for Map<String, T> {
     fn from_node<N: Node>(alloc: Global, node: &N) -> Result<Map<String, T>, TreeError> {
         let members = match node.members(alloc)? {
@@ -232,9 +241,12 @@ impl<T: FromTree> FromTree for Map<String, T> {
     }
 }
 
-/// The list that a tree shows as a bare array, or as an object's array at the key `values`.
+/// Reads a list from an array, or from the array at the key `values` of an object.
 ///
-/// Fails with `Misfit` where the tree shows none, and with `Memory` where memory is refused.
+/// # Errors
+///
+/// - `Misfit` if the tree is neither, or an item is not a value of the type.
+/// - `Memory` if an allocation fails.
 #[tactic(auto, using(crate::proofs::ValuesShown::bare_read, crate::proofs::ValuesShown::no_values))]
 pub fn read_values<T: FromTree, N: Node>(alloc: Global, node: &N) -> Result<Vec<T>, TreeError>
     ensures { Reads (values_kind T.kind) (λ v.

@@ -1,4 +1,4 @@
-//! Values that stand in a tree as texts.
+//! Values that are JSON strings, as ids and IP addresses.
 
 ghost use Rattle.std.specs.Prelude.{◌≡◌, ◌≤◌, ◌↔◌, ℕ, List, length, IfOk, IfErr, IfSome};
 ghost use Rattle.sentry_tables.specs.Cell.{Cell};
@@ -16,46 +16,58 @@ use serde_json::Value;
 use std::alloc::{AllocError, Global};
 use std::fmt::{Display, Write};
 
-/// Room for the text of a value that keeps none of its own.
+/// Buffer of 64 bytes for the text of a value that doesn't store its text.
 pub type Room = ArrayString<64>;
 
-/// How many bytes have room: a text fits exactly where it has no more.
+/// Returns the capacity of a [`Room`] in bytes.
 pub fn room_size() -> usize
     ensures { (s : List ℕ) → FitsRoom s ↔ (length s ≤ result) }
 {
     Room::new().capacity()
 }
 
-/// A type whose values stand in a tree as texts.
+/// A type whose values are JSON strings.
 pub trait Spelled: Sized + Drop {
+    // which texts stand for which cells
     ghost spelling: { Spelling };
 
+    // the value, as contracts see it
     ghost cell_of: { Self → Cell };
 
-    /// The value that a text spells.
+    /// Parses a value.
     ///
-    /// Fails with `Misfit` where the text spells none, and with `Memory` where memory is refused.
+    /// # Errors
+    ///
+    /// - `Misfit` if the text is not a value of the type.
+    /// - `Memory` if an allocation fails.
     fn of_text(alloc: Global, text: &str) -> Result<Self, TreeError>
         ensures { ReadsSpelling Self.spelling Self.cell_of text.now result };
 
-    /// The text that is written, in `room` where the value keeps none of its own.
-    /// It never fails for want of room: where it fails, the text would have fitted.
+    /// Returns the text in payloads; printed into `room` if the value doesn't store its text.
+    ///
+    /// # Errors
+    ///
+    /// `AllocError` if an allocation fails; never because `room` is too small for the text.
     fn text<'a>(&'a self, room: &'a mut Room) -> Result<&'a str, AllocError>
         ensures ok { IfOk result (λ s. s.now ≡ Self.spelling.written (Self.cell_of self.now)) }
         ensures fits { IfErr result (λ _.
             FitsRoom (Self.spelling.written (Self.cell_of self.now))) };
 
-    /// The same value, or its normal form. It fails where memory runs out.
+    /// Clones the value, or returns its normal form, by `way`.
+    ///
+    /// # Errors
+    ///
+    /// `AllocError` if an allocation fails.
     fn respell(&self, way: Way) -> Result<Self, AllocError>
         ensures { IfOk result (λ v.
             Self.cell_of v ≡ made way (spelled_kind Self.spelling) (Self.cell_of self.now)) };
 
-    /// Nothing; a value has what its type holds.
+    /// Does nothing; the contract states what the type guarantees of each value.
     fn hold(&self)
         ensures { Self.spelling.stored (Self.cell_of self.now) };
 }
 
-/// The form of values that stand in trees as their texts.
+/// The codec of a [`Spelled`] type: a JSON string.
 pub struct AsText;
 
 impl<T: Spelled> Codec<T> for AsText {
@@ -99,7 +111,11 @@ impl<T: Spelled> ReadCodec<T> for AsText {
     }
 }
 
-/// The text that a value prints, which has to fit. It fails only where the value's `fmt` does by itself.
+/// Prints a value into `room` and returns the text, which has to fit.
+///
+/// # Errors
+///
+/// `AllocError` if the value's `fmt` fails.
 pub fn print_into<'a, T: Display>(value: &T, room: &'a mut Room) -> Result<&'a str, AllocError>
     requires { IfSome (T.output value.now) FitsRoom }
     ensures text { IfOk result (λ s. IfSome (T.output value.now) (λ text. s.now ≡ text)) }

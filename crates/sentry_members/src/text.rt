@@ -1,4 +1,4 @@
-//! The compact text of a member.
+//! Members as compact JSON text.
 
 ghost use Rattle.std.specs.Prelude.{◌≡◌, ◌++◌, [], OnOk, OnErr, IfOk, IsUtf8, false};
 ghost use Rattle.serde_json.specs.Written.{has_float, compact_text};
@@ -9,7 +9,13 @@ use json::Writer;
 use std::alloc::{AllocError, Global};
 use std::mem;
 
-/// The compact text of a value's tree. It fails where memory runs out.
+/// Returns a value as compact JSON text.
+///
+/// The contract covers values whose tree has no float.
+///
+/// # Errors
+///
+/// `AllocError` if an allocation fails.
 pub fn text_of<T: Member>(alloc: Global, value: &T) -> Result<Vec<u8>, AllocError>
     ensures text { IfOk result (λ b. has_float (written T.kind (T.cell_of value.now)) ≡ false
         → b.items ≡ compact_text (written T.kind (T.cell_of value.now))) }
@@ -21,7 +27,13 @@ pub fn text_of<T: Member>(alloc: Global, value: &T) -> Result<Vec<u8>, AllocErro
     Ok(out.into_inner())
 }
 
-/// Writes that text after what `out` holds. It fails where memory runs out, and `out` is empty then.
+/// Appends a value to `out` as compact JSON text.
+///
+/// The contract covers values whose tree has no float.
+///
+/// # Errors
+///
+/// `AllocError` if an allocation fails; `out` is empty then.
 pub fn write_text<T: Member>(value: &T, out: &mut Vec<u8>) -> Result<(), AllocError>
     ensures ok { OnOk result (has_float (written T.kind (T.cell_of value.now)) ≡ false
         → out.new.items ≡ out.old.items ++ compact_text (written T.kind (T.cell_of value.now))) }

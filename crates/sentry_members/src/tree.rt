@@ -1,4 +1,5 @@
-// Trees of JSON.
+//! Floats in JSON trees.
+
 ghost use Rattle.std.specs.Prelude.{◌≡◌, false};
 ghost use Rattle.serde_json.specs.Data.{array, object, number as number_tree};
 ghost use Rattle.serde_json.specs.Find.{is_float};
@@ -8,9 +9,11 @@ ghost use Rattle.sentry_json.specs.Sound.{IsSound};
 
 use serde_json::{Map, Number, Value};
 
-/// Whether a number in the tree, at any depth, is held as a float.
+/// Returns whether a number in a tree, at any depth, is a float.
 ///
-/// A tree without one is sound: its numbers are in range, its texts are UTF-8, its keys in order.
+/// A number with a point or an exponent, `-0`, and an integer that 64 bits don't hold are read as
+/// floats. A tree without floats is sound: its numbers are in range, its strings and keys are
+/// UTF-8, and its keys are in order.
 #[cycle(has_float)]
 pub fn has_float(value: &Value) -> bool
     ensures float { result ≡ has_float (view value.now) }
@@ -27,8 +30,6 @@ pub fn has_float(value: &Value) -> bool
         Value::Null | Value::Bool(_) => false,
     }
 }
-
-/// Whether the number is held as a float.
 
 fn is_float(number: &Number) -> bool
     ensures float { result ≡ is_float (number_view number.now) }

@@ -1,22 +1,23 @@
-//! How a value is made anew.
+//! Ways to copy a value.
 
 ghost use Rattle.std.specs.Prelude.{◌≡◌};
 ghost use Rattle.sentry_members.specs.Made.{is_normal};
 
 use std::alloc::Global;
 
-/// How a value is made anew.
+/// A way to copy a value.
 #[derive(Clone, Copy, Debug, Drop)]
 pub enum Way {
-    /// The same value.
+    /// An equal value.
     Same,
-    /// Its normal form: what is read back of the written value. Texts that the value doesn't hold are made with this
-    /// allocator.
+    /// The normal form: the value that is read back from what is written.
+    ///
+    /// Strings that the value doesn't have are allocated with this allocator.
     Normal(Global),
 }
 
 impl Way {
-    /// Whether a normal form is made.
+    /// Returns whether this is [`Way::Normal`].
     pub fn is_normal(self) -> bool
         ensures { result ≡ is_normal self }
     {

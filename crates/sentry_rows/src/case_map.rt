@@ -1,4 +1,4 @@
-//! Maps of values of several cases, whose keys stand for the tags that are absent.
+//! Maps of values of several cases, whose keys stand for absent tags.
 
 ghost use Rattle.std.specs.Prelude.{◌≡◌, ℕ, List, Some, option_map};
 ghost use Rattle.sentry_tables.specs.Kind.{tagged_map, words};
@@ -20,20 +20,20 @@ use sentry_moments::Moment;
 use serde_json::{Map, Value};
 use std::alloc::{AllocError, Global};
 
-/// A type of several cases whose maps name a case by the key, where the tag is absent.
+/// A type of several cases whose maps name a case by the key if the tag is absent.
 pub trait CasedByKey: Cased + Formed<Form = AsCase> {
-    // the word of a member without a tag whose key is no word of a case
+    // the tag of a member that has none and whose key names no case
     ghost fallback_word: { List ℕ };
 
-    /// The word of a member without a tag whose key is no word of a case.
+    /// Returns the tag of a member that has none and whose key names no case.
     fn fallback() -> &'static str
         ensures { result.now ≡ fallback_word };
 }
 
-/// The form of maps of values of several cases.
+/// Codec of maps of values of several cases.
 ///
-/// A member without a tag is read by its key, where that is the word of a case, and else by the
-/// fallback. Each is written with its tag.
+/// The case of a member without a tag is the one that its key names, or else the fallback. Each
+/// member is written with its tag.
 pub struct AsCaseMap;
 
 impl<T: CasedByKey> Codec<Map<String, T>> for AsCaseMap {
@@ -84,7 +84,8 @@ impl<T: CasedByKey + ReadCasedAt> ReadCodecAt<Map<String, T>> for AsCaseMap {
     }
 }
 
-// The word of a member of a map: its tag, or where it has none its key, if that is a word, or else the fallback.
+// The word of a member's case: its tag; without a tag its key if that names a case, else
+// `fallback`. `None` if the tag isn't a string.
 #[tactic(auto, using(crate::proofs::CaseMaps::tag_there, crate::proofs::CaseMaps::key_known, crate::proofs::CaseMaps::key_unknown))]
 fn entry_word<'a, T: Cased, N: Node>(
     node: &'a N,
@@ -103,7 +104,6 @@ fn entry_word<'a, T: Cased, N: Node>(
     }
 }
 
-// The value of a member of a map.
 #[tactic(auto, using(crate::proofs::CaseMaps::entry_read, crate::proofs::CaseMaps::unknown_entry, crate::proofs::CaseMaps::no_entry))]
 fn read_entry<T: ReadCasedAt, N: Node, R: Rng>(
     alloc: Global,
@@ -125,10 +125,15 @@ fn read_entry<T: ReadCasedAt, N: Node, R: Rng>(
     }
 }
 
-/// The map that a tree shows at a moment: of a member without a tag the key is the tag, where it is the
-/// word of a case, and else `fallback` is.
+/// Reads a map of values of several cases; `now` fills absent timestamps, `ids` absent ids.
 ///
-/// Fails with `Misfit` where the tree shows none, and with `Memory` where memory is refused.
+/// The case of a member without a tag is the one that its key names, or else `fallback`. Of members
+/// with the same key the last one counts.
+///
+/// # Errors
+///
+/// - `Misfit` if the node isn't an object, or a member shows no value of the type.
+/// - `Memory` if an allocation fails.
 pub fn read_case_map<T: ReadCasedAt, N: Node, R: Rng>(
     alloc: Global,
     node: &N,

@@ -1,4 +1,4 @@
-//! Types that are one of several cases, by the word at the key `type`.
+//! Types of several cases, told apart by the tag: the word at the key `type`.
 
 ghost use Rattle.std.specs.Prelude.{◌≡◌, ℕ, List, IfOk, true, map as map_list};
 ghost use Rattle.serde_json.specs.Data.{Members, no_members};
@@ -28,65 +28,76 @@ use sentry_writing::{KeptTable, Table};
 use serde_json::{Map, Value};
 use std::alloc::{AllocError, Global};
 
-/// What takes the case of a value.
+/// A receiver of the case of a value.
 pub trait CaseSink {
-    // from one state to a later one this case was taken: its word and rows, what becomes of members of other keys, and what the rows and these members hold
+    // from the first state to the second, this case was taken: its word, its rows, whether
+    // additional members are kept, and the cells of the rows and the additional members
     ghost Takes: { Self → Self → List ℕ → Rows → Other → Cells → Members → Type 0 };
 
-    /// A case that ignores members of other keys.
+    /// Takes a case that ignores additional members.
     fn table<T: Table>(&mut self, word: &str, value: &T)
         ensures { Takes self.old self.new word.now (rows_of T.lines) ignored
             (cells_by T.lines value.now) no_members };
 
-    /// A case that keeps members of other keys.
+    /// Takes a case that keeps additional members.
     fn keep<T: KeptTable>(&mut self, word: &str, value: &T)
         ensures { Takes self.old self.new word.now (rows_of T.lines) (kept T.reserved)
             (cells_by T.lines value.now) (T.others_of value.now) };
 
-    /// A case without rows, which keeps all members but the tag.
+    /// Takes a case without rows, which keeps all members but the tag.
     fn members(&mut self, word: &str, members: &Map<String, Value>)
         ensures { Takes self.old self.new word.now no_rows but_tag no_cells
             (members_view members.now.entries) };
 }
 
-/// A type that is one of several cases.
+/// A type of several cases, each named by a word.
 pub trait Cased: Sized + Drop {
     // the cases, in the order of their numbers
     ghost cases: { Cases };
 
-    // the number of a value's case, and what it holds
+    // the number of a value's case, and the cell of what the case holds
     ghost choice_of: { Self → Cell };
 
-    /// The words of the cases.
+    /// Returns the words of the cases, in the order of their numbers.
     fn words() -> &'static [&'static str]
         ensures { map_list (λ word. word.now) result.now ≡ words cases };
 
-    /// Gives the value's case.
+    /// Gives the case of the value to the sink `to`.
     fn give<S: CaseSink>(&self, to: &mut S)
         ensures { TakesCase (S.Takes to.old to.new) Self.cases (choice_of self.now) };
 
-    /// The same value, or its normal form. It fails where memory runs out.
+    /// Returns a copy of the value, or its normal form, by `way`.
+    ///
+    /// # Errors
+    ///
+    /// `AllocError` if an allocation fails.
     fn remake_case(&self, way: Way) -> Result<Self, AllocError>
         ensures { IfOk result (λ v. MakesCase way Self.cases (choice_of self.now) (choice_of v)) };
 
     ghost distinct: { are_distinct (words cases) ≡ true };
 }
 
-/// A type of several cases whose values are shown by a tree alone.
+/// A type of several cases that is read from a JSON tree alone.
 pub trait ReadCased: Cased {
-    /// The value of the case of a number that a tree shows, whatever its tag.
+    /// Reads a value of the case with number `case`, whatever the tag.
     ///
-    /// Fails with `Misfit` where the tree shows none, and with `Memory` where memory is refused.
+    /// # Errors
+    ///
+    /// - `Misfit` if the tree shows no value of the case.
+    /// - `Memory` if an allocation fails.
     fn read<N: Node>(alloc: Global, node: &N, case: usize) -> Result<Self, TreeError>
         ensures { ReadsCase Self.cases Self.choice_of case (N.data_of node.now) result };
 }
 
-/// A type of several cases whose values are shown by a tree at a moment, with ids at hand.
+/// A type of several cases that is read from a JSON tree at a moment, with a generator of ids.
 pub trait ReadCasedAt: Cased {
-    /// The value of the case of a number that a tree shows at the moment `now`, whatever its tag;
-    /// absent ids are drawn from `ids`.
+    /// Reads a value of the case with number `case`, whatever the tag; `now` fills absent
+    /// timestamps, `ids` absent ids.
     ///
-    /// Fails with `Misfit` where the tree shows none, and with `Memory` where memory is refused.
+    /// # Errors
+    ///
+    /// - `Misfit` if the tree shows no value of the case.
+    /// - `Memory` if an allocation fails.
     fn read<N: Node, R: Rng>(
         alloc: Global,
         node: &N,
@@ -98,7 +109,7 @@ pub trait ReadCasedAt: Cased {
             (N.data_of node.now) result };
 }
 
-/// The form of the values of a type of several cases.
+/// Codec of a type of several cases: the tag at the key `type` names the case.
 pub struct AsCase;
 
 impl<T: Cased> Codec<T> for AsCase {
@@ -171,9 +182,12 @@ impl<T: ReadCasedAt> ReadCodecAt<T> for AsCase {
     }
 }
 
-/// All members of a tree but its tag: a case without rows.
+/// Reads all members of an object but the tag, for a case without rows.
 ///
-/// Fails with `Misfit` where the tree is no object, and with `Memory` where memory is refused.
+/// # Errors
+///
+/// - `Misfit` if the node isn't an object.
+/// - `Memory` if an allocation fails.
 #[tactic(auto, using(crate::proofs::Answering::no_object_fails))]
 pub fn read_members<N: Node>(alloc: Global, node: &N) -> Result<Map<String, Value>, TreeError>
     ensures { Reads (table no_rows but_tag) (λ m.
@@ -184,7 +198,11 @@ pub fn read_members<N: Node>(alloc: Global, node: &N) -> Result<Map<String, Valu
     from.end(members)
 }
 
-/// The same members, which are their own normal form. It fails where memory runs out.
+/// Clones the members of a case without rows, which are their own normal form.
+///
+/// # Errors
+///
+/// `AllocError` if an allocation fails.
 #[tactic(auto, using(crate::proofs::CasesGiven::members_made))]
 pub fn made_members(
     members: &Map<String, Value>,

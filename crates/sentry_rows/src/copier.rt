@@ -17,32 +17,46 @@ use std::borrow::CowStr;
 
 /// A table whose values are copied row by row.
 pub trait CopyTable: Table {
-    /// The same value, or its normal form, while nothing fails.
+    /// Returns a copy of the value, or its normal form, as `copies` asks.
+    ///
+    /// An allocation failure is remembered in `copies`, and a stand-in fills the copy.
+    ///
+    /// # Errors
+    ///
+    /// `AllocError` if an allocation fails for a row that has no stand-in.
     fn copy_rows(&self, copies: &mut Copier) -> Result<Self, AllocError>
         ensures { IfOk result (λ v. CopiesFields Self.lines self.now v copies.old copies.new) };
 }
 
-/// A table that keeps other members and is copied row by row.
+/// A table that keeps additional members and is copied row by row.
 pub trait CopyKept: KeptTable {
-    /// The same value, or its normal form, while nothing fails.
+    /// Returns a copy of the value, or its normal form, as `copies` asks.
+    ///
+    /// An allocation failure is remembered in `copies`, and a stand-in fills the copy.
+    ///
+    /// # Errors
+    ///
+    /// `AllocError` if an allocation fails for a row that has no stand-in.
     fn copy_rows(&self, copies: &mut Copier) -> Result<Self, AllocError>
         ensures { IfOk result (λ v.
             CopiesKept Self.lines self.now v (Self.others_of self.now)
             (Self.others_of v) copies.old copies.new) };
 }
 
-/// What copies rows: each is the same, or its normal form.
+/// A copier of rows, which makes copies or normal forms.
 ///
-/// The first refusal of memory is remembered, and some value stands in for what could not be copied.
-/// Where no value can stand in, as for a map, the refusal is returned.
+/// An allocation failure is remembered and returned by [`end`](Copier::end); the call that fails
+/// returns a stand-in value. A call for a type without a stand-in, as a map, returns the failure.
 #[derive(Drop)]
 pub struct Copier {
+    /// Whether copies or normal forms are made.
     pub way: Way,
+    /// An allocation failure, if one occurred.
     pub failed: Option<AllocError>,
 }
 
 impl Copier {
-    /// A copier that has not failed.
+    /// Creates a copier that has not failed.
     pub fn new(way: Way) -> Copier
         ensures way { result.way ≡ way }
         ensures failed { result.failed ≡ None }
@@ -50,7 +64,11 @@ impl Copier {
         Copier { way, failed: None }
     }
 
-    /// The copy of the rows, or the first refusal.
+    /// Returns `copy`, made of the rows that were copied.
+    ///
+    /// # Errors
+    ///
+    /// `AllocError` if an allocation failed for a row.
     pub fn end<X: Drop>(self, copy: X) -> Result<X, AllocError>
         ensures { IfOk result (λ x. (self.failed ≡ None) × (x ≡ copy)) }
     {
@@ -60,7 +78,7 @@ impl Copier {
         }
     }
 
-    // Remembers a refusal, and gives the value that stands in.
+    // Remembers an allocation failure and returns the stand-in.
     fn refuse<X: Drop>(&mut self, error: AllocError, stand_in: X) -> X
         ensures way { self.new.way ≡ self.old.way }
         ensures failed { is_some self.new.failed ≡ true }
@@ -69,7 +87,7 @@ impl Copier {
         stand_in
     }
 
-    /// A value that may be absent or null.
+    /// Copies the value of an optional member that may be null, with the codec `F`.
     #[tactic(auto, using(crate::proofs::Copying::row_copied, crate::proofs::Copying::copied_failed))]
     pub fn optional_as<F: Codec<X>, X: Drop>(&mut self, value: &Option<X>) -> Option<X>
         ensures { CopiesField may F.kind (option_cell F.cell_of value.now)
@@ -81,7 +99,7 @@ impl Copier {
         }
     }
 
-    /// A value that may be absent or null.
+    /// Copies the value of an optional member that may be null.
     pub fn optional<X: Member>(&mut self, value: &Option<X>) -> Option<X>
         ensures { CopiesField may X.kind (option_cell X.cell_of value.now)
             (option_cell X.cell_of result) self.old self.new }
@@ -89,7 +107,7 @@ impl Copier {
         self.optional_as::<Own, X>(value)
     }
 
-    /// A value that may be absent, but not null.
+    /// Copies the value of an optional member that rejects null, with the codec `F`.
     #[tactic(auto, using(crate::proofs::Copying::row_copied, crate::proofs::Copying::copied_failed))]
     pub fn optional_strict_as<F: Codec<X>, X: Drop>(&mut self, value: &Option<X>) -> Option<X>
         ensures { CopiesField may_strict F.kind (option_cell F.cell_of value.now)
@@ -101,7 +119,7 @@ impl Copier {
         }
     }
 
-    /// A value that takes no memory.
+    /// Copies a value of a `Copy` type, with the codec `F`.
     #[tactic(auto, using(crate::proofs::Copying::whole_copied, crate::proofs::Copying::copied_failed))]
     pub fn plain_as<F: Codec<X>, X: Copy>(&mut self, value: &X) -> X
         ensures { CopiesField must F.kind (F.cell_of value.now)
@@ -113,7 +131,7 @@ impl Copier {
         }
     }
 
-    /// A value that takes no memory.
+    /// Copies a value of a `Copy` type.
     pub fn plain<X: Member + Copy>(&mut self, value: &X) -> X
         ensures { CopiesField must X.kind (X.cell_of value.now)
             (X.cell_of result) self.old self.new }
@@ -121,7 +139,7 @@ impl Copier {
         self.plain_as::<Own, X>(value)
     }
 
-    /// A text.
+    /// Copies a string.
     #[tactic(auto, using(crate::proofs::Copying::whole_copied, crate::proofs::Copying::copied_failed))]
     pub fn text(&mut self, text: &String) -> String
         ensures { CopiesField must text_kind (text_cell text.now)
@@ -133,7 +151,7 @@ impl Copier {
         }
     }
 
-    /// A text that may be borrowed.
+    /// Copies a string that may be borrowed.
     #[tactic(auto, using(crate::proofs::Copying::whole_copied, crate::proofs::Copying::copied_failed))]
     pub fn cow<'a>(&mut self, text: &CowStr<'a>) -> CowStr<'a>
         ensures { CopiesField must text_kind (cow_cell text.now)
@@ -145,7 +163,7 @@ impl Copier {
         }
     }
 
-    /// A list.
+    /// Copies a list.
     #[tactic(auto, using(crate::proofs::Copying::whole_copied, crate::proofs::Copying::copied_failed))]
     pub fn list<X: Member>(&mut self, list: &Vec<X>) -> Vec<X>
         ensures { CopiesField must (list_kind X.kind) (list_cell X.cell_of list.now.items)
@@ -157,7 +175,7 @@ impl Copier {
         }
     }
 
-    /// A list under the key `values`.
+    /// Copies a list under the key `values`.
     #[tactic(auto, using(crate::proofs::Copying::whole_copied, crate::proofs::Copying::copied_failed))]
     pub fn values<X: Member>(&mut self, list: &Values<X>) -> Values<X>
         ensures { CopiesField must (values_kind X.kind) (list_cell X.cell_of list.now.values.items)
@@ -174,7 +192,11 @@ impl Copier {
         }
     }
 
-    /// A value for which no other stands in. It fails where memory runs out.
+    /// Copies a value of a type without a stand-in, with the codec `F`.
+    ///
+    /// # Errors
+    ///
+    /// `AllocError` if an allocation fails.
     #[tactic(auto, using(crate::proofs::Copying::whole_copied))]
     pub fn of_as<F: Codec<X>, X>(&mut self, value: &X) -> Result<X, AllocError>
         ensures { IfOk result (λ v.
@@ -183,7 +205,11 @@ impl Copier {
         F::remake(value, self.way)
     }
 
-    /// A value for which no other stands in. It fails where memory runs out.
+    /// Copies a value of a type without a stand-in.
+    ///
+    /// # Errors
+    ///
+    /// `AllocError` if an allocation fails.
     pub fn of<X: Member>(&mut self, value: &X) -> Result<X, AllocError>
         ensures { IfOk result (λ v.
             CopiesField must X.kind (X.cell_of value.now) (X.cell_of v) self.old self.new) }
@@ -191,7 +217,11 @@ impl Copier {
         self.of_as::<Own, X>(value)
     }
 
-    /// A map. It fails where memory runs out.
+    /// Copies a map.
+    ///
+    /// # Errors
+    ///
+    /// `AllocError` if an allocation fails.
     pub fn map<X: Member>(&mut self, map: &Map<String, X>) -> Result<Map<String, X>, AllocError>
         ensures { IfOk result (λ m.
             CopiesField must (map_kind X.kind) (map_cell X.cell_of map.now.entries)
@@ -200,7 +230,11 @@ impl Copier {
         self.of(map)
     }
 
-    /// Members that no row names. It fails where memory runs out.
+    /// Copies additional members.
+    ///
+    /// # Errors
+    ///
+    /// `AllocError` if an allocation fails.
     #[tactic(auto, using(crate::proofs::Copying::others_copied))]
     pub fn others(&mut self, others: &Map<String, Value>) -> Result<Map<String, Value>, AllocError>
         ensures { IfOk result (λ m.

@@ -1,4 +1,4 @@
-//! Rows whose values are drawn where they are absent.
+//! Rows whose values are drawn if absent, as ids.
 
 ghost use Rattle.sentry_tables.specs.Kind.{draw};
 ghost use Rattle.sentry_members.specs.Reading.{ReadsRow};
@@ -9,7 +9,12 @@ use sentry_json::{Node, Object};
 use sentry_members::{Drawn, TreeError};
 use std::alloc::Global;
 
-/// A row that is drawn where it is absent.
+/// Reads a member with the codec `F`; drawn from `ids` if absent.
+///
+/// # Errors
+///
+/// - `Misfit` if the member is there and shows no value of the type.
+/// - `Memory` if an allocation fails.
 #[tactic(auto, using(crate::proofs::RowLemmas::draw_absent, crate::proofs::RowLemmas::draw_read))]
 pub fn or_drawn_as<F: Drawn<T>, T, R: Rng, N: Node>(
     alloc: Global,

@@ -1,4 +1,4 @@
-//! The form of tables.
+//! Codecs of tables.
 
 ghost use Rattle.sentry_tables.specs.Fields.{table_of, fields_by, rows_of, cells_by};
 ghost use Rattle.sentry_tables.specs.Cell.{fields};
@@ -22,7 +22,7 @@ use sentry_writing::{KeptTable, Table};
 use serde_json::Value;
 use std::alloc::{AllocError, Global};
 
-/// The form of the values of a table that ignores members of other keys.
+/// Codec of a table that ignores additional members when read.
 pub struct AsTable;
 
 impl<T: CopyTable> Codec<T> for AsTable {
@@ -76,7 +76,7 @@ impl<T: ReadTableAt + CopyTable> ReadCodecAt<T> for AsTable {
     }
 }
 
-/// The form of the values of a table that keeps members of other keys.
+/// Codec of a table that keeps additional members.
 pub struct AsKept;
 
 impl<T: CopyKept> Codec<T> for AsKept {

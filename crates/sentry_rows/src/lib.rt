@@ -1,10 +1,10 @@
-//! Tables: types of the protocol that are read, written and copied row by row.
+//! Tables: protocol types that are read, written and copied row by row.
 //!
-//! A table tells its rows to a [`Sink`], which writes them or asks whether they are plain; reads
-//! them from a [`Reader`], which remembers the first failure; and copies them with a [`Copier`]. Its
-//! form, [`AsTable`] or [`AsKept`], makes of these what a member of another table needs. What a row may
-//! hold is of `sentry_members`; [`rows`], [`draw`] and [`timed`] read one row of a tree, those of
-//! [`timed`] at a moment, with ids at hand.
+//! A table writes its rows to a [`Sink`], or tests with one whether they are plain; reads them from
+//! a [`Reader`], which remembers the first failure; and copies them with a [`Copier`]. The codecs
+//! [`AsTable`] and [`AsKept`] combine the three for a member of another table. The types that a row
+//! may hold are in `sentry_members`. [`rows`], [`draw`] and [`timed`] read one row of a tree,
+//! [`timed`] with the caller's `now` and generator of ids.
 #![tactic(auto)]
 
 pub mod case_map;

@@ -1,4 +1,4 @@
-//! Readers of a table's rows.
+//! A reader of a table's rows.
 
 ghost use Rattle.std.specs.Prelude.{◌≡◌, None, IfOk, IfErr, is_some, false, map as map_list};
 ghost use Rattle.serde_json.specs.Find.{as_object};
@@ -21,19 +21,27 @@ use serde_json::{Map, Value};
 use std::alloc::Global;
 use std::borrow::CowStr;
 
-/// An object that is read row by row.
+/// A JSON object that is read row by row.
 ///
-/// Each call reads one row: the member at its key, by its rule. The first failure is remembered, and
-/// some value stands in for what could not be read.
+/// Each call reads the member at a key by the rule of its row. The first failure is remembered and
+/// returned by [`end`](Reader::end); a call that fails returns a stand-in value.
 #[derive(Drop)]
 pub struct Reader<'t, N> {
+    /// Allocator of the values.
     pub alloc: Global,
+    /// Members of the object.
     pub object: Object<'t, N>,
+    /// First failure of a row, if any.
     pub failed: Option<TreeError>,
 }
 
 impl<'t, N: Node> Reader<'t, N> {
-    /// A reader of the object that stands at a node, its members walked once; of another tree a `Misfit`.
+    /// Creates a reader of the object at a node, whose members are walked once.
+    ///
+    /// # Errors
+    ///
+    /// - `Misfit` if the node isn't an object.
+    /// - `Memory` if an allocation fails.
     #[tactic(auto, using(crate::proofs::RowLemmas::object_there, crate::proofs::RowLemmas::no_object))]
     pub fn new(alloc: Global, node: &'t N) -> Result<Reader<'t, N>, TreeError>
         ensures object { IfOk result (λ r. tree_of N.data_of r.object ≡ N.data_of node.now) }
@@ -51,7 +59,11 @@ impl<'t, N: Node> Reader<'t, N> {
         }
     }
 
-    /// The value of the rows, or what failed first.
+    /// Returns `value`, made of the rows that were read.
+    ///
+    /// # Errors
+    ///
+    /// Returns the first failure of a row, if any.
     pub fn end<X: Drop>(self, value: X) -> Result<X, TreeError>
         ensures { Ends self.entry value result }
     {
@@ -61,7 +73,8 @@ impl<'t, N: Node> Reader<'t, N> {
         }
     }
 
-    /// What was read, or where that failed the value that stands in.
+    /// Returns the value of `read`, or `stand_in` if `read` is an error; the first error is
+    /// remembered.
     pub fn keep<X: Drop>(&mut self, read: Result<X, TreeError>, stand_in: X) -> X
         ensures { Keeps read result self.old self.new }
     {
@@ -77,7 +90,7 @@ impl<'t, N: Node> Reader<'t, N> {
         }
     }
 
-    /// A row that has to be there.
+    /// Reads a required member with the codec `F`; `Misfit` if absent.
     #[tactic(auto, using(crate::proofs::Reading::field_kept))]
     pub fn required_as<F: ReadCodec<X>, X: Drop>(&mut self, key: &str, stand_in: X) -> X
         ensures { ReadsField N.data_of key.now must F.kind (F.cell_of result) self.old self.new }
@@ -86,14 +99,14 @@ impl<'t, N: Node> Reader<'t, N> {
         self.keep(read, stand_in)
     }
 
-    /// A row that has to be there.
+    /// Reads a required member; `Misfit` if absent.
     pub fn required<X: FromTree>(&mut self, key: &str, stand_in: X) -> X
         ensures { ReadsField N.data_of key.now must X.kind (X.cell_of result) self.old self.new }
     {
         self.required_as::<Own, X>(key, stand_in)
     }
 
-    /// A row that may be absent or null.
+    /// Reads an optional member with the codec `F`; `None` if absent or null.
     #[tactic(auto, using(crate::proofs::Reading::field_kept))]
     pub fn optional_as<F: ReadCodec<X>, X: Drop>(&mut self, key: &str) -> Option<X>
         ensures { ReadsField N.data_of key.now may F.kind
@@ -103,7 +116,7 @@ impl<'t, N: Node> Reader<'t, N> {
         self.keep(read, None)
     }
 
-    /// A row that may be absent or null.
+    /// Reads an optional member; `None` if absent or null.
     pub fn optional<X: FromTree>(&mut self, key: &str) -> Option<X>
         ensures { ReadsField N.data_of key.now may X.kind
             (option_cell X.cell_of result) self.old self.new }
@@ -111,7 +124,7 @@ impl<'t, N: Node> Reader<'t, N> {
         self.optional_as::<Own, X>(key)
     }
 
-    /// A row that may be absent or null, and is written as null.
+    /// Reads an optional member that is written as null when `None`; `None` if absent or null.
     #[tactic(auto, using(crate::proofs::Reading::field_or_null))]
     pub fn optional_or_null<X: FromTree>(&mut self, key: &str) -> Option<X>
         ensures { ReadsField N.data_of key.now may_null X.kind
@@ -120,7 +133,7 @@ impl<'t, N: Node> Reader<'t, N> {
         self.optional_as::<Own, X>(key)
     }
 
-    /// A row that may be absent, but not null.
+    /// Reads an optional member that rejects null, with the codec `F`; `None` if absent.
     #[tactic(auto, using(crate::proofs::Reading::field_kept))]
     pub fn optional_strict_as<F: ReadCodec<X>, X: Drop>(&mut self, key: &str) -> Option<X>
         ensures { ReadsField N.data_of key.now may_strict F.kind
@@ -130,7 +143,7 @@ impl<'t, N: Node> Reader<'t, N> {
         self.keep(read, None)
     }
 
-    /// A row with a default, which stands where nothing is given.
+    /// Reads a member; defaults to `default`.
     #[tactic(auto, using(crate::proofs::Reading::default_kept, crate::proofs::Reading::field_ready, crate::proofs::RowLemmas::default_absent))]
     pub fn or<X: FromTree>(&mut self, key: &str, default: X) -> X
         ensures { ReadsField N.data_of key.now (default_rule (X.cell_of default)) X.kind
@@ -143,7 +156,7 @@ impl<'t, N: Node> Reader<'t, N> {
         self.keep(read, default)
     }
 
-    /// A row with a default that is always written.
+    /// Reads a member that is always written; defaults to `default`.
     #[tactic(auto, using(crate::proofs::Reading::field_always))]
     pub fn written_or<X: FromTree>(&mut self, key: &str, default: X) -> X
         ensures { ReadsField N.data_of key.now (always (X.cell_of default)) X.kind
@@ -152,7 +165,7 @@ impl<'t, N: Node> Reader<'t, N> {
         self.or(key, default)
     }
 
-    /// A row with a default that is made, and stands where nothing is given.
+    /// Reads a member with the codec `F`; defaults to the default of `F`.
     #[tactic(auto, using(crate::proofs::Reading::field_kept))]
     pub fn made_as<F: MadeCodec<X>, X: Drop>(&mut self, key: &str, stand_in: X) -> X
         ensures { ReadsField N.data_of key.now (default_rule F.usual) F.kind
@@ -162,14 +175,14 @@ impl<'t, N: Node> Reader<'t, N> {
         self.keep(read, stand_in)
     }
 
-    /// A text that has to be there.
+    /// Reads a required string; `Misfit` if absent.
     pub fn text(&mut self, key: &str) -> String
         ensures { ReadsField N.data_of key.now must text_kind (text_cell result) self.old self.new }
     {
         self.required(key, String::new(self.alloc))
     }
 
-    /// A text with a default.
+    /// Reads a string; defaults to `default`.
     #[tactic(auto, using(crate::proofs::Reading::field_kept))]
     pub fn text_or(&mut self, key: &str, default: &str) -> String
         ensures { ReadsField N.data_of key.now (default_rule (text default.now)) text_kind
@@ -179,14 +192,14 @@ impl<'t, N: Node> Reader<'t, N> {
         self.keep(read, String::new(self.alloc))
     }
 
-    /// A text that has to be there, and may be borrowed.
+    /// Reads a required string as a [`CowStr`]; `Misfit` if absent.
     pub fn cow<'a>(&mut self, key: &str) -> CowStr<'a>
         ensures { ReadsField N.data_of key.now must text_kind (cow_cell result) self.old self.new }
     {
         self.required(key, CowStr::Borrowed(""))
     }
 
-    /// A text with a default, which may be borrowed.
+    /// Reads a string as a [`CowStr`]; defaults to `default`, which is borrowed.
     pub fn cow_or<'a>(&mut self, key: &str, default: &'a str) -> CowStr<'a>
         ensures { ReadsField N.data_of key.now (default_rule (text default.now)) text_kind
             (cow_cell result) self.old self.new }
@@ -194,7 +207,9 @@ impl<'t, N: Node> Reader<'t, N> {
         self.or(key, CowStr::Borrowed(default))
     }
 
-    /// A row that is drawn where it is absent. Where it fails an id is drawn, to stand in.
+    /// Reads a member with the codec `F`; drawn from `ids` if absent.
+    ///
+    /// The stand-in of a failure is drawn from `ids` too.
     #[tactic(auto, using(crate::proofs::Reading::field_ready, crate::proofs::Reading::field_kept))]
     pub fn drawn_as<F: Drawn<X>, X: Drop, R: Rng>(&mut self, key: &str, ids: &mut R) -> X
         ensures { ReadsField N.data_of key.now (draw F.IsDrawn) F.kind
@@ -209,7 +224,7 @@ impl<'t, N: Node> Reader<'t, N> {
         }
     }
 
-    /// A list that is empty where it is absent.
+    /// Reads a list; defaults to empty.
     pub fn list<X: FromTree>(&mut self, key: &str) -> Vec<X>
         ensures { ReadsField N.data_of key.now (default_rule empty_list) (list_kind X.kind)
             (list_cell X.cell_of result.items) self.old self.new }
@@ -217,7 +232,7 @@ impl<'t, N: Node> Reader<'t, N> {
         self.or(key, Vec::new(self.alloc))
     }
 
-    /// A list that is empty where it is absent, and is always written.
+    /// Reads a list that is always written; defaults to empty.
     pub fn written_list<X: FromTree>(&mut self, key: &str) -> Vec<X>
         ensures { ReadsField N.data_of key.now (always empty_list) (list_kind X.kind)
             (list_cell X.cell_of result.items) self.old self.new }
@@ -225,7 +240,7 @@ impl<'t, N: Node> Reader<'t, N> {
         self.written_or(key, Vec::new(self.alloc))
     }
 
-    /// A map that is empty where it is absent.
+    /// Reads a map; defaults to empty.
     pub fn map<X: FromTree>(&mut self, key: &str) -> Map<String, X>
         ensures { ReadsField N.data_of key.now (default_rule empty_map) (map_kind X.kind)
             (map_cell X.cell_of result.entries) self.old self.new }
@@ -233,7 +248,7 @@ impl<'t, N: Node> Reader<'t, N> {
         self.or(key, Map::new(self.alloc))
     }
 
-    /// A list under the key `values`, or a bare one, that is empty where it is absent.
+    /// Reads a list under the key `values`, or a bare array; defaults to empty.
     pub fn values<X: FromTree>(&mut self, key: &str) -> Values<X>
         ensures { ReadsField N.data_of key.now (default_rule empty_list) (values_kind X.kind)
             (list_cell X.cell_of result.values.items) self.old self.new }
@@ -244,9 +259,10 @@ impl<'t, N: Node> Reader<'t, N> {
         self.or(key, none)
     }
 
-    /// The members of other keys than the names.
+    /// Reads the additional members: those whose keys are none of `names`.
     ///
-    /// The names are the keys that they may not have: those of the table's rows, and in a type with a tag `type`.
+    /// `names` are the keys that the members may not have: those of the table's rows, and `type` in
+    /// a type with a tag.
     pub fn others(&mut self, names: &[&str]) -> Map<String, Value>
         ensures { ReadsOthers N.data_of (map_list (λ name.
             name.now) names.now) (members_view result.entries) self.old self.new }

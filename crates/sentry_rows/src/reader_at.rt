@@ -1,4 +1,5 @@
-//! Readers of a table's rows at a moment, with ids at hand.
+//! Calls of `Reader` that read at a moment: the caller's `now` fills absent timestamps, and `ids`
+//! absent ids.
 
 ghost use Rattle.sentry_tables.specs.Kind.{at_once, must, default as default_rule, list as list_kind, values as values_kind};
 ghost use Rattle.sentry_members.specs.Cells.{list_cell, empty_list};
@@ -14,7 +15,7 @@ use sentry_moments::Moment;
 use sentry_writing::values::{AsValues, Values};
 
 impl<'t, N: Node> Reader<'t, N> {
-    /// A moment that is `now` where it is absent.
+    /// Reads a timestamp with the codec `F`; defaults to `now`.
     #[tactic(auto, using(crate::proofs::Reading::field_kept_at))]
     pub fn at_once_as<F: ReadCodec<Moment>>(&mut self, key: &str, now: Moment) -> Moment
         ensures { ReadsFieldAt N.data_of (F.cell_of now) key.now at_once F.kind
@@ -24,7 +25,7 @@ impl<'t, N: Node> Reader<'t, N> {
         self.keep(read, now)
     }
 
-    /// A row at a moment with a default, which stands where nothing is given.
+    /// Reads a member with the codec `F` at the moment `now`; defaults to `default`.
     #[tactic(auto, using(crate::proofs::Reading::default_kept_at, crate::proofs::Reading::field_ready_at, crate::proofs::RowLemmas::default_absent_at))]
     pub fn or_as_at<F: ReadCodecAt<X>, X: Drop, R: Rng>(
         &mut self,
@@ -43,7 +44,7 @@ impl<'t, N: Node> Reader<'t, N> {
         self.keep(read, default)
     }
 
-    /// A list at a moment that has to be there.
+    /// Reads a required list at the moment `now`; `Misfit` if absent.
     #[tactic(auto, using(crate::proofs::RowLemmas::must_missing_at))]
     pub fn required_list_at<X: FromTreeAt, R: Rng>(
         &mut self,
@@ -61,7 +62,8 @@ impl<'t, N: Node> Reader<'t, N> {
         self.keep(read, Vec::new(self.alloc))
     }
 
-    /// A list at a moment under the key `values`, or a bare one, that is empty where it is absent.
+    /// Reads a list under the key `values`, or a bare array, at the moment `now`; defaults to
+    /// empty.
     pub fn values_at<X: FromTreeAt, R: Rng>(
         &mut self,
         key: &str,

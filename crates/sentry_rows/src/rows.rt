@@ -1,4 +1,4 @@
-//! One row of a table, read: the member at a key, by the row's rule.
+//! Reads one row of a table: the member at a key, by the row's rule.
 
 ghost use Rattle.std.specs.Prelude.{◌≡◌, IfOk, IfErr, map as map_list};
 ghost use Rattle.serde_json.specs.View.{members_view};
@@ -17,7 +17,7 @@ use sentry_members::{FromTree, ReadCodec, TreeError};
 use serde_json::{Map, Value};
 use std::alloc::{AllocError, Global};
 
-/// A row that has to be there; `Misfit` where it isn't.
+// Reads a required member; `Misfit` if absent.
 #[tactic(auto, using(crate::proofs::RowLemmas::must_missing, crate::proofs::RowLemmas::must_read))]
 pub(crate) fn required_as<F: ReadCodec<T>, T, N: Node>(
     alloc: Global,
@@ -32,7 +32,7 @@ pub(crate) fn required_as<F: ReadCodec<T>, T, N: Node>(
     }
 }
 
-/// A row that may be absent or null.
+// Reads an optional member; `None` if absent or null.
 #[tactic(auto, using(crate::proofs::RowLemmas::may_absent, crate::proofs::RowLemmas::may_is_null, crate::proofs::RowLemmas::may_shown, crate::proofs::RowLemmas::may_fails))]
 pub(crate) fn optional_as<F: ReadCodec<T>, T, N: Node>(
     alloc: Global,
@@ -49,7 +49,7 @@ pub(crate) fn optional_as<F: ReadCodec<T>, T, N: Node>(
     }
 }
 
-/// A row that may be absent, but not null.
+// Reads an optional member that rejects null; `None` if absent.
 #[tactic(auto, using(crate::proofs::RowLemmas::may_strict_absent, crate::proofs::RowLemmas::may_strict_shown, crate::proofs::RowLemmas::may_strict_fails))]
 pub(crate) fn optional_strict_as<F: ReadCodec<T>, T, N: Node>(
     alloc: Global,
@@ -65,7 +65,7 @@ pub(crate) fn optional_strict_as<F: ReadCodec<T>, T, N: Node>(
     Ok(Some(F::from_node(alloc, member)?))
 }
 
-/// A text with a default.
+// Reads a string; `default` if absent.
 #[tactic(auto, using(crate::proofs::RowLemmas::default_absent, crate::proofs::RowLemmas::default_read))]
 pub(crate) fn text_or<N: Node>(
     alloc: Global,
@@ -82,14 +82,18 @@ pub(crate) fn text_or<N: Node>(
     }
 }
 
-/// A form whose usual value is made, which takes memory.
+/// A codec whose default value takes an allocation.
 pub trait MadeCodec<T>: ReadCodec<T> + DefaultedCodec<T> {
-    /// The usual value. It fails where memory is refused.
+    /// Returns the default value.
+    ///
+    /// # Errors
+    ///
+    /// `AllocError` if an allocation fails.
     fn make(alloc: Global) -> Result<T, AllocError>
         ensures { IfOk result (λ v. Self.cell_of v ≡ Self.usual) };
 }
 
-/// A row with a default that is made, and stands where nothing is given.
+// Reads a member; the default of the codec `F` if absent.
 #[tactic(auto, using(crate::proofs::RowLemmas::default_absent, crate::proofs::RowLemmas::default_read))]
 pub(crate) fn made_as<F: MadeCodec<T>, T, N: Node>(
     alloc: Global,
@@ -105,7 +109,7 @@ pub(crate) fn made_as<F: MadeCodec<T>, T, N: Node>(
     }
 }
 
-/// The members of other keys than the names.
+// Reads the members whose keys are none of `names`.
 #[tactic(auto, using(sentry_writing::proofs::Others::members_left))]
 pub(crate) fn others<N: Node>(
     alloc: Global,

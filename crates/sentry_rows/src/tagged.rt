@@ -1,11 +1,11 @@
-//! Values by the word at the key `type`.
+//! The tag of an object: the word at the key `type`.
 
 ghost use Rattle.std.specs.Prelude.{◌≡◌, None, option_map};
 ghost use Rattle.sentry_tables.specs.Shows.{word_of};
 
 use sentry_json::Node;
 
-/// The word of a tree, if one is there.
+/// Returns the tag of an object; `None` if the node has no string at the key `type`.
 #[tactic(auto, using(crate::proofs::TagsShown::word_there, crate::proofs::TagsShown::word_absent))]
 pub fn tag<N: Node>(node: &N) -> Option<&str>
     ensures { option_map (λ word. word.now) result ≡ word_of None (N.data_of node.now) }

@@ -1,4 +1,4 @@
-//! What is made of a case: its tree, its text, or a test.
+//! Sinks of a case: its JSON tree, its JSON text, or a test whether it is plain.
 
 ghost use Rattle.sentry_rows.specs.Taken.{IsCaseTree, WritesCase, TestsCase};
 ghost use Rattle.sentry_rows.specs.NoRows.{no_lines, no_lines_in_order};
@@ -14,7 +14,7 @@ use sentry_writing::{KeptTable, Sink, Table};
 use serde_json::{Map, Value};
 use std::alloc::{AllocError, Global};
 
-/// A table without rows.
+// The rows of a case that has none: all its members are additional ones.
 #[derive(Drop)]
 pub(crate) struct NoRows;
 
@@ -26,7 +26,7 @@ impl Table for NoRows {
     ghost ordered = { no_lines_in_order };
 }
 
-/// The written tree of a case.
+// Makes the JSON tree of a case.
 #[derive(Drop)]
 pub(crate) struct TreeCase {
     pub(crate) alloc: Global,
@@ -51,7 +51,7 @@ impl CaseSink for TreeCase {
     }
 }
 
-/// What writes the text of a case.
+// Writes a case as JSON text.
 #[derive(Drop)]
 pub(crate) struct TextCase<'w> {
     pub(crate) out: &'w mut Writer,
@@ -77,7 +77,7 @@ impl<'w> CaseSink for TextCase<'w> {
     }
 }
 
-/// A test of a case.
+// Tests whether a case is plain.
 #[derive(Drop)]
 pub(crate) struct PlainCase {
     pub(crate) plain: bool,

@@ -1,6 +1,5 @@
-//! Types that are read at a moment, with ids at hand.
-//!
-//! What is absent may stand for the moment that is handed in, or for an id that is drawn.
+//! Types that are read at a moment: the caller's `now` fills absent timestamps, and ids drawn from
+//! `ids` fill absent ids.
 
 ghost use Rattle.serde_json.specs.View.{view};
 ghost use Rattle.sentry_tables.specs.Kind.{at_once, list as list_kind, values as values_kind};
@@ -17,11 +16,14 @@ use sentry_writing::values::{AsValues, Values};
 use serde_json::Value;
 use std::alloc::Global;
 
-/// A type whose values are shown by a tree at a moment, with ids at hand.
+/// A type that is read from a JSON tree at a moment, with a generator of ids.
 pub trait FromTreeAt: Member {
-    /// The value that a tree shows at the moment `now`; absent ids are drawn from `ids`.
+    /// Reads a value from a node of a JSON tree; `now` fills absent timestamps, `ids` absent ids.
     ///
-    /// Fails with `Misfit` where the tree shows none, and with `Memory` where memory is refused.
+    /// # Errors
+    ///
+    /// - `Misfit` if the tree shows no value of the type.
+    /// - `Memory` if an allocation fails.
     fn from_node<N: Node, R: Rng>(
         alloc: Global,
         node: &N,
@@ -30,9 +32,12 @@ pub trait FromTreeAt: Member {
     ) -> Result<Self, TreeError>
         ensures { ReadsAt (moment_cell now) Self.kind Self.cell_of (N.data_of node.now) result };
 
-    /// The value that a tree shows at the moment `now`; absent ids are drawn from `ids`.
+    /// Reads a value from a JSON tree; `now` fills absent timestamps, `ids` absent ids.
     ///
-    /// Fails with `Misfit` where the tree shows none, and with `Memory` where memory is refused.
+    /// # Errors
+    ///
+    /// - `Misfit` if the tree shows no value of the type.
+    /// - `Memory` if an allocation fails.
     final fn from_tree<R: Rng>(
         alloc: Global,
         tree: &Value,
@@ -45,11 +50,14 @@ pub trait FromTreeAt: Member {
     }
 }
 
-/// A form whose values are shown by a tree at a moment, with ids at hand.
+/// A codec that reads at a moment, with a generator of ids.
 pub trait ReadCodecAt<T>: Codec<T> {
-    /// The value that a tree shows at the moment `now`; absent ids are drawn from `ids`.
+    /// Reads a value from a node of a JSON tree; `now` fills absent timestamps, `ids` absent ids.
     ///
-    /// Fails with `Misfit` where the tree shows none, and with `Memory` where memory is refused.
+    /// # Errors
+    ///
+    /// - `Misfit` if the tree shows no value of the type.
+    /// - `Memory` if an allocation fails.
     fn from_node<N: Node, R: Rng>(
         alloc: Global,
         node: &N,
@@ -84,9 +92,12 @@ where
     }
 }
 
-/// The list that a tree shows at the moment `now`; absent ids are drawn from `ids`.
+/// Reads a list from an array; `now` fills absent timestamps, `ids` absent ids.
 ///
-/// Fails with `Misfit` where the tree shows none, and with `Memory` where memory is refused.
+/// # Errors
+///
+/// - `Misfit` if the node isn't an array, or an item shows no value of the type.
+/// - `Memory` if an allocation fails.
 pub fn read_list_at<T: FromTreeAt, R: Rng, N: Node>(
     alloc: Global,
     node: &N,
@@ -107,7 +118,12 @@ pub fn read_list_at<T: FromTreeAt, R: Rng, N: Node>(
     Ok(list)
 }
 
-/// A moment that is `now` where it is absent.
+/// Reads a timestamp with the codec `F`; defaults to `now`.
+///
+/// # Errors
+///
+/// - `Misfit` if the member is there and shows no timestamp.
+/// - `Memory` if an allocation fails.
 #[tactic(auto, using(crate::proofs::RowLemmas::at_once_absent_at, crate::proofs::RowLemmas::at_once_read_now))]
 pub fn now_or_as<F: ReadCodec<Moment>, N: Node>(
     alloc: Global,
@@ -124,9 +140,13 @@ pub fn now_or_as<F: ReadCodec<Moment>, N: Node>(
     }
 }
 
-/// The list that a tree shows at a moment as a bare array, or as an object's array at the key `values`.
+/// Reads a list from a bare array, or from an object with the array at the key `values`; `now`
+/// fills absent timestamps, `ids` absent ids.
 ///
-/// Fails with `Misfit` where the tree shows none, and with `Memory` where memory is refused.
+/// # Errors
+///
+/// - `Misfit` if the node is neither, or an item shows no value of the type.
+/// - `Memory` if an allocation fails.
 #[tactic(auto, using(sentry_members::proofs::ValuesShown::bare_read_at, sentry_members::proofs::ValuesShown::no_values_at))]
 pub fn read_values_at<T: FromTreeAt, R: Rng, N: Node>(
     alloc: Global,

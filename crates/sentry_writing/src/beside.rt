@@ -1,4 +1,4 @@
-//! Members that are written among the rows of a table: a tag, or those that no row names.
+//! Members that are merged among the rows of a table: a tag or additional members.
 
 ghost use Rattle.std.specs.Prelude.{◌≡◌};
 ghost use Rattle.serde_json.specs.Data.{Members, no_members, member, null, string};
@@ -16,35 +16,37 @@ use serde_json::{Map, Value};
 use std::cmp::Ordering;
 use std::collections::btree_map::Iter;
 
-/// Members that go among the rows, in the order of their keys.
+/// Members that are merged among rows, in key order.
 pub trait Others: Sized + Drop {
-    // those that are left
+    // the members not given to a sink yet
     ghost left: { Self → Members };
 
-    /// Hands to a sink what goes before the key.
+    /// Gives `sink` the members whose keys precede `key`.
+    ///
+    /// A member at `key` itself is dropped, since a row replaces it.
     fn hand_before<S: Sink>(&mut self, key: &str, sink: &mut S)
         ensures { ClearsWay (S.Adds sink.old sink.new) key.now (left self.old) (left self.new) };
 
-    /// Hands to a sink what is left.
+    /// Gives `sink` the remaining members.
     fn hand_rest<S: Sink>(self, sink: &mut S)
         ensures { S.Adds sink.old sink.new (left self) };
 }
 
-/// The word of a case, which is written at the key `type`.
+/// The tag of a case: a word that is written at the key `type`, or none.
 #[derive(Drop)]
 pub struct Tag<'t> {
     word: Option<&'t str>,
 }
 
 impl<'t> Tag<'t> {
-    /// A tag that is left to be written.
+    /// Creates a tag with the word `word`.
     pub fn new(word: &'t str) -> Tag<'t>
         ensures { tag_left result.word ≡ member tag (string word.now) no_members }
     {
         Tag { word: Some(word) }
     }
 
-    /// No tag.
+    /// Creates an absent tag, which writes no member.
     pub fn none() -> Tag<'t>
         ensures { tag_left result.word ≡ no_members }
     {
@@ -77,7 +79,7 @@ impl<'t> Others for Tag<'t> {
     }
 }
 
-/// No others.
+/// No additional members.
 #[derive(Drop)]
 pub struct NoOthers;
 
@@ -89,7 +91,7 @@ impl Others for NoOthers {
     fn hand_rest<S: Sink>(self, _sink: &mut S) {}
 }
 
-/// The members that no row names.
+/// The additional members of a value, borrowed from a map.
 #[derive(Drop)]
 pub struct Kept<'o> {
     next: Option<(&'o String, &'o Value)>,
@@ -97,7 +99,7 @@ pub struct Kept<'o> {
 }
 
 impl<'o> Kept<'o> {
-    /// All members of a map.
+    /// Borrows all members of `others`.
     pub fn new(others: &'o Map<String, Value>) -> Kept<'o>
         ensures { others_left result.next result.rest ≡ members_view others.now.entries }
     {
@@ -137,7 +139,7 @@ impl<'o> Others for Kept<'o> {
     }
 }
 
-/// A sink that hands on other members among those that it is given.
+/// A sink that merges other members among those it is given, and passes all to a second sink.
 #[derive(Drop)]
 pub struct Beside<'s, L, S> {
     sink: &'s mut S,
@@ -185,7 +187,9 @@ impl<'s, L: Others, S: Sink> Sink for Beside<'s, L, S> {
     ) };
 }
 
-/// Gives the rows of a table to a sink, with others among them.
+/// Gives the rows of a value to a sink, with other members merged in key order.
+///
+/// A written row replaces a member with its key.
 pub fn rows_beside<T: Table, L: Others, S: Sink>(value: &T, others: L, sink: &mut S)
     ensures { S.Adds sink.old sink.new
         (put_all (rows_given (rows_of T.lines) (cells_by T.lines value.now)) (L.left others)) }
@@ -196,7 +200,9 @@ pub fn rows_beside<T: Table, L: Others, S: Sink>(value: &T, others: L, sink: &mu
     others.hand_rest(sink)
 }
 
-/// Gives the rows of a table to a sink, with a tag and others among them.
+/// Gives the rows of a value to a sink, with a tag and other members merged in key order.
+///
+/// A written row replaces a tag or member with its key; the tag replaces a member at `type`.
 pub fn rows_among<T: Table, L: Others, S: Sink>(value: &T, tag: Tag<'_>, others: L, sink: &mut S)
     ensures { S.Adds sink.old sink.new (put_all (put_all
         (rows_given (rows_of T.lines) (cells_by T.lines value.now)) (tag_left tag.entry.word)) (L.left others)) }

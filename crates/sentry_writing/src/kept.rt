@@ -1,4 +1,4 @@
-//! Members that no row names.
+//! Additional members of an object, whose keys no row has.
 
 ghost use Rattle.std.specs.Prelude.{◌≡◌, ◌↔◌, IfOk, IsTrue, false, map as map_list};
 ghost use Rattle.serde_json.specs.Data.{object};
@@ -14,7 +14,7 @@ use sentry_members::tree::has_float;
 use serde_json::{Map, Value};
 use std::alloc::AllocError;
 
-/// Whether the key is one of the names.
+/// Returns whether `key` is one of `names`.
 #[tactic(auto, using(crate::proofs::Others::is_key))]
 pub fn is_named(names: &[&str], key: &str) -> bool
     ensures { result ≡ has_key key.now (map_list (λ name. name.now) names.now) }
@@ -22,9 +22,11 @@ pub fn is_named(names: &[&str], key: &str) -> bool
     is_among(names, key)
 }
 
-/// Whether members may stand beside rows: none has one of the names as its key, and no number in them is held as a float.
+/// Returns whether additional members are plain: no key is one of `names`, and no number in the
+/// members is held as a float.
 ///
-/// The names are the keys that the members may not have: those of the table's rows, and in a type with a tag `type`.
+/// `names` are the keys that the members may not have: those of the table's rows, and `type` in a
+/// type with a tag.
 pub fn others_are_plain(others: &Map<String, Value>, names: &[&str]) -> bool
     ensures plain { IsTrue result
         ↔ (IsClear (map_list (λ name. name.now) names.now) (members_view others.now.entries)
@@ -43,7 +45,7 @@ pub fn others_are_plain(others: &Map<String, Value>, names: &[&str]) -> bool
     true
 }
 
-/// A copy of members that no row names. It fails where memory runs out.
+/// Clones additional members. `AllocError` if an allocation fails.
 pub fn copy_others(others: &Map<String, Value>) -> Result<Map<String, Value>, AllocError>
     ensures { IfOk result (λ m. members_view m.entries ≡ members_view others.now.entries) }
 {

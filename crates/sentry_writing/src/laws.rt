@@ -1,4 +1,4 @@
-//! What `==` says of lists under the key `values`.
+//! The law of `==` on lists under the key `values`.
 
 ghost use Rattle.std.specs.Prelude.{◌≡◌, ◌↔◌, true};
 ghost use Rattle.std.specs.Cmp.Lexicographic.{pointwise};
@@ -8,8 +8,10 @@ ghost use Rattle.sentry_writing.specs.declared.values.Values.{Values as Lists};
 use crate::values::Values;
 use sentry_members::Member;
 
-/// Two lists are equal exactly where they have as many values, each equal to the one in its place; and
-/// so exactly where their cells are the same, if that is what `==` says of the values.
+/// States when two lists are equal: exactly if they have the same length and each value equals the
+/// one at the same index.
+///
+/// If `==` on the values says exactly whether two cells are the same, so does `==` on the lists.
 #[tactic(auto, using(sentry_members::proofs::Equal::lists_decide))]
 pub fn equal_values<T: Member + PartialEq>()
     ensures by_values { (a b : Lists T) →

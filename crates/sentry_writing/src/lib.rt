@@ -1,8 +1,8 @@
-//! Tables that are written row by row.
+//! Tables: types whose values are written row by row as the members of a JSON object.
 //!
-//! A [`Table`] tells its rows once, to a [`Sink`]: a tree ([`tree`]), a text ([`text`]), with a tag or
-//! members that no row names among them ([`beside`]), or a test whether they are plain ([`plain`]).
-//! [`Values`] is a list under the key `values`.
+//! A [`Table`] gives its rows to a [`Sink`]: a JSON tree ([`tree`]), JSON text ([`text`]), either
+//! with a tag and additional members merged in ([`beside`]), or a test whether the rows are plain
+//! ([`plain`]). [`Values`] is a list that is written under the key `values`.
 #![tactic(auto)]
 
 pub mod beside;

@@ -1,4 +1,4 @@
-//! Whether the rows of a value are plain.
+//! A sink that tests whether the rows of a value are plain.
 
 ghost use Rattle.std.specs.Prelude.{◌↔◌, IsTrue};
 ghost use Rattle.sentry_tables.specs.Fields.{rows_of, cells_by};
@@ -8,7 +8,7 @@ use crate::sink::Sink;
 use crate::table::Table;
 use sentry_members::Codec;
 
-/// A sink that tests what it is given.
+// A sink that tests each value, also one that its row omits, and writes nothing.
 #[derive(Drop)]
 struct PlainTest {
     plain: bool,
@@ -43,7 +43,8 @@ impl Sink for PlainTest {
     ghost joined = { λ a b c ms ns x y. tt };
 }
 
-/// Whether each row of a value is plain.
+/// Returns whether each row of a value is plain: no number in it is held as a float, and no
+/// additional member in it has the key of a row.
 pub fn rows_are_plain<T: Table>(value: &T) -> bool
     ensures plain { IsTrue result ↔
         RowsMeet plain_demand (rows_of T.lines) (cells_by T.lines value.now) }

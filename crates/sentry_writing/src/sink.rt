@@ -1,4 +1,4 @@
-//! Where the members of one object go, key by key.
+//! Sinks: receivers of the members of one object, key by key.
 
 ghost use Rattle.std.specs.Prelude.{IsUtf8, ⊤};
 ghost use Rattle.sentry_tables.specs.Meets.{IsPlain, IsStored};
@@ -17,42 +17,45 @@ use sentry_members::{Codec, Drawn, Member, Own};
 use serde_json::Map;
 use std::convert::AsStr;
 
-/// What takes the members of one object. One that fails remembers it, and takes no more.
+/// A receiver of the members of one object, which are given in key order.
+///
+/// A sink that fails remembers the failure and takes no further members.
 pub trait Sink {
-    // from one state to a later one these members were taken
+    // from the first state to the second, these members were taken
     ghost Adds: { Self → Self → Members → Type 0 };
 
-    // from one state to a later one a value was tested that is plain where the first fact holds, and stored where the second does
+    // from the first state to the second, a value was tested that is plain where the first
+    // proposition holds, and stored where the second does
     ghost Tests: { Self → Self → Type 0 → Type 0 → Type 0 };
 
-    /// A member that holds a value.
+    /// Adds a member, whose value is written with the codec `F`.
     fn member<F: Codec<T>, T>(&mut self, key: &str, value: &T)
         ensures { Took Adds Tests (member key.now (written F.kind (F.cell_of value.now)) no_members)
             (IsPlain F.kind (F.cell_of value.now)) (IsStored F.kind (F.cell_of value.now)) self.old self.new };
 
-    /// A member that is null.
+    /// Adds a member that is null.
     fn null(&mut self, key: &str)
         ensures { Took Adds Tests (member key.now null no_members) ⊤ ⊤ self.old self.new };
 
-    /// A member that is a text.
+    /// Adds a member that is a string.
     fn word(&mut self, key: &str, text: &str)
         ensures { Took Adds Tests (member key.now (string text.now) no_members) ⊤
             (IsUtf8 text.now) self.old self.new };
 
-    /// A value that no member holds, since its row leaves it out.
+    /// Takes a value that its row omits: no member is added, but the value is tested.
     fn left_out<F: Codec<T>, T>(&mut self, value: &T)
         ensures { Took Adds Tests no_members
             (IsPlain F.kind (F.cell_of value.now)) (IsStored F.kind (F.cell_of value.now)) self.old self.new };
 
-    /// A text that no member holds, since its row leaves it out.
+    /// Takes a string that its row omits: no member is added.
     fn left_out_text(&mut self, text: &str)
         ensures { Took Adds Tests no_members ⊤ (IsUtf8 text.now) self.old self.new };
 
-    /// A row without a value.
+    /// Takes a row without a value: no member is added.
     fn absent(&mut self)
         ensures { Took Adds Tests no_members ⊤ ⊤ self.old self.new };
 
-    /// A row that has to be there.
+    /// Adds a required member, with the codec `F`.
     #[tactic(auto, unfolding(crate::specs::Given::row_given, crate::specs::Given::GivesRow))]
     final fn required_as<F: Codec<T>, T>(&mut self, key: &str, value: &T)
         ensures { GivesRow Adds Tests key.now must F.kind (F.cell_of value.now) self.old self.new }
@@ -60,14 +63,14 @@ pub trait Sink {
         self.member::<F, T>(key, value)
     }
 
-    /// A row that has to be there.
+    /// Adds a required member.
     final fn required<T: Member>(&mut self, key: &str, value: &T)
         ensures { GivesRow Adds Tests key.now must T.kind (T.cell_of value.now) self.old self.new }
     {
         self.required_as::<Own, T>(key, value)
     }
 
-    /// A row that is left out where there is no value.
+    /// Adds an optional member that is omitted when `None`, with the codec `F`.
     #[tactic(auto, unfolding(crate::specs::Given::row_given, crate::specs::Given::GivesRow))]
     final fn optional_as<F: Codec<T>, T>(&mut self, key: &str, value: &Option<T>)
         ensures { GivesRow Adds Tests key.now may F.kind
@@ -79,7 +82,7 @@ pub trait Sink {
         }
     }
 
-    /// A row that is left out where there is no value.
+    /// Adds an optional member that is omitted when `None`.
     final fn optional<T: Member>(&mut self, key: &str, value: &Option<T>)
         ensures { GivesRow Adds Tests key.now may T.kind
             (option_cell T.cell_of value.now) self.old self.new }
@@ -87,7 +90,7 @@ pub trait Sink {
         self.optional_as::<Own, T>(key, value)
     }
 
-    /// A row that is null where there is no value.
+    /// Adds an optional member that is written as null when `None`.
     #[tactic(auto, unfolding(crate::specs::Given::row_given, crate::specs::Given::GivesRow))]
     final fn optional_or_null<T: Member>(&mut self, key: &str, value: &Option<T>)
         ensures { GivesRow Adds Tests key.now may_null T.kind
@@ -99,7 +102,8 @@ pub trait Sink {
         }
     }
 
-    /// A row that is left out where there is no value, and may not be null.
+    /// Adds an optional member that is omitted when `None` and rejects null when read, with the
+    /// codec `F`.
     #[tactic(auto, unfolding(crate::specs::Given::row_given, crate::specs::Given::GivesRow))]
     final fn optional_strict_as<F: Codec<T>, T>(&mut self, key: &str, value: &Option<T>)
         ensures { GivesRow Adds Tests key.now may_strict F.kind
@@ -111,7 +115,7 @@ pub trait Sink {
         }
     }
 
-    /// A row with a default that is written whatever it holds.
+    /// Adds a member that has a default when read and is always written.
     #[tactic(auto, unfolding(crate::specs::Given::row_given, crate::specs::Given::GivesRow))]
     final fn always<T: Member>(&mut self, key: &str, value: &T)
         ensures { (e : Cell) →
@@ -120,7 +124,8 @@ pub trait Sink {
         self.member::<Own, T>(key, value)
     }
 
-    /// A row whose default is the moment of reading, written whatever it holds.
+    /// Adds a timestamp that defaults to the moment of reading and is always written, with the
+    /// codec `F`.
     #[tactic(auto, unfolding(crate::specs::Given::row_given, crate::specs::Given::GivesRow))]
     final fn at_once_as<F: Codec<T>, T>(&mut self, key: &str, value: &T)
         ensures { GivesRow Adds Tests key.now at_once F.kind
@@ -129,7 +134,7 @@ pub trait Sink {
         self.member::<F, T>(key, value)
     }
 
-    /// A row whose default is drawn, written whatever it holds.
+    /// Adds a member that is drawn if absent when read, and is always written, with the codec `F`.
     #[tactic(auto, unfolding(crate::specs::Given::row_given, crate::specs::Given::GivesRow))]
     final fn drawn_as<F: Drawn<T>, T>(&mut self, key: &str, value: &T)
         ensures { GivesRow Adds Tests key.now (draw F.IsDrawn) F.kind
@@ -138,7 +143,7 @@ pub trait Sink {
         self.member::<F, T>(key, value)
     }
 
-    /// A list that is left out where it is empty.
+    /// Adds a list that is omitted when empty.
     #[tactic(auto, unfolding(crate::specs::Given::row_given, crate::specs::Given::GivesRow))]
     final fn list<T: Member>(&mut self, key: &str, list: &Vec<T>)
         ensures { GivesRow Adds Tests key.now (default empty_list) (list_kind T.kind)
@@ -151,7 +156,7 @@ pub trait Sink {
         }
     }
 
-    /// A list with an empty default that is written whatever it holds.
+    /// Adds a list that defaults to empty when read and is always written.
     #[tactic(auto, unfolding(crate::specs::Given::row_given, crate::specs::Given::GivesRow))]
     final fn written_list<T: Member>(&mut self, key: &str, list: &Vec<T>)
         ensures { GivesRow Adds Tests key.now (always empty_list) (list_kind T.kind)
@@ -160,7 +165,7 @@ pub trait Sink {
         self.member::<Own, Vec<T>>(key, list)
     }
 
-    /// A map that is left out where it is empty.
+    /// Adds a map that is omitted when empty.
     #[tactic(auto, unfolding(crate::specs::Given::row_given, crate::specs::Given::GivesRow))]
     final fn map<T: Member>(&mut self, key: &str, map: &Map<String, T>)
         ensures { GivesRow Adds Tests key.now (default empty_map) (map_kind T.kind)
@@ -173,7 +178,7 @@ pub trait Sink {
         }
     }
 
-    /// A list under the key `values` that is left out where it is empty.
+    /// Adds a list under the key `values`, omitted when empty.
     #[tactic(auto, unfolding(crate::specs::Given::row_given, crate::specs::Given::GivesRow))]
     final fn values<T: Member>(&mut self, key: &str, list: &Values<T>)
         ensures { GivesRow Adds Tests key.now (default empty_list) (values_kind T.kind)
@@ -186,7 +191,7 @@ pub trait Sink {
         }
     }
 
-    /// A text that is left out where it is the usual one.
+    /// Adds a string that is omitted when it equals the default `usual`.
     #[tactic(auto, unfolding(crate::specs::Given::row_given, crate::specs::Given::GivesRow, sentry_members::specs::Written::written))]
     final fn text_unless<T: AsStr>(&mut self, key: &str, value: &T, usual: &str)
         ensures { GivesRow Adds Tests key.now (default (text_of usual.now)) text_kind
@@ -200,7 +205,7 @@ pub trait Sink {
         }
     }
 
-    /// A value that is left out where it is the usual one.
+    /// Adds a member that is omitted when its value is written the same as the default `usual`.
     #[tactic(auto, unfolding(crate::specs::Given::row_given, crate::specs::Given::GivesRow))]
     final fn unless<T: Usual>(&mut self, key: &str, value: &T, usual: &T)
         ensures { GivesRow Adds Tests key.now (default (T.cell_of usual.now)) T.kind
@@ -213,7 +218,8 @@ pub trait Sink {
         }
     }
 
-    /// A value that is left out where it is the usual one of its form.
+    /// Adds a member that is omitted when its value is written the same as the default of the codec
+    /// `F`.
     #[tactic(auto, unfolding(crate::specs::Given::row_given, crate::specs::Given::GivesRow))]
     final fn unless_usual_as<F: DefaultedCodec<T>, T>(&mut self, key: &str, value: &T)
         ensures { GivesRow Adds Tests key.now (default F.usual) F.kind
@@ -226,7 +232,7 @@ pub trait Sink {
         }
     }
 
-    /// A value that is left out where it is the usual one of its type.
+    /// Adds a member that is omitted when its value is written the same as the default of its type.
     final fn unless_usual<T: Defaulted>(&mut self, key: &str, value: &T)
         ensures { GivesRow Adds Tests key.now (default T.usual) T.kind
             (T.cell_of value.now) self.old self.new }

@@ -1,4 +1,4 @@
-//! Types that are written row by row.
+//! Types that are written row by row as a JSON object.
 
 ghost use Rattle.std.specs.Prelude.{◌≡◌, ◌++◌, ℕ, List, OnOk, IfOk, None, true, map as map_list};
 ghost use Rattle.serde_json.specs.Data.{Members, object};
@@ -18,16 +18,16 @@ use json::Writer;
 use serde_json::{Map, Value};
 use std::alloc::{AllocError, Global};
 
-/// A type whose values are the rows of a table.
+/// A type whose values are written as the rows of an object.
 pub trait Table: Sized + Drop {
-    // the table, a line for each row, in the order of the keys
+    // the rows, in key order: for each its key, rule, kind and the part of the value that it holds
     ghost lines: { List (Field Self) };
 
-    /// Gives the rows.
+    /// Gives each row to the sink `to`, in key order.
     fn rows<S: Sink>(&self, to: &mut S)
         ensures { GivesRows S.Adds S.Tests lines self.now to.old to.new };
 
-    /// Gives the members that the rows are written as.
+    /// Gives the members that the rows are written as to the sink `to`, in key order.
     final fn give<S: Sink>(&self, to: &mut S)
         ensures { S.Adds to.old to.new (rows_given (rows_of lines) (cells_by lines self.now)) }
     {
@@ -37,28 +37,35 @@ pub trait Table: Sized + Drop {
     ghost ordered: { in_order (keys (rows_of lines)) ≡ true };
 }
 
-/// A table that keeps the members of other keys.
+/// A table that keeps additional members, whose keys no row has.
 pub trait KeptTable: Table {
-    // keys that these members may not have, beside those of the rows
+    // keys that additional members may not have, besides those of the rows
     ghost reserved: { List (List ℕ) };
 
+    // the additional members
     ghost others_of: { Self → Members };
 
-    /// The members that no row names.
+    /// Returns the additional members.
     fn others(&self) -> &Map<String, Value>
         ensures { members_view result.now.entries ≡ others_of self.now };
 
-    /// The keys that these members may not have.
+    /// Returns the keys that additional members may not have: those of the rows among them.
     fn names() -> &'static [&'static str]
         ensures { map_list (λ name. name.now) result.now ≡ reserved ++ keys (rows_of Self.lines) };
 }
 
-/// Ends the loan of a writer, which stays as it is.
+/// Ends a mutable borrow; the borrowed value is unchanged.
 pub fn leave<S>(_sink: &mut S)
     ensures { _sink.new ≡ _sink.old }
 {}
 
-/// The tree of a value's rows, put among members. It fails where memory runs out.
+/// Returns the object of a value's rows and the members of `rows`.
+///
+/// A written row replaces a member of `rows` with its key.
+///
+/// # Errors
+///
+/// `AllocError` if an allocation fails, or has failed in `rows` before.
 pub fn rows_tree<T: Table>(value: &T, mut rows: TreeRows) -> Result<Value, AllocError>
     ensures { IfOk result (λ t. (rows.failed ≡ None)
         × (view t ≡
@@ -69,7 +76,7 @@ pub fn rows_tree<T: Table>(value: &T, mut rows: TreeRows) -> Result<Value, Alloc
     rows.into_tree()
 }
 
-// Writes the members of a value's rows, with a tag and others among them.
+// Writes the members of a value's rows, with a tag and other members merged in key order.
 fn write_members<T: Table, L: Others>(
     value: &T,
     tag: Tag<'_>,
@@ -89,8 +96,14 @@ fn write_members<T: Table, L: Others>(
     }
 }
 
-/// Writes the text of a value's rows, with a tag and others among them. It fails where memory runs out, with a part of
-/// the text written.
+/// Writes the object of a value's rows as JSON text, with a tag and other members merged in key
+/// order.
+///
+/// A written row replaces a tag or member with its key; the tag replaces a member at `type`.
+///
+/// # Errors
+///
+/// `AllocError` if an allocation fails; part of the text may have been written.
 pub fn write_rows<T: Table, L: Others>(
     value: &T,
     tag: Tag<'_>,
@@ -105,7 +118,7 @@ pub fn write_rows<T: Table, L: Others>(
     out.end_object()
 }
 
-// Writes the members of a value's rows.
+// Writes the members of a value's rows, without a tag or other members.
 fn write_own<T: Table>(value: &T, out: &mut Writer) -> Result<(), AllocError>
     ensures { OnOk result
         (WritesMembers (rows_given (rows_of T.lines) (cells_by T.lines value.now)) out.old
@@ -121,14 +134,22 @@ fn write_own<T: Table>(value: &T, out: &mut Writer) -> Result<(), AllocError>
     }
 }
 
-/// The written tree of a table's value. It fails where memory runs out.
+/// Returns the JSON tree of a value.
+///
+/// # Errors
+///
+/// `AllocError` if an allocation fails.
 pub fn table_tree<T: Table>(value: &T, alloc: Global) -> Result<Value, AllocError>
     ensures { IfOk result (λ t. view t ≡ written (table_of T.lines) (fields_by T.lines value.now)) }
 {
     rows_tree(value, TreeRows::new(alloc))
 }
 
-/// Writes the text of that tree. It fails where memory runs out, with a part of the text written.
+/// Writes a value as JSON text.
+///
+/// # Errors
+///
+/// `AllocError` if an allocation fails; part of the text may have been written.
 pub fn write_table<T: Table>(value: &T, out: &mut Writer) -> Result<(), AllocError>
     ensures { OnOk result
         (WritesTree (written (table_of T.lines) (fields_by T.lines value.now)) out.old out.new) }
@@ -138,7 +159,14 @@ pub fn write_table<T: Table>(value: &T, out: &mut Writer) -> Result<(), AllocErr
     out.end_object()
 }
 
-/// The written tree of a case: its rows, put among its tag and members. It fails where memory runs out.
+/// Returns the JSON tree of a case: its rows, the tag `word` at the key `type`, and the members of
+/// `rows`.
+///
+/// A written row replaces a tag or member with its key; the tag replaces a member at `type`.
+///
+/// # Errors
+///
+/// `AllocError` if an allocation fails, or has failed in `rows` before.
 pub fn case_tree<T: Table>(value: &T, word: &str, mut rows: TreeRows) -> Result<Value, AllocError>
     ensures { IfOk result (λ t. (rows.failed ≡ None)
         × (view t ≡ case_written word.now (rows_of T.lines) (cells_by T.lines value.now)
@@ -148,7 +176,14 @@ pub fn case_tree<T: Table>(value: &T, word: &str, mut rows: TreeRows) -> Result<
     rows_tree(value, rows)
 }
 
-/// Writes the text of that tree. It fails where memory runs out, with a part of the text written.
+/// Writes a case as JSON text: its rows, the tag `word` at the key `type`, and the members of
+/// `others`.
+///
+/// A written row replaces a tag or member with its key; the tag replaces a member at `type`.
+///
+/// # Errors
+///
+/// `AllocError` if an allocation fails; part of the text may have been written.
 pub fn write_case<T: Table, L: Others>(
     value: &T,
     word: &str,

@@ -1,4 +1,4 @@
-//! The text of an object's members.
+//! A sink that writes rows as JSON text.
 
 ghost use Rattle.std.specs.Prelude.{◌≡◌, OnOk};
 ghost use Rattle.serde_json.specs.Data.{no_members, member, null, string};
@@ -9,10 +9,14 @@ use json::Writer;
 use sentry_members::Codec;
 use std::alloc::AllocError;
 
-/// The text of an object's members, after what a writer holds.
+/// A sink that appends members to a JSON writer.
+///
+/// After an allocation failure no further member is written.
 #[derive(Drop)]
 pub struct TextRows<'w> {
+    /// Writer of the text, inside an object that has begun.
     pub out: &'w mut Writer,
+    /// First allocation failure, if any.
     pub failed: Option<AllocError>,
 }
 

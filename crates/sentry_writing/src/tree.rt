@@ -1,4 +1,4 @@
-//! The tree of an object's members.
+//! A sink that collects rows as the members of a JSON tree.
 
 ghost use Rattle.std.specs.Prelude.{◌≡◌, IfOk, None};
 ghost use Rattle.serde_json.specs.Data.{no_members, object, put};
@@ -13,7 +13,9 @@ use sentry_members::Codec;
 use serde_json::{Map, Value, put};
 use std::alloc::{AllocError, Global};
 
-/// The members of a tree.
+/// A sink that collects the members of an object.
+///
+/// After an allocation failure no further member is added.
 #[derive(Drop)]
 pub struct TreeRows {
     alloc: Global,
@@ -22,7 +24,7 @@ pub struct TreeRows {
 }
 
 impl TreeRows {
-    /// No members yet.
+    /// Creates a sink without members.
     pub fn new(alloc: Global) -> TreeRows
         ensures { members_so_far result ≡ no_members }
     {
@@ -33,7 +35,9 @@ impl TreeRows {
         }
     }
 
-    /// The members of a map.
+    /// Creates a sink with copies of the members of `others`.
+    ///
+    /// An allocation failure is remembered, and returned by [`into_tree`](TreeRows::into_tree).
     pub fn with_others(alloc: Global, others: &Map<String, Value>) -> TreeRows
         ensures { result.failed ≡ None → members_so_far result ≡ members_view others.now.entries }
     {
@@ -51,7 +55,11 @@ impl TreeRows {
         }
     }
 
-    /// The object of the members. It fails where memory ran out.
+    /// Returns the object of the collected members.
+    ///
+    /// # Errors
+    ///
+    /// `AllocError` if an allocation has failed since the sink was created.
     pub fn into_tree(self) -> Result<Value, AllocError>
         ensures { IfOk result (λ t. (self.failed ≡ None) ×
             (view t ≡ object (members_so_far self))) }
@@ -62,7 +70,7 @@ impl TreeRows {
         }
     }
 
-    // Puts a member among the others.
+    // Adds a member, or replaces the one with its key; does nothing after a failure.
     #[tactic(auto, using(crate::proofs::Failing::wrote_while, crate::proofs::Failing::after_failure))]
     fn put(&mut self, key: &str, tree: Value)
         ensures { While self.old.failed self.new.failed

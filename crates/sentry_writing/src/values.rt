@@ -1,4 +1,4 @@
-//! Lists that stand under the key `values`.
+//! Lists that are written under the key `values`.
 
 ghost use Rattle.sentry_tables.specs.Kind.{values as values_kind};
 ghost use Rattle.sentry_members.specs.Cells.{list_cell};
@@ -15,9 +15,10 @@ use std::alloc::{AllocError, Global};
 use std::slice::{Iter, IterMut};
 use std::vec::IntoIter;
 
-/// A list that is written as an object with the one key `values`.
+/// A list that is written as an object with the one key `values`; a bare array is read too.
 #[derive(Debug, PartialEq, Drop)]
 pub struct Values<T: Drop> {
+    /// Values in order.
     pub values: Vec<T>,
 }
 
@@ -30,7 +31,7 @@ impl<T: Drop> Values<T> {
     ghost use Rattle.sentry_writing.specs.Lent.{lends_iter, lends_slice, lends_vec};
     ghost use Rattle.sentry_writing.specs.Listed.{Extends};
 
-    /// No values.
+    /// Creates an empty list.
     pub fn new(alloc: Global) -> Values<T>
         ensures { result.values.items ≡ [] }
     {
@@ -39,28 +40,28 @@ impl<T: Drop> Values<T> {
         }
     }
 
-    /// No values.
+    /// Creates the default: an empty list.
     pub fn default_in(alloc: Global) -> Values<T>
         ensures { result.values.items ≡ [] }
     {
         Values::new(alloc)
     }
 
-    /// Whether there are no values.
+    /// Returns whether the list is empty.
     pub fn is_empty(&self) -> bool
         ensures { IsTrue result ↔ (self.now.values.items ≡ []) }
     {
         self.values.is_empty()
     }
 
-    /// The values in order.
+    /// Returns the values as a slice.
     pub fn as_slice(&self) -> &[T]
         ensures { result.now ≡ self.now.values.items }
     {
         self.values.as_slice()
     }
 
-    /// The values in order, to be changed in place.
+    /// Returns the values as a mutable slice.
     pub fn as_mut_slice(&mut self) -> &mut [T]
         ensures* writes_back { sem 𝓛 (lends_slice T.row self.entry result) }
         ensures shows { result.now ≡ self.old.values.items }
@@ -69,7 +70,7 @@ impl<T: Drop> Values<T> {
         values.as_mut_slice()
     }
 
-    /// The values as a vector, to be changed.
+    /// Returns the values as a mutable vector.
     pub fn as_vec_mut(&mut self) -> &mut Vec<T>
         ensures* writes_back { sem 𝓛 (lends_vec T.row self.entry result) }
         ensures shows { result.now ≡ self.old.values }
@@ -77,7 +78,7 @@ impl<T: Drop> Values<T> {
         &mut self.values
     }
 
-    /// The values in order, each lent.
+    /// Returns an iterator over references to the values, in order.
     pub fn iter(&self) -> Iter<'_, T>
         ensures rest { iter_rest result ≡ self.now.values.items }
         ensures runs { EveryRun (iter_steps {A = T}) (λ p.
@@ -86,7 +87,7 @@ impl<T: Drop> Values<T> {
         self.values.as_slice().iter()
     }
 
-    /// The values in order, each lent to be changed.
+    /// Returns an iterator over mutable references to the values, in order.
     pub fn iter_mut(&mut self) -> IterMut<'_, T>
         ensures* writes_back { sem 𝓛 (lends_iter T.row self.entry result) }
         ensures rest { iter_mut_rest result ≡ self.old.values.items }
@@ -96,7 +97,11 @@ impl<T: Drop> Values<T> {
         self.as_mut_slice().iter_mut()
     }
 
-    /// The values of an iterator, in order. It fails where memory is refused.
+    /// Collects the items of a finite iterator into a list, in order.
+    ///
+    /// # Errors
+    ///
+    /// `AllocError` if an allocation fails.
     pub fn try_from_iter<I: IntoIterator<Item = T>>(
         alloc: Global,
         items: I,
@@ -111,10 +116,12 @@ impl<T: Drop> Values<T> {
         Ok(list)
     }
 
-    /// Adds what an iterator gives, in order, behind the values.
+    /// Appends the items of a finite iterator, in order.
     ///
-    /// It fails where memory is refused; then the values that were there, and those that came before
-    /// the refusal, stay.
+    /// # Errors
+    ///
+    /// `AllocError` if an allocation fails; the list keeps its values and the items appended before
+    /// the failure.
     pub fn try_extend<I: IntoIterator<Item = T>>(&mut self, items: I) -> Result<(), AllocError>
         requires { (it : I.IntoIter) → I.into_iter_gives items it → I.IntoIter.can_next it ×
             IsFinite (I.IntoIter.remaining it) }
@@ -128,7 +135,7 @@ impl<T: Drop> Values<T> {
 impl<T: Member> Values<T> {
     ghost use Rattle.std.specs.Prelude.{◌≡◌, IfOk};
 
-    /// The same values. It fails where memory is refused.
+    /// Clones the list. `AllocError` if an allocation fails.
     pub fn clone(&self) -> Result<Values<T>, AllocError>
         ensures { IfOk result (λ copy.
             list_cell T.cell_of copy.values.items ≡ list_cell T.cell_of self.now.values.items) }
@@ -153,7 +160,7 @@ impl<T: Drop> IntoIterator for Values<T> {
         × EveryRun (into_iter_steps {X = T} {Z = Global}) (λ p.
         ItemsAre p (into_iter_items p.from)) };
 
-    /// The values themselves, in order.
+    /// Returns an iterator that moves the values out, in order.
     fn into_iter(self) -> IntoIter<T> {
         let Values { values } = self;
         values.into_iter()
@@ -172,7 +179,7 @@ impl<'a, T: Drop> IntoIterator for &'a Values<T> {
     ghost into_iter_gives = { λ v it. (iter_rest it ≡ v.now.values.items)
         × EveryRun (iter_steps {A = T}) (λ p. ItemsMapTo p (λ x. x.now) (iter_rest p.from)) };
 
-    /// The values in order, each lent.
+    /// Returns an iterator over references to the values, in order.
     fn into_iter(self) -> Iter<'a, T> {
         self.iter()
     }
@@ -193,7 +200,7 @@ impl<'a, T: Drop> IntoIterator for &'a mut Values<T> {
         × EveryRun (iter_mut_steps {A = T}) (λ p.
         ItemsMapTo p (λ x. x.now) (iter_mut_rest p.from)) };
 
-    /// The values in order, each lent to be changed.
+    /// Returns an iterator over mutable references to the values, in order.
     fn into_iter(self) -> IterMut<'a, T>
         ensures* writes_back { sem 𝓛 (lends_iter T.row self.entry result) }
         ensures into_iter_gives { (iter_mut_rest result ≡ self.old.values.items)
@@ -218,7 +225,7 @@ impl<T: Member> Formed for Values<T> {
     type Form = AsValues;
 }
 
-/// The form of lists under the key `values`; a bare list is read too.
+/// Codec of lists under the key `values`; a bare array is read too.
 pub struct AsValues;
 
 impl<T: Member> Codec<Values<T>> for AsValues {
