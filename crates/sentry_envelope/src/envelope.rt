@@ -1,15 +1,15 @@
 //! Envelopes.
 use crate::error::EnvelopeWriteError;
 use crate::file::read_file;
-use crate::filtering::{first_event, first_id, gives_id};
-use crate::headers::{EnvelopeHeaders, read_header_line};
+use crate::filtering::{first_event, gives_id};
+use crate::headers::EnvelopeHeaders;
 use crate::items::{EnvelopeItemIter, IntoItems};
 use crate::plain::items_are_plain;
-use crate::read::read_items;
+use crate::reader::read_with;
 use crate::write::write_envelope;
 use rand_core::Rng;
 use sentry_event::Event;
-use sentry_framing::{EnvelopeError, Frames};
+use sentry_framing::EnvelopeError;
 use sentry_items::EnvelopeItem;
 use sentry_items::counted::{CountedWriter, send, send_plain};
 use sentry_json::scratch;
@@ -124,10 +124,12 @@ impl Envelope {
     ///   of objects with strings `name` and `version`; `trace`, null or an object that
     ///   `DynamicSamplingContext` reads. Other members are ignored.
     /// - `UnexpectedEof`, `InvalidItemHeader` and `MissingNewline` by the framing of an item, as
-    ///   [`Frames::next_frame`] says.
+    ///   [`sentry_framing::Frames::next_frame`] says.
     /// - `InvalidItemPayload` if a payload isn't read as its item type.
     ///
     /// `OutOfMemory` if an allocation fails.
+    ///
+    /// To read many envelopes, create one [`crate::EnvelopeReader`].
     #[inline(never)]
     pub fn from_slice<R: Rng>(
         alloc: Global,
@@ -144,14 +146,7 @@ impl Envelope {
         ensures fault { IfErr result (λ x. x ≢ EnvelopeError.OutOfMemory →
             Fault profile bytes.now x) }
     {
-        let mut frames = Frames::new(bytes);
-        let mut scratch = scratch(alloc);
-        let headers = read_header_line(alloc, frames.header_line(), &mut scratch)?;
-        let items = read_items(alloc, &mut frames, now, ids, &mut scratch)?;
-        Ok(Envelope {
-            headers: headers.fill_id(first_id(&items)),
-            contents: Contents::Items(items),
-        })
+        read_with(alloc, bytes, now, ids, &mut scratch(alloc))
     }
 
     /// Reads a file, and parses the envelope in the file as [`Envelope::from_slice`] does.

@@ -9,8 +9,8 @@ pub use sentry_envelope::called::{Asked, Given};
 pub use sentry_envelope::timed::read_line_at;
 pub use sentry_envelope::{
     AddRefused, CountedReader, CountedWriter, Envelope, EnvelopeError, EnvelopeFilter,
-    EnvelopeFilterCallbacks, EnvelopeHeaders, EnvelopeItemIter, EnvelopeWriteError, Frames,
-    IntoItems, ItemFrame, laws,
+    EnvelopeFilterCallbacks, EnvelopeHeaders, EnvelopeItemIter, EnvelopeReader, EnvelopeWriteError,
+    Frames, IntoItems, ItemFrame, laws,
 };
 pub use sentry_event::{AsFingerprint, Event, Span, Transaction};
 pub use sentry_framing::{ItemHeader, ItemKind, read_item_header};

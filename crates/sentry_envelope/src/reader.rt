@@ -1,0 +1,89 @@
+//! A reader of many envelopes.
+
+ghost use Rattle.std.specs.Prelude.{◌≡◌, ◌≢◌, IfOk, IfErr, IsSomeAnd};
+ghost use Rattle.sentry_envelope.specs.Envelope.{IsEnvelopePlain, IsEnvelopeStored, Spells, envelope_text, envelope_norm};
+ghost use Rattle.sentry_envelope.specs.EnvelopeFault.{Fault};
+ghost use Rattle.sentry_envelope.specs.EnvelopeView.{structured};
+ghost use Rattle.sentry_envelope.specs.SentryProfile.{profile};
+ghost use Rattle.sentry_moments.specs.Moments.{moment_cell};
+
+use crate::envelope::{Contents, Envelope};
+use crate::filtering::first_id;
+use crate::headers::read_header_line;
+use crate::read::read_items;
+use json::Scratch;
+use rand_core::Rng;
+use sentry_framing::{EnvelopeError, Frames};
+use sentry_json::scratch;
+use sentry_moments::Moment;
+use std::alloc::Global;
+
+/// A reader that keeps its working memory from one envelope to the next.
+///
+/// Whoever reads many envelopes makes one reader: [`Envelope::from_slice`] clears 16 KiB of working
+/// memory for each envelope, and asks for more where a line is long. The reader holds on to some
+/// four bytes for each byte of the longest line it has read.
+#[derive(Drop)]
+pub struct EnvelopeReader {
+    alloc: Global,
+    scratch: Scratch,
+}
+
+impl EnvelopeReader {
+    /// Creates a reader.
+    pub fn new(alloc: Global) -> EnvelopeReader {
+        EnvelopeReader {
+            alloc,
+            scratch: scratch(alloc),
+        }
+    }
+
+    /// Parses an envelope, exactly as [`Envelope::from_slice`] does. What was read before makes no
+    /// difference, nor that it was refused.
+    ///
+    /// # Errors
+    ///
+    /// Those of [`Envelope::from_slice`].
+    pub fn read<R: Rng>(
+        &mut self,
+        bytes: &[u8],
+        now: Moment,
+        ids: &mut R,
+    ) -> Result<Envelope, EnvelopeError>
+        ensures spelled { IfOk result (λ e.
+            IsSomeAnd (structured e) (Spells profile bytes.now (moment_cell now))) }
+        ensures stored { IfOk result (λ e. IsSomeAnd (structured e) (λ m.
+            IsEnvelopeStored profile m × IsEnvelopePlain profile m)) }
+        ensures rewritten { IfOk result (λ e. IsSomeAnd (structured e) (λ m.
+            envelope_text profile m ≡ envelope_text profile (envelope_norm profile m))) }
+        ensures fault { IfErr result (λ x. x ≢ EnvelopeError.OutOfMemory →
+            Fault profile bytes.now x) }
+    {
+        read_with(self.alloc, bytes, now, ids, &mut self.scratch)
+    }
+}
+
+// Parses an envelope with the caller's working memory.
+pub(crate) fn read_with<R: Rng>(
+    alloc: Global,
+    bytes: &[u8],
+    now: Moment,
+    ids: &mut R,
+    scratch: &mut Scratch,
+) -> Result<Envelope, EnvelopeError>
+    ensures spelled { IfOk result (λ e.
+        IsSomeAnd (structured e) (Spells profile bytes.now (moment_cell now))) }
+    ensures stored { IfOk result (λ e. IsSomeAnd (structured e) (λ m.
+        IsEnvelopeStored profile m × IsEnvelopePlain profile m)) }
+    ensures rewritten { IfOk result (λ e. IsSomeAnd (structured e) (λ m.
+        envelope_text profile m ≡ envelope_text profile (envelope_norm profile m))) }
+    ensures fault { IfErr result (λ x. x ≢ EnvelopeError.OutOfMemory → Fault profile bytes.now x) }
+{
+    let mut frames = Frames::new(bytes);
+    let headers = read_header_line(alloc, frames.header_line(), scratch)?;
+    let items = read_items(alloc, &mut frames, now, ids, scratch)?;
+    Ok(Envelope {
+        headers: headers.fill_id(first_id(&items)),
+        contents: Contents::Items(items),
+    })
+}
