@@ -32,6 +32,8 @@ mod losses;
 #[cfg(test)]
 mod main_path;
 #[cfg(test)]
+mod reader;
+#[cfg(test)]
 mod rows;
 #[cfg(test)]
 mod urls;
