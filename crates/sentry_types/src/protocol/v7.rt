@@ -71,18 +71,18 @@ pub mod client_report {
     pub use sentry_reports::{Category, Item, ItemLoss, Reason, Report};
 }
 
-/// Trees of JSON.
+/// JSON values: those of `serde_json`, and the writer of their text.
 pub mod value {
     pub use json::Writer;
     pub use serde_json::{Map, Number, Value};
 }
 
-/// Maps from names.
+/// `Map`, the ordered map that fields of the protocol's types have.
 pub mod map {
     pub use std::collections::BTreeMap as Map;
 }
 
-/// Ids of debug files and of code.
+/// Ids of debug files (`DebugId`) and of code files (`CodeId`), and the error of their texts.
 pub mod debugid {
     pub use sentry_identifiers::{CodeId, DebugId, ParseDebugIdError};
 }
