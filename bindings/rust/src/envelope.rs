@@ -1,0 +1,184 @@
+//! Parsing, normalizing and filtering envelopes.
+
+use crate::error::{done, Error};
+use crate::kinds::{Category, ItemKind, Reason};
+use crate::moment::Moment;
+use crate::{output, sys};
+
+/// Room for a normal form beside the envelope's own length.
+const MORE: usize = 256;
+
+/// Parses an envelope and returns its normal form.
+///
+/// `now` fills absent timestamps; absent ids are drawn from a generator seeded with `seed`. The
+/// normal form of the normal form is the normal form, unless its JSON nests deeper than 127.
+///
+/// # Errors
+///
+/// [`Error::NoMoment`]; the first check of the envelope that fails, [`Error::UnexpectedEof`] to
+/// [`Error::InvalidItemPayload`]; [`Error::OutOfMemory`].
+pub fn normalize<N>(bytes: &[u8], now: N, seed: u64) -> Result<Vec<u8>, Error>
+where
+    N: TryInto<Moment>,
+    Error: From<N::Error>,
+{
+    let now = now.try_into()?;
+    output::text(bytes.len() + MORE, |out, needed| {
+        // SAFETY: each pointer is a slice's, with its length, or a reference's; `out` and `needed`
+        // are borrowed mutably.
+        unsafe {
+            sys::sentry_envelope_normalize(
+                bytes.as_ptr(),
+                bytes.len(),
+                now.secs,
+                now.nanos,
+                seed,
+                out.as_mut_ptr(),
+                out.len(),
+                needed,
+            )
+        }
+    })
+}
+
+/// Parses an envelope, and returns nothing of it.
+///
+/// # Errors
+///
+/// Those of [`normalize`].
+pub fn check<N>(bytes: &[u8], now: N, seed: u64) -> Result<(), Error>
+where
+    N: TryInto<Moment>,
+    Error: From<N::Error>,
+{
+    let now = now.try_into()?;
+    // SAFETY: the pointer is the slice's, with its length.
+    done(unsafe {
+        sys::sentry_envelope_check(bytes.as_ptr(), bytes.len(), now.secs, now.nanos, seed)
+    })
+}
+
+/// Which items a filter keeps, by their type.
+#[derive(Clone, Copy, Debug, PartialEq, Eq)]
+pub enum Kinds<'a> {
+    /// Keep items of these types and remove all others.
+    Keep(&'a [ItemKind]),
+    /// Remove items of these types and keep all others.
+    Remove(&'a [ItemKind]),
+}
+
+impl Kinds<'_> {
+    /// A bit for each item type that is listed, and whether these are kept.
+    fn bits(self) -> (u32, bool) {
+        let (kinds, keep) = match self {
+            Kinds::Keep(kinds) => (kinds, true),
+            Kinds::Remove(kinds) => (kinds, false),
+        };
+        (
+            kinds.iter().fold(0, |bits, kind| bits | 1 << *kind as u32),
+            keep,
+        )
+    }
+}
+
+/// What a filter leaves and loses.
+#[derive(Clone, Debug, PartialEq, Eq)]
+pub struct Filtered {
+    /// What is left of the envelope, in normal form; `None` if no item is.
+    pub envelope: Option<Vec<u8>>,
+    /// What is lost with the removed items.
+    pub losses: Losses,
+}
+
+/// Parses an envelope and removes items by their type.
+///
+/// An attachment is also removed if no event and no transaction is kept. With `keep_headers` all
+/// envelope headers but the event id stay; without, none does. The event id becomes that of the
+/// first event or transaction that is left. `now` and `seed` are those of [`normalize`].
+///
+/// # Errors
+///
+/// Those of [`normalize`].
+pub fn filter<N>(
+    bytes: &[u8],
+    now: N,
+    seed: u64,
+    kinds: Kinds<'_>,
+    keep_headers: bool,
+) -> Result<Filtered, Error>
+where
+    N: TryInto<Moment>,
+    Error: From<N::Error>,
+{
+    let now = now.try_into()?;
+    let (kinds, keep) = kinds.bits();
+    let mut losses = Losses { sums: [0; LOSSES] };
+    let left = output::text(bytes.len() + MORE, |out, needed| {
+        // SAFETY: each pointer is a slice's or an array's, with its length, or a reference's;
+        // `out`, `needed` and `losses` are borrowed mutably.
+        unsafe {
+            sys::sentry_envelope_filter(
+                bytes.as_ptr(),
+                bytes.len(),
+                now.secs,
+                now.nanos,
+                seed,
+                kinds,
+                keep,
+                keep_headers,
+                out.as_mut_ptr(),
+                out.len(),
+                needed,
+                losses.sums.as_mut_ptr(),
+                LOSSES,
+            )
+        }
+    });
+    let envelope = output::optional(left)?;
+    Ok(Filtered { envelope, losses })
+}
+
+/// Number of sums: for each of 12 categories one without a reason, and one for each of 9 reasons.
+const LOSSES: usize = 120;
+
+/// A quantity of a category that is lost for a reason.
+#[derive(Clone, Copy, Debug, PartialEq, Eq)]
+pub struct Loss {
+    /// The data category.
+    pub category: Category,
+    /// The discard reason, where one is known: that of a client report's item.
+    pub reason: Option<Reason>,
+    /// The quantity; it stops at 2^64-1.
+    pub quantity: u64,
+}
+
+/// What is lost with the removed items: a sum for each category and reason, or for no known reason.
+#[derive(Clone, Debug, PartialEq, Eq)]
+pub struct Losses {
+    sums: [u64; LOSSES],
+}
+
+impl Losses {
+    /// Returns the quantity of a category that is lost for a reason, or without a known one.
+    pub fn get(&self, category: Category, reason: Option<Reason>) -> u64 {
+        let within = reason.map_or(0, |reason| reason as usize + 1);
+        self.sums[10 * category as usize + within]
+    }
+
+    /// Returns the losses above 0, by category; in each the one without a reason first, then by
+    /// reason.
+    pub fn iter(&self) -> impl Iterator<Item = Loss> + '_ {
+        let reasons = || std::iter::once(None).chain(Reason::ALL.iter().copied().map(Some));
+        let pairs = Category::ALL
+            .iter()
+            .flat_map(move |category| reasons().map(move |reason| (*category, reason)));
+        pairs.filter_map(|(category, reason)| match self.get(category, reason) {
+            0 => None,
+            quantity => Some(Loss {
+                category,
+                reason,
+                quantity,
+            }),
+        })
+    }
+}

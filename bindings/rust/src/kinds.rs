@@ -1,0 +1,107 @@
+//! Item types, data categories and discard reasons.
+
+/// Defines an enumeration of words, numbered from 0 on as in `curdmesa.h`.
+macro_rules! words {
+    ($(#[$doc:meta])* $name:ident { $($(#[$variant_doc:meta])* $variant:ident = $word:literal,)* }) => {
+        $(#[$doc])*
+        #[derive(Clone, Copy, Debug, PartialEq, Eq, PartialOrd, Ord, Hash)]
+        #[repr(u32)]
+        pub enum $name {
+            $($(#[$variant_doc])* $variant,)*
+        }
+
+        impl $name {
+            /// All variants, by their number.
+            pub const ALL: &'static [$name] = &[$($name::$variant,)*];
+
+            /// Returns the word in JSON.
+            pub fn as_str(self) -> &'static str {
+                match self {
+                    $($name::$variant => $word,)*
+                }
+            }
+        }
+    };
+}
+
+words! {
+    /// An item type.
+    ItemKind {
+        /// An event.
+        Event = "event",
+        /// An update of a session.
+        Session = "session",
+        /// Counts of sessions.
+        Sessions = "sessions",
+        /// A transaction.
+        Transaction = "transaction",
+        /// An attachment.
+        Attachment = "attachment",
+        /// A check-in of a monitor.
+        CheckIn = "check_in",
+        /// A user's report on an event.
+        UserReport = "user_report",
+        /// A recording of a replay.
+        ReplayRecording = "replay_recording",
+        /// Logs.
+        Log = "log",
+        /// Metrics.
+        TraceMetric = "trace_metric",
+        /// A client report.
+        ClientReport = "client_report",
+    }
+}
+
+words! {
+    /// A data category of client reports.
+    Category {
+        /// Events.
+        Error = "error",
+        /// Sessions.
+        Session = "session",
+        /// Transactions.
+        Transaction = "transaction",
+        /// Spans.
+        Span = "span",
+        /// Bytes of attachments.
+        Attachment = "attachment",
+        /// Check-ins.
+        Monitor = "monitor",
+        /// Logs.
+        LogItem = "log_item",
+        /// Bytes of logs.
+        LogByte = "log_byte",
+        /// Metrics.
+        TraceMetric = "trace_metric",
+        /// Bytes of metrics.
+        TraceMetricByte = "trace_metric_byte",
+        /// User reports.
+        Feedback = "feedback",
+        /// Recordings of replays.
+        Replay = "replay",
+    }
+}
+
+words! {
+    /// A discard reason of client reports.
+    Reason {
+        /// Sending failed.
+        SendError = "send_error",
+        /// An error inside the SDK.
+        InternalSdkError = "internal_sdk_error",
+        /// A network error.
+        NetworkError = "network_error",
+        /// A rate limit of the server.
+        RatelimitBackoff = "ratelimit_backoff",
+        /// A full queue.
+        QueueOverflow = "queue_overflow",
+        /// A full buffer.
+        BufferOverflow = "buffer_overflow",
+        /// An event processor.
+        EventProcessor = "event_processor",
+        /// A `before_send` hook.
+        BeforeSend = "before_send",
+        /// Sampling.
+        SampleRate = "sample_rate",
+    }
+}

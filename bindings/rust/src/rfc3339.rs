@@ -1,0 +1,48 @@
+//! Timestamps as text.
+
+use crate::error::{done, Error};
+use crate::moment::Moment;
+use crate::{output, sys};
+
+/// The longest timestamp, in bytes.
+const LONGEST: usize = 30;
+
+/// Parses an RFC 3339 timestamp, from 1970 to the year 9999.
+///
+/// # Errors
+///
+/// [`Error::NotUtf8`]; [`Error::InvalidText`], also for another year.
+pub fn parse(text: impl AsRef<[u8]>) -> Result<Moment, Error> {
+    let text = text.as_ref();
+    let (mut secs, mut nanos) = (0, 0);
+    // SAFETY: the pointers are a slice's, with its length, and two references'.
+    done(unsafe { sys::sentry_rfc3339_parse(text.as_ptr(), text.len(), &mut secs, &mut nanos) })?;
+    Ok(Moment { secs, nanos })
+}
+
+/// Returns a moment as RFC 3339 in UTC, such as `2020-07-20T14:51:14.296Z`, without trailing zeros
+/// in the fraction.
+///
+/// # Errors
+///
+/// [`Error::NoMoment`], [`Error::OutOfMemory`].
+pub fn format<N>(moment: N) -> Result<String, Error>
+where
+    N: TryInto<Moment>,
+    Error: From<N::Error>,
+{
+    let moment = moment.try_into()?;
+    let text = output::text(LONGEST, |out, needed| {
+        // SAFETY: the pointers are a slice's, with its length, and a reference's.
+        unsafe {
+            sys::sentry_rfc3339_format(
+                moment.secs,
+                moment.nanos,
+                out.as_mut_ptr(),
+                out.len(),
+                needed,
+            )
+        }
+    })?;
+    output::utf8(text)
+}
