@@ -1,0 +1,9 @@
+pub mod Statuses
+pub mod Output
+pub mod Places
+pub mod Frames
+pub mod Kinds
+pub mod Losses
+pub mod Envelopes
+pub mod Texts
+pub mod Sums

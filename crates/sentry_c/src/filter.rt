@@ -1,0 +1,82 @@
+//! The filter of items by their type.
+
+use crate::losses::{SUMS, add_item};
+use sentry_types::protocol::v7::{EnvelopeFilter, EnvelopeItem, ItemKind};
+
+// A bit for each item type.
+const ALL_KINDS: u32 = 2047;
+
+/// Whether the bits are those of item types.
+pub fn are_kinds(kinds: u32) -> bool {
+    kinds <= ALL_KINDS
+}
+
+// The bit of an item type: the first type has the lowest.
+fn bit(kind: ItemKind) -> u32 {
+    match kind {
+        ItemKind::Event => 1,
+        ItemKind::SessionUpdate => 2,
+        ItemKind::SessionAggregates => 4,
+        ItemKind::Transaction => 8,
+        ItemKind::Attachment => 16,
+        ItemKind::MonitorCheckIn => 32,
+        ItemKind::UserReport => 64,
+        ItemKind::ReplayRecording => 128,
+        ItemKind::Logs => 256,
+        ItemKind::Metrics => 512,
+        ItemKind::ClientReport => 1024,
+    }
+}
+
+fn is_listed(kinds: u32, item: &EnvelopeItem) -> bool {
+    match item.kind() {
+        Some(kind) => kinds & bit(kind) != 0,
+        None => false,
+    }
+}
+
+/// A filter that keeps items of some types, or all others, and sums the losses of removed items.
+#[derive(Drop)]
+pub struct KindFilter {
+    kinds: u32,
+    keep: bool,
+    sums: [u64; SUMS],
+}
+
+impl KindFilter {
+    /// Creates a filter that keeps the items of these types with `keep`, and all others without.
+    pub fn new(kinds: u32, keep: bool) -> KindFilter {
+        KindFilter {
+            kinds,
+            keep,
+            sums: [0; SUMS],
+        }
+    }
+
+    /// Returns the sums of what was lost with removed items.
+    pub fn sums(&self) -> &[u64] {
+        &self.sums
+    }
+}
+
+impl EnvelopeFilter for KindFilter {
+    ghost use Rattle.std.specs.Prelude.{Bool};
+
+    ghost can_filter = { λ _. Unit {0} };
+
+    ghost ask = { λ first item answer next. Unit {0} };
+
+    ghost hand = { λ first item next. Unit {0} };
+
+    ghost ask_keeps = { λ first item answer next ready asked. tt };
+
+    ghost hand_keeps = { λ first item next ready given. tt };
+
+    fn filter(&mut self, item: &EnvelopeItem) -> bool {
+        is_listed(self.kinds, item) == self.keep
+    }
+
+    fn on_filtered(&mut self, item: EnvelopeItem) {
+        add_item(&mut self.sums, &item);
+    }
+}

@@ -1,0 +1,68 @@
+//! The statuses that exported functions return.
+
+ghost use Rattle.std.specs.Prelude.{◌≡◌};
+ghost use Rattle.sentry_c.specs.Statuses.{auth_status, dsn_status, refusal_status};
+
+use sentry_types::protocol::v7::EnvelopeError;
+use sentry_types::{ParseAuthError, ParseDsnError};
+
+/// Done; all results are set.
+pub const OK: i32 = 0;
+/// The text is longer than the room for it; only its length is told.
+pub const NO_ROOM: i32 = 1;
+/// No such moment.
+pub const NO_MOMENT: i32 = 2;
+/// The text isn't UTF-8.
+pub const NOT_UTF8: i32 = 3;
+/// The text isn't a timestamp, or isn't a crontab schedule.
+pub const INVALID_TEXT: i32 = 4;
+/// A number, an offset or the length of a table is out of range.
+pub const INVALID_ARGUMENT: i32 = 5;
+/// No item is left, or the ledger holds no loss.
+pub const NOTHING_LEFT: i32 = 6;
+/// The sum would exceed 2^64-1.
+pub const LEDGER_FULL: i32 = 7;
+/// An allocation failed.
+pub const OUT_OF_MEMORY: i32 = 17;
+
+/// Returns the status of a refused envelope: ten and the place of the error among its variants.
+pub fn of_refusal(error: &EnvelopeError) -> i32
+    ensures { result ≡ refusal_status error.now }
+{
+    match error {
+        EnvelopeError::UnexpectedEof => 10,
+        EnvelopeError::MissingHeader => 11,
+        EnvelopeError::MissingItemHeader => 12,
+        EnvelopeError::MissingNewline => 13,
+        EnvelopeError::InvalidHeader => 14,
+        EnvelopeError::InvalidItemHeader => 15,
+        EnvelopeError::InvalidItemPayload => 16,
+        EnvelopeError::OutOfMemory => OUT_OF_MEMORY,
+    }
+}
+
+/// Returns the status of a refused DSN.
+pub fn of_dsn_error(error: &ParseDsnError) -> i32
+    ensures { result ≡ dsn_status error.now }
+{
+    match error {
+        ParseDsnError::InvalidUrl => 20,
+        ParseDsnError::InvalidScheme => 21,
+        ParseDsnError::NoUsername => 22,
+        ParseDsnError::NoProjectId => 23,
+        ParseDsnError::InvalidProjectId(_) => 24,
+        ParseDsnError::Memory => OUT_OF_MEMORY,
+    }
+}
+
+/// Returns the status of refused client authentication.
+pub fn of_auth_error(error: ParseAuthError) -> i32
+    ensures { result ≡ auth_status error }
+{
+    match error {
+        ParseAuthError::NonSentryAuth => 30,
+        ParseAuthError::InvalidVersion => 31,
+        ParseAuthError::MissingPublicKey => 32,
+        ParseAuthError::Memory => OUT_OF_MEMORY,
+    }
+}
