@@ -11,6 +11,11 @@ abbrev pub BodyFrom : List ℕ → ℕ → List ℕ → Type 0
 BodyFrom bytes offset body =
     ((offset ≡ 0) × ((line : List ℕ) × IsLineAndBody bytes line body)) ⊎ ((offset ≢ 0) × (offset ≤ length bytes) × (body ≡ drop offset bytes))
 
+-- the header and the payload of a frame stand at their places
+pub record IsPlaced (bytes : List ℕ) (found : SentryFrame) (frame : Frame) : Type 0 where
+  pub header : Stands bytes found.header_offset found.header_length frame.header
+  pub payload : Stands bytes found.payload_offset found.payload_length frame.payload
+
 -- The first frame of what is left stands at these places, its header is of this type, and the next item begins at an offset.
 pub record FindsFrame (bytes : List ℕ) (offset : ℕ) (found : SentryFrame) (next : ℕ) : Type 0 where
   pub body : List ℕ
@@ -18,8 +23,7 @@ pub record FindsFrame (bytes : List ℕ) (offset : ℕ) (found : SentryFrame) (n
   pub frame : Frame
   pub first : IsFirstFrame (stated_length item_words) body frame (drop next bytes)
   pub within : next ≤ length bytes
-  pub header : Stands bytes found.header_offset found.header_length frame.header
-  pub payload : Stands bytes found.payload_offset found.payload_length frame.payload
+  pub placed : IsPlaced bytes found frame
   pub fields : Header
   pub reads : read_header item_words frame.header ≡ Some fields
   pub kind : found.kind ≡ fields.kind

@@ -1,7 +1,10 @@
 -- The statuses of errors.
-use Rattle.std.specs.Prelude.{ℤ, pos}
+use Rattle.std.specs.Prelude.{◌≡◌, ℕ, ℤ, pos, List}
 use Rattle.sentry_framing.specs.declared.error.EnvelopeError.{EnvelopeError}
 use Rattle.sentry_framing.specs.declared.error.EnvelopeError.TheVariants as refusals
+use Rattle.sentry_keys.specs.Auth.{HasNoKey, HasUnreadableVersion}
+use Rattle.sentry_keys.specs.AuthText.{IsSentry, header_pairs}
+use Rattle.sentry_keys.specs.Dsn.{IsRefused, UnlessMemory}
 use Rattle.sentry_keys.specs.declared.auth.ParseAuthError.{ParseAuthError}
 use Rattle.sentry_keys.specs.declared.auth.ParseAuthError.TheVariants as auth
 use Rattle.sentry_keys.specs.declared.dsn_error.ParseDsnError.{ParseDsnError}
@@ -33,3 +36,22 @@ auth_status auth.NonSentryAuth = pos 30
 auth_status auth.InvalidVersion = pos 31
 auth_status auth.MissingPublicKey = pos 32
 auth_status auth.Memory = pos 17
+
+-- The status is that of an error that refuses the text as a DSN.
+pub record IsDsnRefusal (text : List ℕ) (status : ℤ) : Type 0 where
+  pub error : ParseDsnError
+  pub status_is : status ≡ dsn_status error
+  pub refused : UnlessMemory error (IsRefused text error)
+
+-- what is refused as a header, by the error
+abbrev pub RefusesHeader : List ℕ → ParseAuthError → Type 0
+RefusesHeader text auth.NonSentryAuth = IsSentry text → ⊥
+RefusesHeader text auth.InvalidVersion = IsSentry text × HasUnreadableVersion (header_pairs text)
+RefusesHeader text auth.MissingPublicKey = IsSentry text × HasNoKey (header_pairs text)
+RefusesHeader text auth.Memory = Unit {0}
+
+-- The status is that of an error that refuses the text as a header.
+pub record IsAuthRefusal (text : List ℕ) (status : ℤ) : Type 0 where
+  pub error : ParseAuthError
+  pub status_is : status ≡ auth_status error
+  pub refused : RefusesHeader text error

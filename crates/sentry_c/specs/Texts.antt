@@ -1,11 +1,10 @@
 -- The parts of small texts as places in their printed form.
-use Rattle.std.specs.Prelude.{◌≡◌, ℕ, List, [], Option, Some, None, unwrap_or}
-use Rattle.sentry_keys.specs.Auth.{Parts, Time}
-use Rattle.sentry_keys.specs.AuthText.{auth_text}
-use Rattle.sentry_keys.specs.Dsn.{DsnParts, dsn_text, port_of}
+use Rattle.std.specs.Prelude.{◌≡◌, ◌⊎◌, ℕ, ◌+◌, ◌-◌, List, [], length, Option, Some, None, unwrap_or}
+use Rattle.sentry_keys.specs.Auth.{IsAuth, Parts, Time}
+use Rattle.sentry_keys.specs.AuthText.{IsSentry, auth_text, header_pairs}
+use Rattle.sentry_keys.specs.Dsn.{DsnParts, IsDsnText, dsn_text, port_of}
 use Rattle.sentry_keys.specs.DsnOrganization.{NamesOrganization}
-use Rattle.sentry_keys.specs.declared.scheme.Scheme.{Scheme}
-use Rattle.sentry_keys.specs.declared.scheme.Scheme.TheVariants.{Http, Https}
+use Rattle.sentry_keys.specs.DsnScheme.{scheme_index}
 use Rattle.sentry_c.specs.Places.{Stands}
 use Rattle.sentry_c.specs.declared.texts.SentryAuth.{SentryAuth}
 use Rattle.sentry_c.specs.declared.texts.SentryDsn.{SentryDsn}
@@ -20,14 +19,21 @@ abbrev pub IsOptionalAt : List ℕ → SentryPlace → ℕ → Option (List ℕ)
 IsOptionalAt text place flag None = (place.offset ≡ 0) × (place.length ≡ 0) × (flag ≡ 0)
 IsOptionalAt text place flag (Some part) = IsAt text place part × (flag ≡ 1)
 
-abbrev pub scheme_flag : Scheme → ℕ
-scheme_flag Http = 0
-scheme_flag Https = 1
+-- how many bytes a label and an optional part take
+abbrev pub optional_len : ℕ → Option (List ℕ) → ℕ
+optional_len label None = 0
+optional_len label (Some part) = label + length part
 
--- the id and the flag of an organization that a host names, if it names one
+-- an optional part at the end of a text of so many bytes: without one the place is empty, and the flag 0
+abbrev pub IsOptionalEnd : ℕ → SentryPlace → ℕ → Option (List ℕ) → Type 0
+IsOptionalEnd total place flag None = (place.offset ≡ 0) × (place.length ≡ 0) × (flag ≡ 0)
+IsOptionalEnd total place flag (Some part) = (place.offset ≡ total - length part) × (place.length ≡ length part) × (flag ≡ 1)
+
+-- ---- DSNs
+
+-- the id of the organization that a host names and the flag 1; without one both are 0
 abbrev pub IsOrganization : List ℕ → ℕ → ℕ → Type 0
-IsOrganization host id 0 = (id ≡ 0) × ((n : ℕ) → NamesOrganization host n → ⊥)
-IsOrganization host id flag = (flag ≡ 1) × NamesOrganization host id
+IsOrganization host id flag = ((flag ≡ 1) × NamesOrganization host id) ⊎ ((flag ≡ 0) × (id ≡ 0) × ((n : ℕ) → NamesOrganization host n → ⊥))
 
 -- each part of a DSN stands at its place in the printed form
 pub record ShowsDsn (shown : SentryDsn) (d : DsnParts) : Type 0 where
@@ -37,9 +43,25 @@ pub record ShowsDsn (shown : SentryDsn) (d : DsnParts) : Type 0 where
   pub path : IsAt (dsn_text d) shown.path d.path
   pub project : IsAt (dsn_text d) shown.project_id d.project
   pub port : shown.port ≡ port_of d
-  pub scheme : shown.is_https ≡ scheme_flag d.scheme
+  pub scheme : shown.is_https ≡ scheme_index d.scheme
+  pub organization : IsOrganization d.host shown.org_id shown.has_org_id
 
--- the numbers and the flag of a timestamp
+-- the printed form of the DSN that a text spells
+pub record IsDsnPrinted (given printed : List ℕ) : Type 0 where
+  pub parts : DsnParts
+  pub is : IsDsnText given parts
+  pub printed_is : printed ≡ dsn_text parts
+
+-- the same, and these are its parts
+pub record IsDsnAt (given : List ℕ) (shown : SentryDsn) (printed : List ℕ) : Type 0 where
+  pub parts : DsnParts
+  pub is : IsDsnText given parts
+  pub printed_is : printed ≡ dsn_text parts
+  pub shows : ShowsDsn shown parts
+
+-- ---- authentication
+
+-- the numbers of a timestamp and the flag 1; without one all are 0
 abbrev pub IsTimestamp : ℕ → ℕ → ℕ → Option Time → Type 0
 IsTimestamp secs nanos flag None = (secs ≡ 0) × (nanos ≡ 0) × (flag ≡ 0)
 IsTimestamp secs nanos flag (Some time) = (secs ≡ time.0) × (nanos ≡ time.1) × (flag ≡ 1)
@@ -51,3 +73,20 @@ pub record ShowsAuth (shown : SentryAuth) (parts : Parts) : Type 0 where
   pub client : IsOptionalAt (auth_text parts) shown.client shown.has_client parts.client
   pub timestamp : IsTimestamp shown.timestamp_secs shown.timestamp_nanos shown.has_timestamp parts.timestamp
   pub version : shown.version ≡ parts.version
+
+-- a header tells these parts
+abbrev pub IsHeader : List ℕ → Parts → Type 0
+IsHeader given parts = IsSentry given × IsAuth (header_pairs given) parts
+
+-- the printed form of the authentication that a header tells
+pub record IsAuthPrinted (given printed : List ℕ) : Type 0 where
+  pub parts : Parts
+  pub is : IsHeader given parts
+  pub printed_is : printed ≡ auth_text parts
+
+-- the same, and these are its parts
+pub record IsAuthAt (given : List ℕ) (shown : SentryAuth) (printed : List ℕ) : Type 0 where
+  pub parts : Parts
+  pub is : IsHeader given parts
+  pub printed_is : printed ≡ auth_text parts
+  pub shows : ShowsAuth shown parts

@@ -1,7 +1,18 @@
 //! The items of an envelope, as places in its bytes.
 
+ghost use Rattle.std.specs.Prelude.{◌≡◌, ◌≢◌, ◌⊎◌, ◌+◌, ◌≤◌, ◌++◌, ◌∷◌, [], ℕ, List, IfSome, false, length, min};
+ghost use Rattle.sentry_framing.specs.Framing.{IsBlank, IsFault, IsFirstFrame, is_space};
+ghost use Rattle.sentry_framing.specs.ItemHeader.{stated_length};
+ghost use Rattle.sentry_framing.specs.ItemWords.{item_words, kind_place};
+ghost use Rattle.sentry_framing.specs.View.{frame_of};
+ghost use Rattle.sentry_framing.specs.declared.error.EnvelopeError.{EnvelopeError as Refusal};
+ghost use Rattle.sentry_framing.specs.declared.error.EnvelopeError.TheVariants as refusals;
+ghost use Rattle.sentry_c.specs.Frames.{BodyFrom, FindsFrame, IsPlaced};
+ghost use Rattle.sentry_c.specs.Places.{EndsWith};
+ghost use Rattle.sentry_c.specs.Statuses.{refusal_status};
+
 use crate::status::{INVALID_ARGUMENT, NOTHING_LEFT, OK, of_refusal};
-use sentry_types::protocol::v7::{Frames, ItemFrame, ItemHeader, ItemKind};
+use sentry_types::protocol::v7::{Frames, ItemFrame, ItemKind};
 use std::alloc::Global;
 
 /// An item of an envelope: places of its header and its payload in the bytes, and its type.
@@ -20,7 +31,9 @@ pub struct SentryFrame {
     pub kind: u32,
 }
 
-fn number_of(kind: ItemKind) -> u32 {
+fn number_of(kind: ItemKind) -> u32
+    ensures { result ≡ kind_place kind }
+{
     match kind {
         ItemKind::Event => 0,
         ItemKind::SessionUpdate => 1,
@@ -36,59 +49,104 @@ fn number_of(kind: ItemKind) -> u32 {
     }
 }
 
-// The reader of the items from an offset on. Past the header line an item is begun by the line
-// feed before it, after which `Frames` finds an empty header line.
-fn frames_from(bytes: &[u8], offset: usize) -> Option<Frames<'_>> {
+// Returns a reader of the items from an offset on; `None` if no item can begin there. Past the
+// header line an item follows a line feed: from that line feed on, `Frames` finds an empty header
+// line before the items.
+fn frames_from(bytes: &[u8], offset: usize) -> Option<Frames<'_>>
+    ensures { IfSome result (λ frames. BodyFrom bytes.now offset frames.rest) }
+{
     if offset == 0 {
         return Some(Frames::new(bytes));
     }
     if offset == bytes.len() {
         return Some(Frames::new(&[]));
     }
-    match bytes.get(offset - 1..) {
-        Some(from) if from[0] == b'\n' => Some(Frames::new(from)),
+    let from = bytes.get(offset - 1..)?;
+    match from.split_first() {
+        Some((b'\n', _)) => Some(Frames::new(from)),
         _ => None,
     }
 }
 
-// The number of white space bytes at the front.
-fn space_len(bytes: &[u8]) -> usize {
-    bytes
-        .iter()
-        .position(|byte| !matches!(*byte, b' ' | b'\t' | b'\n' | b'\r'))
-        .unwrap_or(bytes.len())
+fn is_space(byte: u8) -> bool
+    ensures { result ≡ is_space byte }
+{
+    matches!(byte, b' ' | b'\t' | b'\n' | b'\r')
 }
 
-// The places of a frame in `bytes`, if it is the first of the body that begins at `start`.
-fn placed(bytes: &[u8], start: usize, item: &ItemFrame<'_>, kind: ItemKind) -> SentryFrame {
-    let header_offset = start + space_len(&bytes[start..]);
+// Returns the bytes after the white space at the front.
+fn skip_space(bytes: &[u8]) -> &[u8]
+    ensures skipped { (space : List ℕ) × IsBlank space × (bytes.now ≡ space ++ result.now) }
+    ensures all { (b : ℕ) (more : List ℕ) → result.now ≡ b ∷ more → is_space b ≡ false }
+{
+    for (i, byte) in bytes.iter().enumerate() {
+        if !is_space(*byte) {
+            return &bytes[i..];
+        }
+    }
+    &[]
+}
+
+// Returns where the payload begins: after the line feed that ends the header's line, if any.
+fn payload_offset(bytes: &[u8], header_end: usize) -> usize
+    requires { header_end ≤ length bytes.now }
+    ensures { result ≡ min (header_end + 1) (length bytes.now) }
+{
+    if header_end < bytes.len() {
+        header_end + 1
+    } else {
+        header_end
+    }
+}
+
+// Returns the places of the first frame of a body, with which the bytes end.
+fn placed(bytes: &[u8], body: &[u8], item: &ItemFrame<'_>, kind: ItemKind) -> SentryFrame
+    requires ends { EndsWith bytes.now body.now }
+    requires first { (rest : List ℕ) ×
+        IsFirstFrame (stated_length item_words) body.now (frame_of item.now) rest }
+    ensures placed { IsPlaced bytes.now result (frame_of item.now) }
+    ensures kind { result.kind ≡ kind_place kind }
+{
+    let front = skip_space(body);
+    let header_offset = bytes.len() - front.len();
     let header_end = header_offset + item.header.len();
-    // A line feed follows the header, or nothing.
-    let payload_offset = (header_end + 1).min(bytes.len());
     SentryFrame {
         header_offset: header_offset as u64,
         header_length: item.header.len() as u64,
-        payload_offset: payload_offset as u64,
+        payload_offset: payload_offset(bytes, header_end) as u64,
         payload_length: item.payload.len() as u64,
         kind: number_of(kind),
     }
 }
 
 /// Finds the next item of an envelope.
+///
+/// `offset` is 0 at first, which skips the header line, and then what the last call has set. The
+/// header line and payloads aren't parsed.
 #[unsafe(no_mangle)]
 pub extern "C" fn sentry_frames_next(
     alloc: Global,
     bytes: &[u8],
     offset: &mut u64,
     frame: &mut SentryFrame,
-) -> i32 {
+) -> i32
+    ensures found { result ≡ OK → FindsFrame bytes.now offset.old frame.new offset.new }
+    ensures nothing { result ≡ NOTHING_LEFT → BodyFrom bytes.now offset.old [] }
+    ensures fault { (x : Refusal) → result ≡ refusal_status x → x ≢ refusals.OutOfMemory →
+        ((body : List ℕ) × BodyFrom bytes.now offset.old body × IsFault
+        (stated_length item_words) body x) }
+    ensures offset_unchanged { result ≢ OK → offset.new ≡ offset.old }
+    ensures frame_unchanged { result ≢ OK → frame.new ≡ frame.old }
+    ensures answers { (result ≡ OK) ⊎ ((result ≡ NOTHING_LEFT) ⊎ ((result ≡ INVALID_ARGUMENT)
+        ⊎ ((x : Refusal) × (result ≡ refusal_status x)))) }
+{
     let Some(mut frames) = frames_from(bytes, *offset as usize) else {
         return INVALID_ARGUMENT;
     };
-    let start = bytes.len() - frames.rest().len();
+    let body = frames.rest();
     match frames.next_item(alloc) {
         Some(Ok((item, header))) => {
-            *frame = placed(bytes, start, &item, header.kind);
+            *frame = placed(bytes, body, &item, header.kind);
             *offset = (bytes.len() - frames.rest().len()) as u64;
             OK
         }

@@ -1,27 +1,67 @@
 //! A ledger of losses in the caller's memory.
 
+ghost use Rattle.std.specs.Prelude.{◌≡◌, ◌≢◌, ◌⊎◌, ◌+◌, ◌-◌, ◌^◌, ◌<◌, ◌≤◌, ◌++◌, ◌↔◌, ℕ, List, EachIndex, IfSome, IfNone, IfOk, IsTrue, OnOk, length, replicate, slice_get, slice_index, slice_set};
+ghost use Rattle.std.specs.List.{flat_map};
+ghost use Rattle.sentry_reports.specs.Categories.{categories, reasons};
+ghost use Rattle.sentry_reports.specs.ReportSums.{pair_place};
+ghost use Rattle.sentry_reports.specs.declared.category.Category.{Category as Categories};
+ghost use Rattle.sentry_reports.specs.declared.reason.Reason.{Reason as Reasons};
+ghost use Rattle.sentry_ledger.specs.Held.{HoldsNothing, items_held, items_of_category, items_of_pair};
+ghost use Rattle.sentry_tables.specs.Cell.{moment};
+ghost use Rattle.sentry_c.specs.Output.{IsTooLong, Puts};
+ghost use Rattle.sentry_c.specs.Sums.{HasPair, IsPair, IsReportText, held_in};
+
 use crate::envelope::text_of;
 use crate::output::deliver;
-use crate::status::{INVALID_ARGUMENT, LEDGER_FULL, NO_MOMENT, NOTHING_LEFT, OK, OUT_OF_MEMORY};
+use crate::status::{
+    INVALID_ARGUMENT, LEDGER_FULL, NO_MOMENT, NO_ROOM, NOTHING_LEFT, OK, OUT_OF_MEMORY,
+};
 use sentry_reports::kept_sums::{SUMS, pair_place};
 use sentry_types::IndexedEnum;
 use sentry_types::protocol::v7::client_report::{Category, Item, Reason, Report};
 use sentry_types::protocol::v7::{Envelope, EnvelopeItem, Moment};
 use std::alloc::{AllocError, Global};
 
-// The index of the sum of a category and a reason by their numbers.
-fn place_of(category: u32, reason: u32) -> Option<usize> {
-    let category = Category::VARIANTS.get(category as usize)?;
-    let reason = Reason::VARIANTS.get(reason as usize)?;
-    Some(pair_place(*category, *reason))
+fn category_of(number: u32) -> Option<Category>
+    ensures { result ≡ slice_get categories number }
+{
+    let variants = Category::VARIANTS;
+    let place = number as usize;
+    if place < variants.len() {
+        Some(variants[place])
+    } else {
+        None
+    }
 }
 
-// The same in a ledger of the right length.
-fn place_in(ledger: &[u64], category: u32, reason: u32) -> Option<usize> {
+fn reason_of(number: u32) -> Option<Reason>
+    ensures { result ≡ slice_get reasons number }
+{
+    let variants = Reason::VARIANTS;
+    let place = number as usize;
+    if place < variants.len() {
+        Some(variants[place])
+    } else {
+        None
+    }
+}
+
+// Returns the index of the sum of a category and a reason, by their numbers, in a ledger of the
+// right length.
+#[tactic(auto, using(crate::proofs::Rows::category_number, crate::proofs::Rows::reason_number, crate::proofs::Rows::number_of_category, crate::proofs::Rows::number_of_reason))]
+fn place_in(ledger: &[u64], category: u32, reason: u32) -> Option<usize>
+    ensures found { IfSome result (λ place. (c : Categories) × (r : Reasons) ×
+        IsPair category reason c r × (place ≡ pair_place c r)) }
+    ensures long { IfSome result (λ place. length ledger.now ≡ 108) }
+    ensures within { IfSome result (λ place. place < length ledger.now) }
+    ensures none { IfNone result ((length ledger.now ≢ 108) ⊎ ¬ HasPair category reason) }
+{
     if ledger.len() != SUMS {
         return None;
     }
-    place_of(category, reason)
+    let category = category_of(category)?;
+    let reason = reason_of(reason)?;
+    Some(pair_place(category, reason))
 }
 
 /// Adds a loss to a ledger.
@@ -31,7 +71,20 @@ pub extern "C" fn sentry_ledger_record(
     category: u32,
     reason: u32,
     quantity: u64,
-) -> i32 {
+) -> i32
+    ensures recorded { result ≡ OK → (c : Categories) (r : Reasons) → IsPair category reason c r →
+        ledger.new ≡ slice_set ledger.old (pair_place c r) (held_in ledger.old c r + quantity) }
+    ensures room { result ≡ OK → (c : Categories) (r : Reasons) → IsPair category reason c r →
+        held_in ledger.old c r + quantity ≤ 2 ^ 64 - 1 }
+    ensures full { result ≡ LEDGER_FULL → (c : Categories) (r : Reasons) →
+        IsPair category reason c r → 2 ^ 64 - 1 < held_in ledger.old c r + quantity }
+    ensures argument { result ≡ INVALID_ARGUMENT → (length ledger.old ≢ 108) ⊎
+        ¬ HasPair category reason }
+    ensures pair { result ≢ INVALID_ARGUMENT → HasPair category reason }
+    ensures long { result ≢ INVALID_ARGUMENT → length ledger.old ≡ 108 }
+    ensures unchanged { result ≢ OK → ledger.new ≡ ledger.old }
+    ensures answers { (result ≡ OK) ⊎ ((result ≡ LEDGER_FULL) ⊎ (result ≡ INVALID_ARGUMENT)) }
+{
     let Some(place) = place_in(ledger, category, reason) else {
         return INVALID_ARGUMENT;
     };
@@ -51,7 +104,16 @@ pub extern "C" fn sentry_ledger_held(
     category: u32,
     reason: u32,
     quantity: &mut u64,
-) -> i32 {
+) -> i32
+    ensures held { result ≡ OK → (c : Categories) (r : Reasons) → IsPair category reason c r →
+        quantity.new ≡ held_in ledger.now c r }
+    ensures argument { result ≡ INVALID_ARGUMENT → (length ledger.now ≢ 108) ⊎
+        ¬ HasPair category reason }
+    ensures pair { result ≡ OK → HasPair category reason }
+    ensures long { result ≡ OK → length ledger.now ≡ 108 }
+    ensures unchanged { result ≢ OK → quantity.new ≡ quantity.old }
+    ensures answers { (result ≡ OK) ⊎ (result ≡ INVALID_ARGUMENT) }
+{
     let Some(place) = place_in(ledger, category, reason) else {
         return INVALID_ARGUMENT;
     };
@@ -59,7 +121,10 @@ pub extern "C" fn sentry_ledger_held(
     OK
 }
 
-fn holds_nothing(ledger: &[u64]) -> bool {
+fn holds_nothing(ledger: &[u64]) -> bool
+    requires { length ledger.now ≡ 108 }
+    ensures { IsTrue result ↔ HoldsNothing (held_in ledger.now) }
+{
     ledger.iter().all(|quantity| *quantity == 0)
 }
 
@@ -69,7 +134,11 @@ fn push_pair(
     ledger: &[u64],
     category: Category,
     reason: Reason,
-) -> Result<(), AllocError> {
+) -> Result<(), AllocError>
+    requires { length ledger.now ≡ 108 }
+    ensures { OnOk result (items.new.items ≡ items.old.items
+        ++ items_of_pair (held_in ledger.now) category reason) }
+{
     let quantity = ledger[pair_place(category, reason)];
     if quantity != 0 {
         items.push(Item::new(category, reason, quantity))?;
@@ -77,27 +146,66 @@ fn push_pair(
     Ok(())
 }
 
-fn push_category(
+fn push_reasons(
     items: &mut Vec<Item>,
     ledger: &[u64],
     category: Category,
-) -> Result<(), AllocError> {
-    for reason in Reason::VARIANTS {
+    reasons: &[Reason],
+) -> Result<(), AllocError>
+    requires { length ledger.now ≡ 108 }
+    ensures { OnOk result (items.new.items ≡ items.old.items
+        ++ flat_map (items_of_pair (held_in ledger.now) category) reasons.now) }
+{
+    for reason in reasons {
         push_pair(items, ledger, category, *reason)?;
     }
     Ok(())
 }
 
-fn report_items(alloc: Global, ledger: &[u64]) -> Result<Vec<Item>, AllocError> {
-    let mut items = Vec::new(alloc);
-    for category in Category::VARIANTS {
-        push_category(&mut items, ledger, *category)?;
+#[tactic(auto, unfolding(sentry_ledger::specs::Held::items_of_category))]
+fn push_category(
+    items: &mut Vec<Item>,
+    ledger: &[u64],
+    category: Category,
+) -> Result<(), AllocError>
+    requires { length ledger.now ≡ 108 }
+    ensures { OnOk result (items.new.items ≡ items.old.items
+        ++ items_of_category (held_in ledger.now) category) }
+{
+    push_reasons(items, ledger, category, Reason::VARIANTS)
+}
+
+fn push_categories(
+    items: &mut Vec<Item>,
+    ledger: &[u64],
+    categories: &[Category],
+) -> Result<(), AllocError>
+    requires { length ledger.now ≡ 108 }
+    ensures { OnOk result (items.new.items ≡ items.old.items
+        ++ flat_map (items_of_category (held_in ledger.now)) categories.now) }
+{
+    for category in categories {
+        push_category(items, ledger, *category)?;
     }
+    Ok(())
+}
+
+#[tactic(auto, unfolding(sentry_ledger::specs::Held::items_held))]
+fn report_items(alloc: Global, ledger: &[u64]) -> Result<Vec<Item>, AllocError>
+    requires { length ledger.now ≡ 108 }
+    ensures { IfOk result (λ items. items.items ≡ items_held (held_in ledger.now)) }
+{
+    let mut items = Vec::new(alloc);
+    push_categories(&mut items, ledger, Category::VARIANTS)?;
     Ok(items)
 }
 
-// The text of an envelope whose one item is the report of a ledger.
-fn report_text(alloc: Global, ledger: &[u64], now: Moment) -> Result<Vec<u8>, AllocError> {
+// Returns the text of an envelope whose one item is the report of a ledger.
+fn report_text(alloc: Global, ledger: &[u64], now: Moment) -> Result<Vec<u8>, AllocError>
+    requires { length ledger.now ≡ 108 }
+    ensures { IfOk result (λ text.
+        IsReportText (held_in ledger.now) now.secs now.nanos text.items) }
+{
     let report = Report::new(now, report_items(alloc, ledger)?);
     match Envelope::from_item(alloc, EnvelopeItem::ClientReport(report)) {
         Ok(envelope) => text_of(alloc, &envelope),
@@ -114,7 +222,20 @@ pub extern "C" fn sentry_ledger_flush(
     now_nanos: u32,
     out: &mut [u8],
     needed: &mut u64,
-) -> i32 {
+) -> i32
+    ensures written { result ≡ OK → Puts (IsReportText (held_in ledger.old) now_secs now_nanos)
+        out.old out.new needed.new }
+    ensures emptied { result ≡ OK → ledger.new ≡ replicate 108 0 }
+    ensures no_room { result ≡ NO_ROOM →
+        IsTooLong (IsReportText (held_in ledger.old) now_secs now_nanos) out.old needed.new }
+    ensures nothing { result ≡ NOTHING_LEFT → HoldsNothing (held_in ledger.old) }
+    ensures something { (result ≡ OK) ⊎ (result ≡ NO_ROOM) → ¬ HoldsNothing (held_in ledger.old) }
+    ensures moment { result ≡ NO_MOMENT → (now_secs ≤ 253_402_300_799) × (now_nanos < 10 ^ 9) → ⊥ }
+    ensures argument { result ≡ INVALID_ARGUMENT → length ledger.old ≢ 108 }
+    ensures unchanged { result ≢ OK → ledger.new ≡ ledger.old }
+    ensures out_unchanged { result ≢ OK → out.new ≡ out.old }
+    ensures no_text { result ≢ OK → result ≢ NO_ROOM → needed.new ≡ 0 }
+{
     *needed = 0;
     if ledger.len() != SUMS {
         return INVALID_ARGUMENT;

@@ -1,7 +1,8 @@
 //! The statuses that exported functions return.
 
-ghost use Rattle.std.specs.Prelude.{◌≡◌};
+ghost use Rattle.std.specs.Prelude.{◌≡◌, ◌≢◌, pos};
 ghost use Rattle.sentry_c.specs.Statuses.{auth_status, dsn_status, refusal_status};
+ghost use Rattle.sentry_framing.specs.declared.error.EnvelopeError.{EnvelopeError as Refusal};
 
 use sentry_types::protocol::v7::EnvelopeError;
 use sentry_types::{ParseAuthError, ParseDsnError};
@@ -27,7 +28,13 @@ pub const OUT_OF_MEMORY: i32 = 17;
 
 /// Returns the status of a refused envelope: ten and the place of the error among its variants.
 pub fn of_refusal(error: &EnvelopeError) -> i32
-    ensures { result ≡ refusal_status error.now }
+    ensures status { result ≡ refusal_status error.now }
+    ensures only { (x : Refusal) → result ≡ refusal_status x → x ≡ error.now }
+    ensures not_ok { result ≢ OK }
+    ensures not_room { result ≢ NO_ROOM }
+    ensures not_moment { result ≢ NO_MOMENT }
+    ensures not_argument { result ≢ INVALID_ARGUMENT }
+    ensures not_left { result ≢ NOTHING_LEFT }
 {
     match error {
         EnvelopeError::UnexpectedEof => 10,
@@ -43,7 +50,10 @@ pub fn of_refusal(error: &EnvelopeError) -> i32
 
 /// Returns the status of a refused DSN.
 pub fn of_dsn_error(error: &ParseDsnError) -> i32
-    ensures { result ≡ dsn_status error.now }
+    ensures status { result ≡ dsn_status error.now }
+    ensures not_ok { result ≢ OK }
+    ensures not_room { result ≢ NO_ROOM }
+    ensures not_utf8 { result ≢ NOT_UTF8 }
 {
     match error {
         ParseDsnError::InvalidUrl => 20,
@@ -57,7 +67,10 @@ pub fn of_dsn_error(error: &ParseDsnError) -> i32
 
 /// Returns the status of refused client authentication.
 pub fn of_auth_error(error: ParseAuthError) -> i32
-    ensures { result ≡ auth_status error }
+    ensures status { result ≡ auth_status error }
+    ensures not_ok { result ≢ OK }
+    ensures not_room { result ≢ NO_ROOM }
+    ensures not_utf8 { result ≢ NOT_UTF8 }
 {
     match error {
         ParseAuthError::NonSentryAuth => 30,
