@@ -1,3 +1,4 @@
 pub mod Statuses
 pub mod Placed
 pub mod Rows
+pub mod Parts

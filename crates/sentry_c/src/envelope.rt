@@ -3,7 +3,7 @@
 use crate::filter::{KindFilter, are_kinds};
 use crate::losses::SUMS;
 use crate::output::deliver;
-use crate::status::{INVALID_ARGUMENT, NO_MOMENT, NOTHING_LEFT, OK, of_refusal};
+use crate::status::{INVALID_ARGUMENT, NO_MOMENT, NO_ROOM, NOTHING_LEFT, OK, of_refusal};
 use rand_core::SeedableRng;
 use rand_pcg::Pcg32;
 use sentry_types::protocol::v7::{Envelope, EnvelopeError, EnvelopeWriteError, Moment};
@@ -49,7 +49,8 @@ pub extern "C" fn sentry_envelope_normalize(
         return NO_MOMENT;
     };
     match normal_form(alloc, bytes, now, seed) {
-        Ok(text) => deliver(&text, out, needed),
+        Ok(text) if deliver(&text, out, needed) => OK,
+        Ok(_) => NO_ROOM,
         Err(error) => of_refusal(&error),
     }
 }
@@ -132,7 +133,8 @@ pub extern "C" fn sentry_envelope_filter(
         Ok(left) => {
             losses.copy_from_slice(filter.sums());
             match left {
-                Some(text) => deliver(&text, out, needed),
+                Some(text) if deliver(&text, out, needed) => OK,
+                Some(_) => NO_ROOM,
                 None => NOTHING_LEFT,
             }
         }

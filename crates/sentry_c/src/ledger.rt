@@ -249,9 +249,9 @@ pub extern "C" fn sentry_ledger_flush(
     let Ok(text) = report_text(alloc, ledger, now) else {
         return OUT_OF_MEMORY;
     };
-    let status = deliver(&text, out, needed);
-    if status == OK {
-        ledger.fill(0);
+    if !deliver(&text, out, needed) {
+        return NO_ROOM;
     }
-    status
+    ledger.fill(0);
+    OK
 }

@@ -18,7 +18,7 @@ use crate::status::{
     INVALID_TEXT, NO_MOMENT, NO_ROOM, NOT_UTF8, OK, OUT_OF_MEMORY, of_auth_error, of_dsn_error,
 };
 use sentry_types::protocol::v7::{Moment, validate};
-use sentry_types::{Auth, Dsn, ParseAuthError, ParseDsnError, Scheme};
+use sentry_types::{Auth, Dsn, Scheme};
 use std::alloc::Global;
 use std::str;
 
@@ -181,13 +181,13 @@ pub extern "C" fn sentry_dsn_parse(
         Err(error) => return of_dsn_error(&error),
     };
     let Ok(printed) = dsn.to_string(alloc) else {
-        return of_dsn_error(&ParseDsnError::Memory);
+        return OUT_OF_MEMORY;
     };
-    let status = deliver(printed.as_bytes(), out, needed);
-    if status == OK {
-        *parts = parts_of_dsn(&dsn, printed.len());
+    if !deliver(printed.as_bytes(), out, needed) {
+        return NO_ROOM;
     }
-    status
+    *parts = parts_of_dsn(&dsn, printed.len());
+    OK
 }
 
 // Length of `Sentry sentry_key=`.
@@ -207,7 +207,7 @@ struct LastPart {
 }
 
 fn last_part(part: Option<&str>, total: usize) -> LastPart
-    requires { optional_len 16 (option_copied part.entry) ≤ total }
+    requires { optional_len 16 (option_copied part) ≤ total }
     ensures before { result.before ≡ total - optional_len 16 (option_copied part.entry) }
     ensures shown { IsOptionalEnd total result.place result.flag (option_copied part.entry) }
 {
@@ -288,13 +288,13 @@ pub extern "C" fn sentry_auth_parse(
         Err(error) => return of_auth_error(error),
     };
     let Ok(printed) = auth.to_string(alloc) else {
-        return of_auth_error(ParseAuthError::Memory);
+        return OUT_OF_MEMORY;
     };
-    let status = deliver(printed.as_bytes(), out, needed);
-    if status == OK {
-        *parts = parts_of_auth(&auth, printed.len());
+    if !deliver(printed.as_bytes(), out, needed) {
+        return NO_ROOM;
     }
-    status
+    *parts = parts_of_auth(&auth, printed.len());
+    OK
 }
 
 /// Parses an RFC 3339 timestamp.
@@ -344,7 +344,8 @@ pub extern "C" fn sentry_rfc3339_format(
         return NO_MOMENT;
     };
     match moment.to_rfc3339(alloc) {
-        Ok(text) => deliver(text.as_bytes(), out, needed),
+        Ok(text) if deliver(text.as_bytes(), out, needed) => OK,
+        Ok(_) => NO_ROOM,
         Err(_) => OUT_OF_MEMORY,
     }
 }
