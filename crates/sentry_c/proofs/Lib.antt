@@ -2,3 +2,6 @@ pub mod Statuses
 pub mod Placed
 pub mod Rows
 pub mod Parts
+pub mod Envelopes
+pub mod SumsOfLosses
+pub mod Filtering

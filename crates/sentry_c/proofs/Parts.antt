@@ -74,7 +74,8 @@ module _ (d : DsnParts) where
     length-append (codes "@") after_at,
     length-append d.host after_host,
     length-append (port_text d.port) after_port,
-    length-append d.path d.project)
+    length-append d.path d.project,
+  )
 
   past_scheme : (offset count : ℕ) (part : List ℕ) → Stands (d.key ++ after_key) offset count part → Stands (dsn_text d) (length (scheme_text d.scheme) + (3 + offset)) count part
   past_scheme offset count part stands = further (scheme_text d.scheme) after_scheme _ count part (further (codes "://") (d.key ++ after_key) offset count part stands)
@@ -120,22 +121,27 @@ part_at before name after None total place flag long (a, b, c) = (a, b, c)
 part_at before name after (Some part) total place flag long (a, b, c) =
     let label : List ℕ = codes ", " ++ (name ++ codes "=") in
     let split : part_text name (Some part) ++ after ≡ label ++ (part ++ after) =
-        append_assoc (codes ", ") (name ++ (codes "=" ++ part)) after ∙ (ap (λ x. codes ", " ++ x) (append_assoc name (codes "=" ++ part) after ∙ ap (λ x. name ++ x) (append_assoc (codes "=") part after))
-        ∙ sym (append_assoc (codes ", ") (name ++ codes "=") (part ++ after) ∙ ap (λ x. codes ", " ++ x) (append_assoc name (codes "=") (part ++ after)))) in
-    (record {
-      before = before ++ label;
-      after = after;
-      split = ap (λ x. before ++ x) split ∙ sym (append_assoc before label (part ++ after));
-      offset_is = omega (
-        arith, a, long,
-        length-append before label,
-        length-append (codes ", ") (name ++ codes "="),
-        length-append name (codes "="),
-        length-append (codes ", ") (name ++ (codes "=" ++ part)),
-        length-append name (codes "=" ++ part),
-        length-append (codes "=") part);
-      count_is = b;
-    }, c)
+    append_assoc (codes ", ") (name ++ (codes "=" ++ part)) after ∙ (ap (λ x. codes ", " ++ x) (append_assoc name (codes "=" ++ part) after ∙ ap (λ x. name ++ x) (append_assoc (codes "=") part after))
+    ∙ sym (append_assoc (codes ", ") (name ++ codes "=") (part ++ after) ∙ ap (λ x. codes ", " ++ x) (append_assoc name (codes "=") (part ++ after)))) in (
+      record {
+        before = before ++ label;
+        after = after;
+        split = ap (λ x. before ++ x) split ∙ sym (append_assoc before label (part ++ after));
+        offset_is = omega (
+          arith,
+          a,
+          long,
+          length-append before label,
+          length-append (codes ", ") (name ++ codes "="),
+          length-append name (codes "="),
+          length-append (codes ", ") (name ++ (codes "=" ++ part)),
+          length-append name (codes "=" ++ part),
+          length-append (codes "=") part,
+        );
+        count_is = b;
+      },
+      c,
+    )
 
 module _ (parts : Parts) where
   abbrev secret_part : List ℕ
@@ -175,7 +181,7 @@ module _ (parts : Parts) where
       → IsOptionalAt (auth_text parts) place flag parts.secret
   auth_secret_at total part place flag whole is end =
       let split : auth_text parts ≡ (front ++ client_part) ++ (secret_part ++ []) =
-          text_is ∙ (sym (append_assoc front client_part secret_part) ∙ ap (λ x. (front ++ client_part) ++ x) (sym (append-nil secret_part))) in
+      text_is ∙ (sym (append_assoc front client_part secret_part) ∙ ap (λ x. (front ++ client_part) ++ x) (sym (append-nil secret_part))) in
       let length_is : total ≡ length (front ++ client_part) + length secret_part = whole ∙ (long ∙ ap (λ n. n + length secret_part) (sym (length-append front client_part))) in
       subst (λ text. IsOptionalAt text place flag parts.secret) (sym split)
       (part_at (front ++ client_part) secret_key [] parts.secret total place flag length_is (subst (IsOptionalEnd total place flag) is end))

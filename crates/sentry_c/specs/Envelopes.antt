@@ -10,6 +10,10 @@ use Rattle.sentry_envelope.specs.SentryProfile.{profile}
 use Rattle.sentry_c.specs.Kinds.{answers}
 use Rattle.sentry_c.specs.Losses.{SumsLosses}
 
+-- some envelope is spelled by the bytes at the moment
+abbrev pub IsSpelled : List ℕ → Cell → Type 0
+IsSpelled bytes now = (envelope : Model) × Spells profile bytes now envelope
+
 -- the text of an envelope that the bytes spell at the moment, which is also that of its normal form
 pub record IsNormalForm (bytes : List ℕ) (now : Cell) (text : List ℕ) : Type 0 where
   pub envelope : Model

@@ -4,6 +4,7 @@ pub mod Places
 pub mod Frames
 pub mod Kinds
 pub mod Losses
+pub mod Filtering
 pub mod Envelopes
 pub mod Texts
 pub mod Sums

@@ -1,21 +1,44 @@
 //! Parsing, normalizing and filtering envelopes.
 
+ghost use Rattle.std.specs.Prelude.{◌≡◌, ◌≢◌, ◌⊎◌, ◌^◌, ◌<◌, ◌≤◌, IfErr, IfNone, IfOk, IfSome, IsSomeAnd, length, replicate};
+ghost use Rattle.sentry_framing.specs.declared.error.EnvelopeError.{EnvelopeError as Refusal};
+ghost use Rattle.sentry_framing.specs.declared.error.EnvelopeError.TheVariants as refusals;
+ghost use Rattle.sentry_tables.specs.Cell.{moment};
+ghost use Rattle.sentry_moments.specs.Moments.{moment_cell};
+ghost use Rattle.sentry_envelope.specs.Envelope.{Spells, envelope_norm, envelope_text};
+ghost use Rattle.sentry_envelope.specs.EnvelopeFault.{Fault};
+ghost use Rattle.sentry_envelope.specs.EnvelopeView.{header_of, structured, text_of};
+ghost use Rattle.sentry_envelope.specs.Filter.{FiltersEnvelope};
+ghost use Rattle.sentry_envelope.specs.SentryProfile.{profile};
+ghost use Rattle.sentry_c.specs.Envelopes.{IsLeft, IsNormalForm, IsSpelled, LeavesNothing, header_left};
+ghost use Rattle.sentry_c.specs.Output.{IsTooLong, Puts};
+ghost use Rattle.sentry_c.specs.Statuses.{refusal_status};
+
 use crate::filter::{KindFilter, are_kinds};
 use crate::losses::SUMS;
 use crate::output::deliver;
 use crate::status::{INVALID_ARGUMENT, NO_MOMENT, NO_ROOM, NOTHING_LEFT, OK, of_refusal};
 use rand_core::SeedableRng;
 use rand_pcg::Pcg32;
-use sentry_types::protocol::v7::{Envelope, EnvelopeError, EnvelopeWriteError, Moment};
+use sentry_types::protocol::v7::{Envelope, EnvelopeError, EnvelopeFilter, Moment};
 use std::alloc::{AllocError, Global};
 
-fn read(alloc: Global, bytes: &[u8], now: Moment, seed: u64) -> Result<Envelope, EnvelopeError> {
+fn read(alloc: Global, bytes: &[u8], now: Moment, seed: u64) -> Result<Envelope, EnvelopeError>
+    ensures spelled { IfOk result (λ e.
+        IsSomeAnd (structured e) (Spells profile bytes.now (moment_cell now))) }
+    ensures rewritten { IfOk result (λ e. IsSomeAnd (structured e) (λ m.
+        envelope_text profile m ≡ envelope_text profile (envelope_norm profile m))) }
+    ensures fault { IfErr result (λ x. x ≢ EnvelopeError.OutOfMemory → Fault profile bytes.now x) }
+{
     let mut ids = Pcg32::seed_from_u64(seed);
     Envelope::from_slice(alloc, bytes, now, &mut ids)
 }
 
-/// Returns the text of an envelope that can be written.
-pub(crate) fn text_of(alloc: Global, envelope: &Envelope) -> Result<Vec<u8>, AllocError> {
+/// Returns the text of an envelope. What was parsed or made of a report is plain, so that only an
+/// allocation can fail.
+pub(crate) fn text_of(alloc: Global, envelope: &Envelope) -> Result<Vec<u8>, AllocError>
+    ensures { IfOk result (λ text. text.items ≡ text_of envelope.now) }
+{
     let mut text = Vec::new(alloc);
     match envelope.to_writer(alloc, &mut text) {
         Ok(()) => Ok(text),
@@ -23,14 +46,21 @@ pub(crate) fn text_of(alloc: Global, envelope: &Envelope) -> Result<Vec<u8>, All
     }
 }
 
+#[tactic(auto, using(crate::proofs::Envelopes::normal_form_is))]
 fn normal_form(
     alloc: Global,
     bytes: &[u8],
     now: Moment,
     seed: u64,
-) -> Result<Vec<u8>, EnvelopeError> {
+) -> Result<Vec<u8>, EnvelopeError>
+    ensures ok { IfOk result (λ text. IsNormalForm bytes.now (moment_cell now) text.items) }
+    ensures fault { IfErr result (λ x. x ≢ EnvelopeError.OutOfMemory → Fault profile bytes.now x) }
+{
     let envelope = read(alloc, bytes, now, seed)?;
-    Ok(text_of(alloc, &envelope)?)
+    match text_of(alloc, &envelope) {
+        Ok(text) => Ok(text),
+        Err(_) => Err(EnvelopeError::OutOfMemory),
+    }
 }
 
 /// Parses an envelope and writes its normal form to `out`.
@@ -43,7 +73,21 @@ pub extern "C" fn sentry_envelope_normalize(
     seed: u64,
     out: &mut [u8],
     needed: &mut u64,
-) -> i32 {
+) -> i32
+    ensures written { result ≡ OK → Puts (IsNormalForm bytes.now (moment now_secs now_nanos))
+        out.old out.new needed.new }
+    ensures no_room { result ≡ NO_ROOM →
+        IsTooLong (IsNormalForm bytes.now (moment now_secs now_nanos)) out.old needed.new }
+    ensures fault { (x : Refusal) → result ≡ refusal_status x → x ≢ refusals.OutOfMemory →
+        Fault profile bytes.now x }
+    ensures no_moment { result ≡ NO_MOMENT →
+        (now_secs ≤ 253_402_300_799) × (now_nanos < 10 ^ 9) → ⊥ }
+    ensures is_moment { result ≢ NO_MOMENT → (now_secs ≤ 253_402_300_799) × (now_nanos < 10 ^ 9) }
+    ensures unchanged { result ≢ OK → out.new ≡ out.old }
+    ensures no_text { result ≢ OK → result ≢ NO_ROOM → needed.new ≡ 0 }
+    ensures answers { (result ≡ OK) ⊎ ((result ≡ NO_ROOM) ⊎ ((result ≡ NO_MOMENT) ⊎
+        ((x : Refusal) × (result ≡ refusal_status x)))) }
+{
     *needed = 0;
     let Some(now) = Moment::new(now_secs, now_nanos) else {
         return NO_MOMENT;
@@ -63,7 +107,16 @@ pub extern "C" fn sentry_envelope_check(
     now_secs: u64,
     now_nanos: u32,
     seed: u64,
-) -> i32 {
+) -> i32
+    ensures spelled { result ≡ OK → IsSpelled bytes.now (moment now_secs now_nanos) }
+    ensures fault { (x : Refusal) → result ≡ refusal_status x → x ≢ refusals.OutOfMemory →
+        Fault profile bytes.now x }
+    ensures no_moment { result ≡ NO_MOMENT →
+        (now_secs ≤ 253_402_300_799) × (now_nanos < 10 ^ 9) → ⊥ }
+    ensures is_moment { result ≢ NO_MOMENT → (now_secs ≤ 253_402_300_799) × (now_nanos < 10 ^ 9) }
+    ensures answers { (result ≡ OK) ⊎ ((result ≡ NO_MOMENT) ⊎
+        ((x : Refusal) × (result ≡ refusal_status x))) }
+{
     let Some(now) = Moment::new(now_secs, now_nanos) else {
         return NO_MOMENT;
     };
@@ -73,24 +126,48 @@ pub extern "C" fn sentry_envelope_check(
     }
 }
 
-fn filtered(
+fn filtered<F: EnvelopeFilter>(
     alloc: Global,
     envelope: Envelope,
     keep_headers: bool,
-    filter: &mut KindFilter,
-) -> Result<Option<Envelope>, EnvelopeError> {
-    let left = if keep_headers {
+    filter: &mut F,
+) -> Result<Option<Envelope>, Envelope>
+    requires { F.can_filter filter.old }
+    ensures filtered { IfOk result (FiltersEnvelope (header_left keep_headers (header_of envelope))
+        F.ask F.hand envelope filter.old filter.new) }
+{
+    if keep_headers {
         envelope.filter_keep_headers(alloc, filter)
     } else {
         envelope.filter_by(alloc, filter)
-    };
-    match left {
+    }
+}
+
+// Returns what is left of an envelope.
+#[tactic(auto, using(crate::proofs::Filtering::left_of))]
+fn read_left(
+    alloc: Global,
+    bytes: &[u8],
+    now: Moment,
+    seed: u64,
+    keep_headers: bool,
+    filter: &mut KindFilter,
+) -> Result<Option<Envelope>, EnvelopeError>
+    requires { filter.old.sums ≡ replicate 120 0 }
+    ensures left { IfOk result (λ left. IfSome left (λ e. IsLeft bytes.now (moment_cell now)
+        filter.old.kinds filter.old.keep keep_headers filter.new.sums (text_of e))) }
+    ensures nothing { IfOk result (λ left. IfNone left (LeavesNothing bytes.now (moment_cell now)
+        filter.old.kinds filter.old.keep keep_headers filter.new.sums)) }
+    ensures fault { IfErr result (λ x. x ≢ EnvelopeError.OutOfMemory → Fault profile bytes.now x) }
+{
+    let envelope = read(alloc, bytes, now, seed)?;
+    match filtered(alloc, envelope, keep_headers, filter) {
         Ok(left) => Ok(left),
         Err(_) => Err(EnvelopeError::OutOfMemory),
     }
 }
 
-// The text of what is left, if anything.
+// Returns the text of what is left, if anything.
 fn text_left(
     alloc: Global,
     bytes: &[u8],
@@ -98,15 +175,27 @@ fn text_left(
     seed: u64,
     keep_headers: bool,
     filter: &mut KindFilter,
-) -> Result<Option<Vec<u8>>, EnvelopeError> {
-    let envelope = read(alloc, bytes, now, seed)?;
-    match filtered(alloc, envelope, keep_headers, filter)? {
-        Some(left) => Ok(Some(text_of(alloc, &left)?)),
-        None => Ok(None),
+) -> Result<Option<Vec<u8>>, EnvelopeError>
+    requires { filter.old.sums ≡ replicate 120 0 }
+    ensures left { IfOk result (λ left. IfSome left (λ text. IsLeft bytes.now (moment_cell now)
+        filter.old.kinds filter.old.keep keep_headers filter.new.sums text.items)) }
+    ensures nothing { IfOk result (λ left. IfNone left (LeavesNothing bytes.now (moment_cell now)
+        filter.old.kinds filter.old.keep keep_headers filter.new.sums)) }
+    ensures fault { IfErr result (λ x. x ≢ EnvelopeError.OutOfMemory → Fault profile bytes.now x) }
+{
+    let Some(left) = read_left(alloc, bytes, now, seed, keep_headers, filter)? else {
+        return Ok(None);
+    };
+    match text_of(alloc, &left) {
+        Ok(text) => Ok(Some(text)),
+        Err(_) => Err(EnvelopeError::OutOfMemory),
     }
 }
 
 /// Parses an envelope, removes items by their type, and writes what is left to `out`.
+///
+/// `losses` is set to the sums of what is lost with the removed items, in each category for no
+/// reason and for each reason.
 #[unsafe(no_mangle)]
 pub extern "C" fn sentry_envelope_filter(
     alloc: Global,
@@ -120,7 +209,28 @@ pub extern "C" fn sentry_envelope_filter(
     out: &mut [u8],
     needed: &mut u64,
     losses: &mut [u64],
-) -> i32 {
+) -> i32
+    ensures written { result ≡ OK → Puts (IsLeft bytes.now (moment now_secs now_nanos)
+        kinds keep keep_headers losses.new) out.old out.new needed.new }
+    ensures no_room { result ≡ NO_ROOM → IsTooLong (IsLeft bytes.now (moment now_secs now_nanos)
+        kinds keep keep_headers losses.new) out.old needed.new }
+    ensures nothing { result ≡ NOTHING_LEFT → LeavesNothing bytes.now (moment now_secs now_nanos)
+        kinds keep keep_headers losses.new }
+    ensures fault { (x : Refusal) → result ≡ refusal_status x → x ≢ refusals.OutOfMemory →
+        Fault profile bytes.now x }
+    ensures no_moment { result ≡ NO_MOMENT →
+        (now_secs ≤ 253_402_300_799) × (now_nanos < 10 ^ 9) → ⊥ }
+    ensures argument { result ≡ INVALID_ARGUMENT → (length losses.old ≢ 120) ⊎ (2 ^ 11 ≤ kinds) }
+    ensures long { result ≢ INVALID_ARGUMENT → length losses.old ≡ 120 }
+    ensures kinds { result ≢ INVALID_ARGUMENT → kinds < 2 ^ 11 }
+    ensures unchanged { result ≢ OK → out.new ≡ out.old }
+    ensures losses_unchanged { result ≢ OK → result ≢ NO_ROOM → result ≢ NOTHING_LEFT →
+        losses.new ≡ losses.old }
+    ensures no_text { result ≢ OK → result ≢ NO_ROOM → needed.new ≡ 0 }
+    ensures answers { (result ≡ OK) ⊎ ((result ≡ NO_ROOM) ⊎ ((result ≡ NOTHING_LEFT) ⊎
+        ((result ≡ NO_MOMENT) ⊎ ((result ≡ INVALID_ARGUMENT) ⊎
+        ((x : Refusal) × (result ≡ refusal_status x)))))) }
+{
     *needed = 0;
     if losses.len() != SUMS || !are_kinds(kinds) {
         return INVALID_ARGUMENT;
@@ -129,15 +239,14 @@ pub extern "C" fn sentry_envelope_filter(
         return NO_MOMENT;
     };
     let mut filter = KindFilter::new(kinds, keep);
-    match text_left(alloc, bytes, now, seed, keep_headers, &mut filter) {
-        Ok(left) => {
-            losses.copy_from_slice(filter.sums());
-            match left {
-                Some(text) if deliver(&text, out, needed) => OK,
-                Some(_) => NO_ROOM,
-                None => NOTHING_LEFT,
-            }
-        }
-        Err(error) => of_refusal(&error),
+    let left = match text_left(alloc, bytes, now, seed, keep_headers, &mut filter) {
+        Ok(left) => left,
+        Err(error) => return of_refusal(&error),
+    };
+    losses.copy_from_slice(filter.sums());
+    match left {
+        Some(text) if deliver(&text, out, needed) => OK,
+        Some(_) => NO_ROOM,
+        None => NOTHING_LEFT,
     }
 }

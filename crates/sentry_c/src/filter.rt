@@ -1,18 +1,25 @@
 //! The filter of items by their type.
 
+ghost use Rattle.std.specs.Prelude.{◌≡◌, ◌^◌, ◌<◌, ◌↔◌, IsTrue, replicate};
+ghost use Rattle.sentry_c.specs.Kinds.{is_listed, kind_bit};
+
 use crate::losses::{SUMS, add_item};
 use sentry_types::protocol::v7::{EnvelopeFilter, EnvelopeItem, ItemKind};
 
 // A bit for each item type.
 const ALL_KINDS: u32 = 2047;
 
-/// Whether the bits are those of item types.
-pub fn are_kinds(kinds: u32) -> bool {
+/// Returns whether all bits are those of item types.
+pub fn are_kinds(kinds: u32) -> bool
+    ensures { IsTrue result ↔ (kinds < 2 ^ 11) }
+{
     kinds <= ALL_KINDS
 }
 
-// The bit of an item type: the first type has the lowest.
-fn bit(kind: ItemKind) -> u32 {
+// Returns the bit of an item type: the first type has the lowest.
+fn bit(kind: ItemKind) -> u32
+    ensures { result ≡ kind_bit kind }
+{
     match kind {
         ItemKind::Event => 1,
         ItemKind::SessionUpdate => 2,
@@ -28,7 +35,9 @@ fn bit(kind: ItemKind) -> u32 {
     }
 }
 
-fn is_listed(kinds: u32, item: &EnvelopeItem) -> bool {
+fn is_listed(kinds: u32, item: &EnvelopeItem) -> bool
+    ensures { result ≡ is_listed kinds item.now }
+{
     match item.kind() {
         Some(kind) => kinds & bit(kind) != 0,
         None => false,
@@ -38,14 +47,18 @@ fn is_listed(kinds: u32, item: &EnvelopeItem) -> bool {
 /// A filter that keeps items of some types, or all others, and sums the losses of removed items.
 #[derive(Drop)]
 pub struct KindFilter {
-    kinds: u32,
-    keep: bool,
-    sums: [u64; SUMS],
+    pub(crate) kinds: u32,
+    pub(crate) keep: bool,
+    pub(crate) sums: [u64; SUMS],
 }
 
 impl KindFilter {
     /// Creates a filter that keeps the items of these types with `keep`, and all others without.
-    pub fn new(kinds: u32, keep: bool) -> KindFilter {
+    pub fn new(kinds: u32, keep: bool) -> KindFilter
+        ensures kinds { result.kinds ≡ kinds }
+        ensures keep { result.keep ≡ keep }
+        ensures nothing_lost { result.sums ≡ replicate 120 0 }
+    {
         KindFilter {
             kinds,
             keep,
@@ -54,26 +67,29 @@ impl KindFilter {
     }
 
     /// Returns the sums of what was lost with removed items.
-    pub fn sums(&self) -> &[u64] {
+    pub fn sums(&self) -> &[u64]
+        ensures { result.now ≡ self.now.sums }
+    {
         &self.sums
     }
 }
 
 impl EnvelopeFilter for KindFilter {
-    ghost use Rattle.std.specs.Prelude.{Bool};
+    ghost use Rattle.sentry_c.specs.Filtering.{AddsLosses, AnswersByBits};
 
     ghost can_filter = { λ _. Unit {0} };
 
-    ghost ask = { λ first item answer next. Unit {0} };
+    ghost ask = { AnswersByBits };
 
-    ghost hand = { λ first item next. Unit {0} };
+    ghost hand = { AddsLosses };
 
     ghost ask_keeps = { λ first item answer next ready asked. tt };
 
     ghost hand_keeps = { λ first item next ready given. tt };
 
     fn filter(&mut self, item: &EnvelopeItem) -> bool {
-        is_listed(self.kinds, item) == self.keep
+        let listed = is_listed(self.kinds, item);
+        if self.keep { listed } else { !listed }
     }
 
     fn on_filtered(&mut self, item: EnvelopeItem) {

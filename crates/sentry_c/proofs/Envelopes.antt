@@ -1,0 +1,25 @@
+-- What is read and written of an envelope.
+use Rattle.std.proofs.Common.{◌≡◌, ℕ, List, refl, ◌∙◌, ap}
+use Rattle.std.specs.Option.{IsSomeAnd}
+use Rattle.sentry_tables.specs.Cell.{Cell}
+use Rattle.sentry_envelope.specs.Envelope.{Envelope as Model, Spells, envelope_norm, envelope_text}
+use Rattle.sentry_envelope.specs.EnvelopeView.{Held, items as held_items, bytes as held_bytes, header_of, held, structured, structured_by, text_by, text_of}
+use Rattle.sentry_envelope.specs.SentryProfile.{profile}
+use Rattle.sentry_envelope.specs.declared.envelope.Envelope.{Envelope}
+use Rattle.sentry_c.specs.Envelopes.{IsNormalForm, IsSpelled}
+
+pub is_spelled : (bytes : List ℕ) (now : Cell) (envelope : Envelope) → IsSomeAnd (structured envelope) (Spells profile bytes now) → IsSpelled bytes now
+is_spelled bytes now envelope spelled = go (held envelope) spelled
+  where
+    go : (h : Held) → IsSomeAnd (structured_by (header_of envelope) h) (Spells profile bytes now) → IsSpelled bytes now
+    go (held_items is) spelled = (_, spelled)
+    go (held_bytes b) spelled = absurd spelled
+
+pub normal_form_is : (bytes text : List ℕ) (now : Cell) (envelope : Envelope) → IsSomeAnd (structured envelope) (Spells profile bytes now)
+    → IsSomeAnd (structured envelope) (λ m. envelope_text profile m ≡ envelope_text profile (envelope_norm profile m)) → text ≡ text_of envelope → IsNormalForm bytes now text
+normal_form_is bytes text now envelope spelled rewritten is = go (held envelope) spelled rewritten is
+  where
+    go : (h : Held) → IsSomeAnd (structured_by (header_of envelope) h) (Spells profile bytes now) → IsSomeAnd (structured_by (header_of envelope) h) (λ m. envelope_text profile m ≡ envelope_text profile (envelope_norm profile m))
+        → text ≡ text_by (header_of envelope) h → IsNormalForm bytes now text
+    go (held_items is) spelled rewritten same = record { envelope = record { header = header_of envelope; items = is }; spells = spelled; text_is = same; normal = same ∙ rewritten }
+    go (held_bytes b) spelled rewritten same = absurd spelled
