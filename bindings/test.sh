@@ -21,6 +21,7 @@ if [ -z "$KIT" ]; then
 fi
 [ -f "$KIT/liblibc_c.a" ] || { echo "bindings: no $KIT/liblibc_c.a: set KIT"; exit 1; }
 kit=$(cd "$KIT" && pwd)
+cases=$PWD/crates/sentry_cases/stdin
 
 # All is built in a copy, so that the repository stays as it is.
 work=$(mktemp -d) || exit 1
@@ -38,7 +39,7 @@ test_rust() {
 
 test_python() {
     make -s -C "$work/python" LIB="$lib" KIT_C="$kit" libcurdmesa.so || return 1
-    (cd "$work/python" && CURDMESA_SO= python3 -m unittest -q test_curdmesa)
+    (cd "$work/python" && CURDMESA_SO= CASES="$cases" python3 -m unittest -q test_curdmesa test_cases)
 }
 
 failed=0
