@@ -1,6 +1,6 @@
 -- Where the parts of a frame stand in the bytes.
-use Rattle.std.proofs.Common.{arith, ◌≡◌, ◌≢◌, ◌⊎◌, inl, inr, ℕ, suc, ◌+◌, ◌-◌, ◌≤◌, List, [], ◌∷◌, ◌++◌, length, take, drop, min, refl, ap, sym, ◌∙◌, append-nil, append_assoc, length-append, length-drop, take-append-drop, subst}
-use Rattle.std.proofs.lemmas.List.{drop_at, drop-drop, take_rest}
+use Rattle.std.proofs.Common.{arith, ◌≡◌, ◌≢◌, ◌⊎◌, inl, inr, ℕ, ◌+◌, ◌-◌, ◌<◌, ◌≤◌, List, [], ◌∷◌, ◌++◌, length, take, drop, get_or, min, refl, ap, sym, ◌∙◌, append-nil, append_assoc, length-append, take-append-drop, subst}
+use Rattle.std.proofs.lemmas.List.{drop_at, drop_more, take_rest}
 use Rattle.std.proofs.lemmas.List.Elements.{All-head}
 use Rattle.sentry_json.specs.Line.{newline}
 use Rattle.sentry_framing.specs.Framing.{EndsLine, Frame, Follows, IsBlank, IsFirstFrame, IsLineAndBody, Reading}
@@ -45,17 +45,14 @@ empty_line tail (b ∷ line) body parts =
     let same : b ≡ newline = cc in
     absurd (All-head (λ c. c ≢ newline) b line parts.no_newline same)
 
-pub after_line_feed : (bytes : List ℕ) (offset : ℕ) (from tail line body : List ℕ) → offset ≢ 0 → from ≡ take (length bytes - (offset - 1)) (drop (offset - 1) bytes) → from ≡ newline ∷ tail → IsLineAndBody from line body → BodyFrom bytes offset body
-after_line_feed bytes offset from tail line body later part is parts =
-    let dropped : drop (offset - 1) bytes ≡ newline ∷ tail = sym (take_rest bytes (offset - 1)) ∙ (sym part ∙ is) in
-    let ends : EndsWith bytes (newline ∷ tail) = (take (offset - 1) bytes, sym (take-append-drop (offset - 1) bytes) ∙ ap (λ x. take (offset - 1) bytes ++ x) dropped) in
-    let long : length (drop (offset - 1) bytes) ≡ suc (length tail) = ap length dropped in
-    let some : offset ≤ length bytes = omega (arith, long, length-drop (offset - 1) bytes) in
-    let at : drop offset bytes ≡ tail = ap (λ n. drop n bytes) (next offset later) ∙ (sym (drop-drop 1 (offset - 1) bytes) ∙ ap (drop 1) dropped) in
-    inr (later, some, empty_line tail line body (subst (λ x. IsLineAndBody x line body) is parts) ∙ sym at)
-  where
-    next : (n : ℕ) → n ≢ 0 → n ≡ n - 1 + 1
-    next n some = omega arith
+pub after_line_feed : (bytes : List ℕ) (offset : ℕ) (from line body : List ℕ) → offset ≢ 0 → offset ≤ length bytes → get_or bytes (offset - 1) 0 ≡ newline
+    → from ≡ take (length bytes - (offset - 1)) (drop (offset - 1) bytes) → IsLineAndBody from line body → BodyFrom bytes offset body
+after_line_feed bytes offset from line body later within feed part parts =
+    let tail : List ℕ = drop (offset - 1 + 1) bytes in
+    let some : offset - 1 < length bytes = omega arith in
+    let is : from ≡ newline ∷ tail = part ∙ (take_rest bytes (offset - 1) ∙ (drop_more bytes (offset - 1) 0 some ∙ ap (λ b. b ∷ tail) feed)) in
+    let next : offset - 1 + 1 ≡ offset = omega arith in
+    inr (later, within, empty_line tail line body (subst (λ x. IsLineAndBody x line body) is parts) ∙ ap (λ n. drop n bytes) next)
 
 follows_end : (after payload rest : List ℕ) → Follows after payload rest → EndsWith after rest
 follows_end after payload rest (inl (a, b, c)) = ([], a ∙ sym c)

@@ -1,10 +1,15 @@
 -- The items of an envelope as places in its bytes.
-use Rattle.std.specs.Prelude.{◌≡◌, ◌≢◌, ◌⊎◌, ◌<◌, ◌≤◌, ℕ, List, length, drop, Some}
+use Rattle.std.specs.Prelude.{◌≡◌, ◌≢◌, ◌⊎◌, ◌-◌, ◌≤◌, ℕ, List, length, drop, slice_index, Some}
+use Rattle.sentry_json.specs.Line.{newline}
 use Rattle.sentry_framing.specs.Framing.{Frame, IsFirstFrame, IsLineAndBody}
 use Rattle.sentry_framing.specs.ItemHeader.{Header, read_header, stated_length}
 use Rattle.sentry_framing.specs.ItemWords.{item_words}
 use Rattle.sentry_c.specs.Places.{Stands}
 use Rattle.sentry_c.specs.declared.frames.SentryFrame.{SentryFrame}
+
+-- an item may begin at the offset: at 0, which stands for the header line, at the end, or after a line feed
+abbrev pub MayBegin : List ℕ → ℕ → Type 0
+MayBegin bytes offset = (offset ≡ 0) ⊎ ((offset ≡ length bytes) ⊎ ((offset ≤ length bytes) × (slice_index bytes (offset - 1) ≡ newline)))
 
 -- where reading goes on: at offset 0 after the header line, else at the offset
 abbrev pub BodyFrom : List ℕ → ℕ → List ℕ → Type 0

@@ -1,13 +1,13 @@
 //! The items of an envelope, as places in its bytes.
 
-ghost use Rattle.std.specs.Prelude.{◌≡◌, ◌≢◌, ◌⊎◌, ◌+◌, ◌≤◌, ◌++◌, ◌∷◌, [], ℕ, List, IfSome, false, length, min};
+ghost use Rattle.std.specs.Prelude.{◌≡◌, ◌≢◌, ◌⊎◌, ◌+◌, ◌≤◌, ◌++◌, ◌∷◌, [], ℕ, List, IfNone, IfSome, false, length, min};
 ghost use Rattle.sentry_framing.specs.Framing.{IsBlank, IsFault, IsFirstFrame, is_space};
 ghost use Rattle.sentry_framing.specs.ItemHeader.{stated_length};
 ghost use Rattle.sentry_framing.specs.ItemWords.{item_words, kind_place};
 ghost use Rattle.sentry_framing.specs.View.{frame_of};
 ghost use Rattle.sentry_framing.specs.declared.error.EnvelopeError.{EnvelopeError as Refusal};
 ghost use Rattle.sentry_framing.specs.declared.error.EnvelopeError.TheVariants as refusals;
-ghost use Rattle.sentry_c.specs.Frames.{BodyFrom, FindsFrame, IsPlaced};
+ghost use Rattle.sentry_c.specs.Frames.{BodyFrom, FindsFrame, IsPlaced, MayBegin};
 ghost use Rattle.sentry_c.specs.Places.{EndsWith};
 ghost use Rattle.sentry_c.specs.Statuses.{refusal_status};
 
@@ -53,7 +53,9 @@ fn number_of(kind: ItemKind) -> u32
 // header line an item follows a line feed: from that line feed on, `Frames` finds an empty header
 // line before the items.
 fn frames_from(bytes: &[u8], offset: usize) -> Option<Frames<'_>>
-    ensures { IfSome result (λ frames. BodyFrom bytes.now offset frames.rest) }
+    ensures body { IfSome result (λ frames. BodyFrom bytes.now offset frames.rest) }
+    ensures may { IfSome result (λ frames. MayBegin bytes.now offset) }
+    ensures none { IfNone result (¬ MayBegin bytes.now offset) }
 {
     if offset == 0 {
         return Some(Frames::new(bytes));
@@ -61,11 +63,10 @@ fn frames_from(bytes: &[u8], offset: usize) -> Option<Frames<'_>>
     if offset == bytes.len() {
         return Some(Frames::new(&[]));
     }
-    let from = bytes.get(offset - 1..)?;
-    match from.split_first() {
-        Some((b'\n', _)) => Some(Frames::new(from)),
-        _ => None,
+    if offset > bytes.len() || bytes[offset - 1] != b'\n' {
+        return None;
     }
+    Some(Frames::new(&bytes[offset - 1..]))
 }
 
 fn is_space(byte: u8) -> bool
@@ -135,6 +136,8 @@ pub extern "C" fn sentry_frames_next(
     ensures fault { (x : Refusal) → result ≡ refusal_status x → x ≢ refusals.OutOfMemory →
         ((body : List ℕ) × BodyFrom bytes.now offset.old body × IsFault
         (stated_length item_words) body x) }
+    ensures argument { result ≡ INVALID_ARGUMENT → ¬ MayBegin bytes.now offset.old }
+    ensures may { result ≢ INVALID_ARGUMENT → MayBegin bytes.now offset.old }
     ensures offset_unchanged { result ≢ OK → offset.new ≡ offset.old }
     ensures frame_unchanged { result ≢ OK → frame.new ≡ frame.old }
     ensures answers { (result ≡ OK) ⊎ ((result ≡ NOTHING_LEFT) ⊎ ((result ≡ INVALID_ARGUMENT)
