@@ -3,17 +3,17 @@
 ghost use Rattle.std.specs.Prelude.{◌+◌, ◌%◌, ◌^◌};
 ghost use Rattle.rand_core.specs.Steps.{stream_of, steps_u32};
 
-use crate::wanted::wanted;
+use crate::wanted::{holds, is_same, wanted};
 use rand_core::utils::NextWord;
 use rand_core::{Rng, SeedableRng, utils};
 use rand_pcg::Pcg32;
 use sentry_members::read_tree;
 use sentry_types::protocol::v7::{
     Breadcrumb, Context, Envelope, Event, FromTreeAt, Level, Member, Moment, SessionUpdate, Span,
-    SpanId, TraceContext, TraceId, Transaction, Value, read_line_at,
+    SpanId, TraceContext, TraceId, Transaction, TreeError, Value, read_line_at,
 };
 use sentry_types::{Uuid, random_uuid};
-use std::alloc::{AllocError, Global};
+use std::alloc::Global;
 use std::marker::Model;
 use std::test::Fail;
 
@@ -110,13 +110,17 @@ fn ids_are_the_next_bytes(rt: HostRuntime) -> Result<(), Fail> {
 fn new_span(alloc: Global, now: Moment) -> ((SpanId, TraceId), bool) {
     let span = Span::new(alloc, now, &mut Pcg32::seed_from_u64(1));
     let begins = span.start_timestamp == now && span.timestamp.is_none();
-    ((span.span_id, span.trace_id), begins)
+    let ids = (span.span_id, span.trace_id);
+    drop(span);
+    (ids, begins)
 }
 
 /// The ids of a new place in a trace.
 fn new_place(alloc: Global) -> (SpanId, TraceId) {
     let place = TraceContext::new(alloc, &mut Pcg32::seed_from_u64(1));
-    (place.span_id, place.trace_id)
+    let ids = (place.span_id, place.trace_id);
+    drop(place);
+    ids
 }
 
 #[test]
@@ -145,24 +149,37 @@ fn is_new(event: &Event<'_>, now: Moment) -> bool {
 }
 
 /// Whether an event reads back from its tree at another moment, with other ids at hand.
-fn reads_back(alloc: Global, event: &Event<'_>, later: Moment) -> Result<bool, AllocError> {
-    let tree = event.to_tree(alloc)?;
-    let read = Event::from_tree(alloc, &tree, later, &mut Counting(0));
-    Ok(matches!(read, Ok(again) if again == *event))
+fn reads_back(alloc: Global, event: &Event<'_>, later: Moment) -> bool {
+    holds(event.to_tree(alloc), |tree: &Value| {
+        is_same(
+            Event::from_tree(alloc, tree, later, &mut Counting(0)),
+            event,
+        )
+    })
 }
 
 #[test]
 fn new_events(rt: HostRuntime) -> Result<(), Fail> {
-    let event = Event::new(rt.alloc(), second(5)?, &mut Zeros)?;
-    wanted(is_new(&event, second(5)?) && reads_back(rt.alloc(), &event, second(6)?)?)
+    let (now, later) = (second(5)?, second(6)?);
+    wanted(holds(
+        Event::new(rt.alloc(), now, &mut Zeros),
+        |event: &Event<'_>| { is_new(event, now) && reads_back(rt.alloc(), event, later) },
+    ))
+}
+
+/// Whether a new breadcrumb is this one, at the usual level.
+fn is_usual(alloc: Global, breadcrumb: &Breadcrumb, now: Moment) -> bool {
+    breadcrumb.level == Level::Info
+        && breadcrumb.timestamp == now
+        && is_same(Breadcrumb::new(alloc, now), breadcrumb)
 }
 
 /// A new breadcrumb is what an empty object shows at its moment.
 #[test]
 fn new_breadcrumbs(rt: HostRuntime) -> Result<(), Fail> {
-    let breadcrumb = Breadcrumb::new(rt.alloc(), second(5)?)?;
-    let read: Breadcrumb = read_line_at(rt.alloc(), b"{}", second(5)?, &mut Zeros)?;
-    wanted(breadcrumb == read && read.level == Level::Info && read.timestamp == second(5)?)
+    let now = second(5)?;
+    let read: Result<Breadcrumb, TreeError> = read_line_at(rt.alloc(), b"{}", now, &mut Zeros);
+    wanted(holds(read, |read: &Breadcrumb| is_usual(rt.alloc(), read, now)))
 }
 
 /// Whether a new transaction has an id of version 4, begins at this moment, and ends at the later
@@ -171,8 +188,13 @@ fn ends(alloc: Global, now: Moment, later: Moment) -> bool {
     let mut transaction = Transaction::new(alloc, now, &mut Zeros);
     let begun = transaction.timestamp.is_none();
     transaction.finish_with_timestamp(later);
-    begun
-        && transaction.event_id == zero_id()
+    let ended = has_ended(&transaction, now, later);
+    drop(transaction);
+    begun && ended
+}
+
+fn has_ended(transaction: &Transaction<'_>, now: Moment, later: Moment) -> bool {
+    transaction.event_id == zero_id()
         && transaction.start_timestamp == now
         && transaction.timestamp == Some(later)
         && transaction.spans.is_empty()
@@ -202,33 +224,49 @@ fn has_two_spans(transaction: &Transaction<'_>) -> bool {
     }
 }
 
-fn tree(alloc: Global, text: &str) -> Result<Value, Fail> {
-    Ok(read_tree(alloc, text.as_bytes())?)
+fn tree(alloc: Global, text: &str) -> Result<Value, TreeError> {
+    read_tree(alloc, text.as_bytes())
 }
 
 #[test]
 fn each_span_draws_its_ids(rt: HostRuntime) -> Result<(), Fail> {
-    let alloc = rt.alloc();
-    let two = tree(alloc, "{\"spans\":[{},{}]}")?;
-    let mut ids = Counting(0);
-    let read = Transaction::from_tree(alloc, &two, second(5)?, &mut ids)?;
-    wanted(has_two_spans(&read))
+    let (alloc, now) = (rt.alloc(), second(5)?);
+    wanted(holds(tree(alloc, "{\"spans\":[{},{}]}"), |two: &Value| {
+        let read = Transaction::from_tree(alloc, two, now, &mut Counting(0));
+        holds(read, has_two_spans)
+    }))
 }
 
 /// The id of the session that a tree shows.
-fn session_id(alloc: Global, tree: &Value, now: Moment, ids: &mut Counting) -> Result<Uuid, Fail> {
+fn session_id(
+    alloc: Global,
+    tree: &Value,
+    now: Moment,
+    ids: &mut Counting,
+) -> Result<Uuid, TreeError> {
     let session = SessionUpdate::from_tree(alloc, tree, now, ids)?;
-    Ok(session.session_id)
+    let id = session.session_id;
+    drop(session);
+    Ok(id)
+}
+
+/// Whether two reads of a session draw different ids.
+fn draws_twice(alloc: Global, session: &Value, now: Moment) -> bool {
+    let mut ids = Counting(0);
+    match (
+        session_id(alloc, session, now, &mut ids),
+        session_id(alloc, session, now, &mut ids),
+    ) {
+        (Ok(one), Ok(other)) => one != other && is_random(&one) && is_random(&other),
+        _ => false,
+    }
 }
 
 #[test]
 fn each_session_draws_its_id(rt: HostRuntime) -> Result<(), Fail> {
-    let alloc = rt.alloc();
-    let session = tree(alloc, "{\"attrs\":{\"release\":\"r\"}}")?;
-    let mut ids = Counting(0);
-    let one = session_id(alloc, &session, second(5)?, &mut ids)?;
-    let other = session_id(alloc, &session, second(5)?, &mut ids)?;
-    wanted(one != other && is_random(&one) && is_random(&other))
+    let (alloc, now) = (rt.alloc(), second(5)?);
+    let session = tree(alloc, "{\"attrs\":{\"release\":\"r\"}}");
+    wanted(holds(session, |session: &Value| draws_twice(alloc, session, now)))
 }
 
 /// The id of an envelope of an event, and those of its trace.
@@ -248,11 +286,12 @@ fn rewritten(
     bytes: &[u8],
     ids: &mut Counting,
 ) -> Result<(Vec<u8>, Option<(Uuid, SpanId, TraceId)>), Fail> {
-    let now = second(0)?;
-    let envelope = Envelope::from_slice(alloc, bytes, now, ids)?;
+    let envelope = Envelope::from_slice(alloc, bytes, second(0)?, ids)?;
     let mut text = Vec::new(alloc);
-    envelope.to_writer(alloc, &mut text)?;
+    let written = envelope.to_writer(alloc, &mut text);
     let found = ids_of(&envelope);
+    drop(envelope);
+    written?;
     Ok((text, found))
 }
 

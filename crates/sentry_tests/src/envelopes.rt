@@ -6,10 +6,9 @@ pub(crate) mod memory;
 mod values;
 mod writing;
 
+use crate::attachments;
 use rand_pcg::Pcg32;
-use sentry_types::protocol::v7::{
-    Attachment, Envelope, EnvelopeError, EnvelopeFilter, EnvelopeItem, Moment, ReplayRecording,
-};
+use sentry_types::protocol::v7::{Envelope, EnvelopeError, EnvelopeItem, Moment, ReplayRecording};
 use std::alloc::{AllocError, Global};
 
 /// A header line with an id, as it is written.
@@ -35,28 +34,10 @@ fn is_written(alloc: Global, envelope: &Envelope, text: &str) -> bool {
 
 /// An attachment of `helloworld`.
 fn hello(alloc: Global) -> Result<EnvelopeItem, AllocError> {
-    let mut attachment = Attachment::default_in(alloc);
-    attachment.buffer = b"helloworld".to_vec(alloc)?;
-    Ok(EnvelopeItem::Attachment(attachment))
+    Ok(EnvelopeItem::Attachment(attachments::hello(alloc)?))
 }
 
 /// A recording without bytes.
 fn recording(alloc: Global) -> EnvelopeItem {
     EnvelopeItem::ReplayRecording(ReplayRecording::default_in(alloc))
-}
-
-/// Filters, and keeps the other fields of the header or drops them.
-fn filtered<F: EnvelopeFilter>(
-    alloc: Global,
-    envelope: Envelope,
-    filter: &mut F,
-    keep: bool,
-) -> Result<Option<Envelope>, Envelope>
-    requires { F.can_filter filter.old }
-{
-    if keep {
-        envelope.filter_keep_headers(alloc, filter)
-    } else {
-        envelope.filter_by(alloc, filter)
-    }
 }

@@ -8,11 +8,11 @@ use sentry_types::protocol::v7::{
     EnvelopeWriteError, OrganizationId, ScheduleError, TreeError,
 };
 use sentry_types::{ApiUrlError, ParseAuthError, ParseDsnError, ParseProjectIdError, Scheme};
-use std::alloc::{AllocError, Global};
+use std::alloc::Global;
 use std::fmt::{Debug, Display};
 use std::test::Fail;
 
-fn prints<E: Display>(alloc: Global, error: &E, text: &str) -> bool {
+fn prints<E: Display + Drop>(alloc: Global, error: E, text: &str) -> bool {
     matches!(error.to_string(alloc), Ok(found) if found.as_str() == text)
 }
 
@@ -20,16 +20,16 @@ fn prints<E: Display>(alloc: Global, error: &E, text: &str) -> bool {
 fn want_of_memory_is_printed(rt: HostRuntime) -> Result<(), Fail> {
     let (alloc, text) = (rt.alloc(), "out of memory");
     wanted(
-        prints(alloc, &TreeError::Memory, text)
-            && prints(alloc, &ParseAuthError::Memory, text)
-            && prints(alloc, &ParseDsnError::Memory, text)
-            && prints(alloc, &ParseProjectIdError::Memory, text)
-            && prints(alloc, &ApiUrlError::Memory, text)
-            && prints(alloc, &ScheduleError::Memory, text)
-            && prints(alloc, &AttachmentWriteError::Memory, text)
-            && prints(alloc, &EnvelopeWriteError::Memory, text)
-            && prints(alloc, &EnvelopeError::OutOfMemory, text)
-            && prints(alloc, &AddRefused::Memory(EnvelopeItem::Raw), text),
+        prints(alloc, TreeError::Memory, text)
+            && prints(alloc, ParseAuthError::Memory, text)
+            && prints(alloc, ParseDsnError::Memory, text)
+            && prints(alloc, ParseProjectIdError::Memory, text)
+            && prints(alloc, ApiUrlError::Memory, text)
+            && prints(alloc, ScheduleError::Memory, text)
+            && prints(alloc, AttachmentWriteError::Memory, text)
+            && prints(alloc, EnvelopeWriteError::Memory, text)
+            && prints(alloc, EnvelopeError::OutOfMemory, text)
+            && prints(alloc, AddRefused::Memory(EnvelopeItem::Raw), text),
     )
 }
 
@@ -38,38 +38,40 @@ fn others_are_printed(rt: HostRuntime) -> Result<(), Fail> {
     let alloc = rt.alloc();
     let header = "missing envelope header";
     wanted(
-        prints(alloc, &ApiUrlError::NotAUrl, "NotAUrl")
-            && prints(alloc, &AttachmentWriteError::Io, "Io")
-            && prints(alloc, &EnvelopeWriteError::Io, "Io")
-            && prints(alloc, &EnvelopeWriteError::NotPlain, "NotPlain")
+        prints(alloc, ApiUrlError::NotAUrl, "NotAUrl")
+            && prints(alloc, AttachmentWriteError::Io, "Io")
+            && prints(alloc, EnvelopeWriteError::Io, "Io")
+            && prints(alloc, EnvelopeWriteError::NotPlain, "NotPlain")
             && prints(
                 alloc,
-                &AddRefused::RawEnvelope(EnvelopeItem::Raw),
+                AddRefused::RawEnvelope(EnvelopeItem::Raw),
                 "RawEnvelope",
             )
-            && prints(alloc, &EnvelopeError::MissingHeader, header)
+            && prints(alloc, EnvelopeError::MissingHeader, header)
             && prints(
                 alloc,
-                &EnvelopeError::MissingItemHeader,
+                EnvelopeError::MissingItemHeader,
                 "missing item header",
             ),
     )
 }
 
 /// The `Debug` text of a value begins with this text.
-fn debugs<T: Debug>(alloc: Global, value: &T, text: &str) -> Result<bool, AllocError> {
-    Ok(format!(in alloc; "{value:?}")?.as_str().starts_with(text))
+fn debugs<T: Debug + Drop>(alloc: Global, value: T, text: &str) -> bool {
+    matches!(format!(in alloc; "{value:?}"), Ok(found) if found.as_str().starts_with(text))
 }
 
 #[test]
 fn debug_texts(rt: HostRuntime) -> Result<(), Fail> {
     let alloc = rt.alloc();
     let crontab = CrontabParseError::new(alloc, "x")?;
-    wanted(debugs(alloc, &TreeError::Misfit, "Misfit")?)?;
-    wanted(debugs(alloc, &EnvelopeError::InvalidHeader, "InvalidHeader")?)?;
-    wanted(debugs(alloc, &EnvelopeWriteError::NotPlain, "NotPlain")?)?;
-    wanted(debugs(alloc, &Scheme::Https, "Https")?)?;
-    wanted(debugs(alloc, &OrganizationId::from(5), "OrganizationId(5)")?)?;
-    wanted(debugs(alloc, &LossSlice(&[]), "LossSlice([])")?)?;
-    wanted(debugs(alloc, &crontab, "CrontabParseError")?)
+    wanted(
+        debugs(alloc, crontab, "CrontabParseError")
+            && debugs(alloc, TreeError::Misfit, "Misfit")
+            && debugs(alloc, EnvelopeError::InvalidHeader, "InvalidHeader")
+            && debugs(alloc, EnvelopeWriteError::NotPlain, "NotPlain")
+            && debugs(alloc, Scheme::Https, "Https")
+            && debugs(alloc, OrganizationId::from(5), "OrganizationId(5)")
+            && debugs(alloc, LossSlice(&[]), "LossSlice([])"),
+    )
 }

@@ -43,7 +43,10 @@ fn count_dropped(alloc: Global, envelope: Envelope) -> Result<(Option<Envelope>,
     let mut dropped = 0u64;
     let mut callbacks = EnvelopeFilterCallbacks::new(
         |_item: &EnvelopeItem| true,
-        |_item: EnvelopeItem| dropped = dropped.saturating_add(1),
+        |item: EnvelopeItem| {
+            drop(item);
+            dropped = dropped.saturating_add(1);
+        },
     );
     let left = envelope.filter_by(alloc, &mut callbacks)?;
     Ok((left, dropped))
@@ -51,9 +54,7 @@ fn count_dropped(alloc: Global, envelope: Envelope) -> Result<(Option<Envelope>,
 
 /// The count, and how many items are left.
 fn counts(counted: Result<(Option<Envelope>, u64), Envelope>) -> Option<(u64, usize)> {
-    let Ok((left, count)) = counted else {
-        return None;
-    };
+    let (left, count) = counted.ok()?;
     Some((count, left?.into_items().count()))
 }
 
@@ -70,12 +71,16 @@ fn noted(alloc: Global, envelope: Envelope) -> (bool, String) {
     let mut callbacks = EnvelopeFilterCallbacks::new(
         |item: &EnvelopeItem| matches!(item, EnvelopeItem::Attachment(_)),
         |item: EnvelopeItem| {
-            if let Some(kind) = item.kind() {
+            let kind = item.kind();
+            drop(item);
+            if let Some(kind) = kind {
                 let _ = words.push_str(kind.as_str());
             }
         },
     );
-    let none = matches!(envelope.filter_by(alloc, &mut callbacks), Ok(None));
+    let left = envelope.filter_by(alloc, &mut callbacks);
+    let none = matches!(&left, Ok(None));
+    drop(left);
     (none, words)
 }
 

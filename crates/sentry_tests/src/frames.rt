@@ -1,7 +1,7 @@
 //! Frames are asked for again after a refusal of memory; a header alone.
 
-use crate::wanted::wanted;
-use sentry_types::protocol::v7::{EnvelopeError, Frames, ItemKind, read_item_header};
+use crate::wanted::{holds, wanted};
+use sentry_types::protocol::v7::{EnvelopeError, Frames, ItemHeader, ItemKind, read_item_header};
 use std::test::Fail;
 
 #[test]
@@ -22,7 +22,9 @@ fn asks_again(rt: HostRuntime) -> Result<(), Fail> {
 #[test]
 fn an_item_header_is_read(rt: HostRuntime) -> Result<(), Fail> {
     let line = b"{\"length\":3,\"filename\":\"a\",\"type\":\"attachment\"}";
-    let header = read_item_header(rt.alloc(), line)?;
-    let named = header.filename.is_some_and(|name| name.as_str() == "a");
-    wanted(named && header.kind == ItemKind::Attachment && header.length == Some(3))
+    wanted(holds(read_item_header(rt.alloc(), line), |header: &ItemHeader| {
+        matches!(&header.filename, Some(name) if name.as_str() == "a")
+            && header.kind == ItemKind::Attachment
+            && header.length == Some(3)
+    }))
 }

@@ -9,6 +9,7 @@ ghost use Rattle.sentry_ledger.specs.Held.{quantity_held};
 
 use crate::envelopes::memory::read_at_last;
 use crate::envelopes::read;
+use crate::wanted::{is_none, wanted};
 use sentry_members::text_of;
 use sentry_types::IndexedEnum;
 use sentry_types::protocol::v7::client_report::{
@@ -54,7 +55,7 @@ fn nine_errors() -> Result<Ledger, LedgerFull> {
 }
 
 #[test]
-fn a_refused_loss_comes_back(rt: HostRuntime) -> Result<(), Fail> {
+fn a_refused_loss_comes_back(_rt: HostRuntime) -> Result<(), Fail> {
     let mut ledger = Ledger::new();
     let first = ledger.record(errors(MOST, None), Reason::BeforeSend);
     let refused = errors(2, Some(Reason::BeforeSend));
@@ -63,8 +64,15 @@ fn a_refused_loss_comes_back(rt: HostRuntime) -> Result<(), Fail> {
     };
     let held = ledger.held(Category::Error, Reason::BeforeSend);
     let same = back.quantity == 2 && matches!(back.reason, Some(Reason::BeforeSend));
-    assert!(rt; first.is_ok() && same && held == MOST && all_held(&ledger) == MOST);
-    Ok(())
+    wanted(first.is_ok() && same && held == MOST && all_held(&ledger) == MOST)
+}
+
+/// Whether nothing is left, and how many losses are refused, unless memory was refused.
+fn told<T: Drop, E: Drop>(recorded: Result<(Option<T>, u64), E>) -> Option<(bool, u64)> {
+    match recorded {
+        Ok((left, refused)) => Some((left.is_none(), refused)),
+        Err(_) => None,
+    }
 }
 
 /// Takes events out of an envelope, records the losses, and counts the items that go. Gives whether
@@ -73,26 +81,29 @@ fn counted(alloc: Global, envelope: Envelope, ledger: &mut Ledger) -> Option<(bo
     let mut gone = 0_u64;
     let callbacks = EnvelopeFilterCallbacks::new(
         |item: &EnvelopeItem| !matches!(item, EnvelopeItem::Event(_)),
-        |_item: EnvelopeItem| gone = gone.saturating_add(1),
+        |item: EnvelopeItem| {
+            drop(item);
+            gone = gone.saturating_add(1);
+        },
     );
-    match filter_recorded(alloc, envelope, callbacks, Reason::SampleRate, ledger) {
-        Ok((left, refused)) => Some((left.is_none(), refused, gone)),
-        Err(_) => None,
-    }
+    let recorded = filter_recorded(alloc, envelope, callbacks, Reason::SampleRate, ledger);
+    let (none, refused) = told(recorded)?;
+    Some((none, refused, gone))
+}
+
+/// Whether all is counted where so much is held before, of which so many losses are refused and so
+/// much is held after.
+fn is_counted(alloc: Global, before: u64, refused: u64, held: u64) -> Result<bool, Fail> {
+    let mut ledger = Ledger::new();
+    ledger.record(errors(before, None), Reason::SampleRate)?;
+    let told = counted(alloc, read(alloc, EVENT_AND_ATTACHMENT)?, &mut ledger);
+    let bytes = ledger.held(Category::Attachment, Reason::SampleRate);
+    Ok(told == Some((true, refused, 2)) && bytes == 12 && all_held(&ledger) == held)
 }
 
 #[test]
 fn losses_of_what_a_filter_takes_out(rt: HostRuntime) -> Result<(), Fail> {
-    let alloc = rt.alloc();
-    for (before, refused, held) in [(0, 0, 13), (MOST, 1, MOST)] {
-        let mut ledger = Ledger::new();
-        ledger.record(errors(before, None), Reason::SampleRate)?;
-        let told = counted(alloc, read(alloc, EVENT_AND_ATTACHMENT)?, &mut ledger);
-        let bytes = ledger.held(Category::Attachment, Reason::SampleRate);
-        let right = told == Some((true, refused, 2)) && bytes == 12;
-        assert!(rt; right && all_held(&ledger) == held);
-    }
-    Ok(())
+    wanted(is_counted(rt.alloc(), 0, 0, 13)? && is_counted(rt.alloc(), MOST, 1, MOST)?)
 }
 
 /// The losses of a client, which reports them once a minute.
@@ -157,13 +168,10 @@ fn a_client_reports_what_it_drops(rt: HostRuntime) -> Result<(), Fail> {
         due: 60,
     };
     let envelope = read(alloc, EVENT_AND_ATTACHMENT)?;
-    let Ok((left, refused)) = losses.without_attachments(alloc, envelope) else {
-        return Err("memory".into());
-    };
+    let left = told(losses.without_attachments(alloc, envelope));
     let texts = reported(alloc, &mut losses, &[59, 60, 61, 120])?;
     let sent = texts.as_str() == REPORT && losses.ledger.is_empty() && losses.due == 180;
-    assert!(rt; left.is_some() && refused == 0 && sent);
-    Ok(())
+    wanted(left == Some((false, 0)) && sent)
 }
 
 // Where memory is refused, the answer says so and all is held as before; the next call is answered.
@@ -187,8 +195,7 @@ fn refused_when_flushing(rt: HostRuntime) -> Result<(), Fail> {
     let mut ledger = nine_errors()?;
     let now = Moment::new(1, 0).ok_or("moment")?;
     let items = flushed_at_last(rt.alloc(), &mut ledger, now)?;
-    assert!(rt; items == 9 && ledger.is_empty());
-    Ok(())
+    wanted(items == 9 && ledger.is_empty())
 }
 
 /// How many losses are held after a flush and a loss, and whether the flush was answered by a
@@ -216,21 +223,34 @@ fn refused_when_running_steps(rt: HostRuntime) -> Result<(), Fail> {
     let mut ledger = nine_errors()?;
     let now = Moment::new(1, 0).ok_or("moment")?;
     let (flushed, held) = run_at_last(rt.alloc(), &mut ledger, now)?;
-    assert!(rt; held == if flushed { 1 } else { 10 });
-    Ok(())
+    wanted(held == if flushed { 1 } else { 10 })
+}
+
+/// What is told of an envelope of two items that a filter takes out, after a refusal that recorded
+/// nothing at the second try.
+fn recorded_at_last(
+    alloc: Global,
+    envelope: Envelope,
+    ledger: &mut Ledger,
+) -> Option<(bool, u64, u64)> {
+    let none = |_item: &EnvelopeItem| false;
+    match filter_recorded(alloc, envelope, none, Reason::SampleRate, ledger) {
+        Ok((left, refused)) => Some((is_none(left), refused, 2)),
+        Err(envelope) => {
+            if ledger.is_empty() {
+                counted(alloc, envelope, ledger)
+            } else {
+                drop(envelope);
+                None
+            }
+        }
+    }
 }
 
 #[test]
 fn refused_when_recording_a_filter(rt: HostRuntime) -> Result<(), Fail> {
-    let alloc = rt.alloc();
     let mut ledger = Ledger::new();
-    let none = |_item: &EnvelopeItem| false;
-    let envelope = read_at_last(alloc, EVENT_AND_ATTACHMENT)?;
-    let told = match filter_recorded(alloc, envelope, none, Reason::SampleRate, &mut ledger) {
-        Err(envelope) if ledger.is_empty() => counted(alloc, envelope, &mut ledger),
-        Err(_) => None,
-        Ok((left, refused)) => Some((left.is_none(), refused, 2)),
-    };
-    assert!(rt; told == Some((true, 0, 2)) && all_held(&ledger) == 13);
-    Ok(())
+    let envelope = read_at_last(rt.alloc(), EVENT_AND_ATTACHMENT)?;
+    let told = recorded_at_last(rt.alloc(), envelope, &mut ledger);
+    wanted(told == Some((true, 0, 2)) && all_held(&ledger) == 13)
 }

@@ -2,7 +2,7 @@
 //! that fail, filters with a state. This crate has no code of its own.
 //!
 //! A test makes its values and asks them in small calls that answer yes or no, and fails once, by
-//! `wanted`: each value of a large type is walked, and dropped, on every way out of a function.
+//! `wanted`. No call lets a value of a large type go where its scope ends: see `wanted`.
 #![tactic(auto)]
 
 #[cfg(test)]
@@ -31,6 +31,8 @@ mod ledgers;
 mod losses;
 #[cfg(test)]
 mod main_path;
+#[cfg(test)]
+mod maps;
 #[cfg(test)]
 mod reader;
 #[cfg(test)]

@@ -16,8 +16,8 @@ fn shown(loss: &ItemLoss) -> (&'static str, u64, &'static str) {
     (loss.category.as_str(), loss.quantity, reason)
 }
 
-/// Whether these are the losses, and nothing comes after them.
-fn gives<S: LossSource>(source: &S, expected: &[(&'static str, u64, &'static str)]) -> bool {
+/// Whether these are the losses of a source, and nothing comes after them.
+fn gives<S: LossSource + Drop>(source: S, expected: &[(&'static str, u64, &'static str)]) -> bool {
     let mut losses = source.losses();
     for row in expected {
         match losses.next() {
@@ -39,17 +39,20 @@ fn losses_of_lists(_rt: HostRuntime) -> Result<(), Fail> {
         },
     ];
     let rows = [("error", 2, "before_send"), ("session", 0, "none")];
-    wanted(gives(&LossSlice(&[]), &[]) && gives(&LossSlice(&listed), &rows))
+    wanted(gives(LossSlice(&[]), &[]) && gives(LossSlice(&listed), &rows))
 }
 
 #[test]
 fn losses_of_sources(rt: HostRuntime) -> Result<(), Fail> {
+    let buffer = b"twelve bytes".to_vec(rt.alloc())?;
     let mut file = Attachment::default_in(rt.alloc());
-    file.buffer.extend_from_slice(b"twelve bytes")?;
-    let recording = ReplayRecording::default_in(rt.alloc());
+    file.buffer = buffer;
     wanted(
-        gives(&file, &[("attachment", 12, "none")])
-            && gives(&recording, &[("replay", 1, "none")])
-            && gives(&EnvelopeItem::Raw, &[]),
+        gives(file, &[("attachment", 12, "none")])
+            && gives(
+                ReplayRecording::default_in(rt.alloc()),
+                &[("replay", 1, "none")],
+            )
+            && gives(EnvelopeItem::Raw, &[]),
     )
 }

@@ -5,7 +5,7 @@ ghost use Rattle.sentry_envelope.specs.Envelope.{Envelope as Model, Spells, IsEn
 ghost use Rattle.sentry_envelope.specs.SentryProfile.{profile};
 ghost use Rattle.sentry_moments.specs.Moments.{moment_cell};
 
-use crate::wanted::wanted;
+use crate::wanted::{holds, wanted};
 use rand_core::Rng;
 use rand_pcg::Pcg32;
 use sentry_types::protocol::latest::client_report::LossSource;
@@ -23,10 +23,12 @@ fn without_attachments(alloc: Global, bytes: &[u8]) -> Result<Option<Envelope>, 
     let now = Moment::new(0, 0).ok_or("no moment")?;
     let envelope = Envelope::from_slice(alloc, bytes, now, &mut Pcg32::new(42, 54))?;
     let mut filter = |item: &EnvelopeItem| !matches!(item, EnvelopeItem::Attachment(_));
-    match envelope.filter_by(alloc, &mut filter) {
-        Ok(left) => Ok(left),
-        Err(_) => Err("out of memory")?,
-    }
+    Ok(
+        envelope
+            .filter_by(alloc, &mut filter)
+            .ok()
+            .ok_or("out of memory")?,
+    )
 }
 
 /// Whether one loss is told of an envelope, and it is written as this text.
@@ -42,9 +44,9 @@ fn is_left(alloc: Global, left: &Envelope, text: &str) -> bool {
 #[test]
 fn read_filtered_and_written(rt: HostRuntime) -> Result<(), Fail> {
     let alloc = rt.alloc();
-    let left = without_attachments(alloc, TWO_ITEMS.as_bytes())?.ok_or("nothing is left")?;
+    let left = without_attachments(alloc, TWO_ITEMS.as_bytes())?.ok_or("nothing is left");
     let text = "{}\n{\"length\":3,\"type\":\"replay_recording\"}\nabc\n";
-    wanted(is_left(alloc, &left, text))
+    wanted(holds(left, |left: &Envelope| is_left(alloc, left, text)))
 }
 
 /// The text of the envelope that bytes spell at one moment, and the text of what that text spells

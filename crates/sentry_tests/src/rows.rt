@@ -1,33 +1,47 @@
 //! Tables whose other members have keys of rows, which no line of text brings about.
 
-use crate::wanted::wanted;
+use crate::wanted::{holds, wanted};
 use sentry_members::text_of;
-use sentry_types::protocol::v7::{Member, User, Value};
+use sentry_types::protocol::v7::{Map, Member, User, Value};
 use std::alloc::{AllocError, Global};
 use std::test::Fail;
 
-/// A user with an id, and other members of these keys.
-fn user(alloc: Global, keys: &[&str]) -> Result<User, AllocError> {
-    let mut user = User::default_in(alloc);
-    user.id = Some(String::from_str(alloc, "7")?);
+/// Members of these keys.
+fn members(alloc: Global, keys: &[&str]) -> Result<Map<String, Value>, AllocError> {
+    let mut members = Map::new(alloc);
     for key in keys {
-        drop(
-            user.other
-                .insert(String::from_str(alloc, key)?, Value::from(1u64))?,
-        );
+        drop(members.insert(String::from_str(alloc, key)?, Value::from(1u64))?);
     }
-    Ok(user)
+    Ok(members)
+}
+
+/// A user with an id, and other members.
+fn user(alloc: Global, id: String, other: Map<String, Value>) -> User {
+    let mut user = User::default_in(alloc);
+    drop(user.id.replace(id));
+    user.other = other;
+    user
+}
+
+/// Whether a user isn't plain, and is written as this text.
+fn is_written(alloc: Global, user: &User, text: &str) -> bool {
+    !user.is_plain()
+        && holds(
+            text_of(alloc, user),
+            |line: &Vec<u8>| line.as_slice() == text.as_bytes(),
+        )
+        && holds(user.to_tree(alloc), |tree: &Value| {
+            holds(tree.to_string(alloc), |line: &String| line.as_str() == text)
+        })
 }
 
 /// Where another member has the key of a row, the row is written.
 #[test]
 fn a_row_goes_before_another_member(rt: HostRuntime) -> Result<(), Fail> {
     let alloc = rt.alloc();
-    let user = user(alloc, &["a", "email", "id"])?;
-    let (tree, line) = (
-        user.to_tree(alloc)?.to_string(alloc)?,
-        text_of(alloc, &user)?,
-    );
-    let text = "{\"a\":1,\"email\":1,\"id\":\"7\"}";
-    wanted(!user.is_plain() && tree.as_str() == text && line.as_slice() == text.as_bytes())
+    let id = String::from_str(alloc, "7")?;
+    let user = user(alloc, id, members(alloc, &["a", "email", "id"])?);
+    let written = is_written(alloc, &user, "{\"a\":1,\"email\":1,\"id\":\"7\"}");
+    drop(user);
+    wanted(written)
 }

@@ -1,8 +1,64 @@
-//! How a test fails.
+//! How a test asks the values that it makes, and how it fails.
+//!
+//! A value of a large type that is dropped where its scope ends costs a test many seconds of proof:
+//! each of its fields is walked there. So tests hand such values to the generic calls here, which
+//! drop them once for all types, or to `drop`.
 
 use std::test::Fail;
 
 /// Fails where what is wanted doesn't hold.
 pub(crate) fn wanted(holds: bool) -> Result<(), Fail> {
     if holds { Ok(()) } else { Err("not as wanted")? }
+}
+
+/// Whether a value was made, and is as asked.
+pub(crate) fn holds<T: Drop, E: Drop, F: FnOnce(&T) -> bool>(made: Result<T, E>, ask: F) -> bool
+    requires { F.IsAlwaysCallable ask }
+{
+    match made {
+        Ok(value) => ask(&value),
+        Err(_) => false,
+    }
+}
+
+/// Whether a value was made, and the call that takes it answers yes.
+pub(crate) fn taken<T: Drop, E: Drop, F: FnOnce(T) -> bool>(made: Result<T, E>, call: F) -> bool
+    requires { F.IsAlwaysCallable call }
+{
+    match made {
+        Ok(value) => call(value),
+        Err(_) => false,
+    }
+}
+
+/// Whether two values were made, and are as asked.
+pub(crate) fn both<T: Drop, E: Drop, U: Drop, D: Drop, F: FnOnce(&T, &U) -> bool>(
+    one: Result<T, E>,
+    other: Result<U, D>,
+    ask: F,
+) -> bool
+    requires { F.IsAlwaysCallable ask }
+{
+    match (one, other) {
+        (Ok(one), Ok(other)) => ask(&one, &other),
+        _ => false,
+    }
+}
+
+/// Whether a value was made, and is this one.
+pub(crate) fn is_same<T: PartialEq + Drop, E: Drop>(made: Result<T, E>, value: &T) -> bool {
+    match made {
+        Ok(made) => made == *value,
+        Err(_) => false,
+    }
+}
+
+/// Whether a call succeeded.
+pub(crate) fn is_done<T: Drop, E: Drop>(answer: Result<T, E>) -> bool {
+    answer.is_ok()
+}
+
+/// Whether a call found nothing.
+pub(crate) fn is_none<T: Drop>(found: Option<T>) -> bool {
+    found.is_none()
 }

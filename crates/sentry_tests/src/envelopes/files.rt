@@ -1,7 +1,7 @@
 //! Envelopes in files.
 
 use super::{is_written, read};
-use crate::wanted::wanted;
+use crate::wanted::{holds, is_none, is_same, wanted};
 use rand_pcg::Pcg32;
 use sentry_types::protocol::v7::EnvelopeError::UnexpectedEof;
 use sentry_types::protocol::v7::{Envelope, EnvelopeError, Moment};
@@ -17,21 +17,22 @@ fn envelope_in(rt: &HostRuntime, path: &str) -> Result<Envelope, EnvelopeError> 
 }
 
 /// Whether a file's raw envelope shows no items, and is written as this text.
-fn is_raw_text(rt: &HostRuntime, path: &str, text: &str) -> Result<bool, EnvelopeError> {
-    let envelope = Envelope::from_path_raw(rt, path)?;
-    Ok(envelope.items().next().is_none() && is_written(rt.alloc(), &envelope, text))
+fn is_raw_text(rt: &HostRuntime, path: &str, text: &str) -> bool {
+    holds(Envelope::from_path_raw(rt, path), |envelope: &Envelope| {
+        is_none(envelope.items().next()) && is_written(rt.alloc(), envelope, text)
+    })
 }
 
 /// Whether a file's envelope is the one that a text spells, and its raw envelope is that text.
-fn holds(rt: &HostRuntime, path: &str, text: &str) -> Result<bool, EnvelopeError> {
-    let found = envelope_in(rt, path)? == read(rt.alloc(), text.as_bytes())?;
-    Ok(found && is_raw_text(rt, path, text)?)
+fn is_text(rt: &HostRuntime, path: &str, text: &str) -> bool {
+    holds(read(rt.alloc(), text.as_bytes()), |envelope: &Envelope| {
+        is_same(envelope_in(rt, path), envelope)
+    }) && is_raw_text(rt, path, text)
 }
 
-/// Whether a file can't be read.
-fn is_lost(rt: &HostRuntime, path: &str) -> bool {
-    matches!(envelope_in(rt, path), Err(UnexpectedEof))
-        && matches!(Envelope::from_path_raw(rt, path), Err(UnexpectedEof))
+/// Whether this is how reading ends where a file is missing.
+fn is_missing<T: Drop>(read: Result<T, EnvelopeError>) -> bool {
+    matches!(read, Err(UnexpectedEof))
 }
 
 #[test]
@@ -39,7 +40,7 @@ fn files(rt: HostRuntime) -> Result<(), Fail> {
     let path = "an_envelope";
     let text = "{}\n{\"type\":\"attachment\"}\na";
     fs::write(&rt, path, text)?;
-    wanted(holds(&rt, path, text)?)?;
+    wanted(is_text(&rt, path, text))?;
     fs::remove_file(&rt, path)?;
-    wanted(is_lost(&rt, path))
+    wanted(is_missing(envelope_in(&rt, path)) && is_missing(Envelope::from_path_raw(&rt, path)))
 }

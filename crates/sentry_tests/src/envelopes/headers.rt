@@ -1,7 +1,7 @@
 //! Headers of envelopes: what builders put in, getters give.
 
 use super::is_written;
-use crate::wanted::wanted;
+use crate::wanted::{holds, is_same, wanted};
 use sentry_types::protocol::v7::{
     ClientSdkInfo, DynamicSamplingContext, Envelope, EnvelopeHeaders, Moment, OrganizationId,
     SampleRand, TraceId,
@@ -15,20 +15,25 @@ fn text(alloc: Global, text: &str) -> Result<String, AllocError> {
 }
 
 /// What a trace is sampled by, with each of its texts.
-fn texts(alloc: Global) -> Result<DynamicSamplingContext, AllocError> {
-    Ok(
-        DynamicSamplingContext::new()
-            .with_public_key(text(alloc, "k")?)
-            .with_release(text(alloc, "r")?)
-            .with_environment(text(alloc, "e")?)
-            .with_transaction(text(alloc, "t")?),
-    )
+fn texts(
+    public_key: String,
+    release: String,
+    environment: String,
+    transaction: String,
+) -> DynamicSamplingContext {
+    DynamicSamplingContext::new()
+        .with_public_key(public_key)
+        .with_release(release)
+        .with_environment(environment)
+        .with_transaction(transaction)
 }
 
 /// What a trace is sampled by, with each of its fields.
 fn sampling(alloc: Global, sample_rand: SampleRand) -> Result<DynamicSamplingContext, AllocError> {
+    let (key, release) = (text(alloc, "k")?, text(alloc, "r")?);
+    let (environment, transaction) = (text(alloc, "e")?, text(alloc, "t")?);
     Ok(
-        texts(alloc)?
+        texts(key, release, environment, transaction)
             .with_trace_id(TraceId::from([0x65; 16]))
             .with_sample_rate(210)
             .with_sample_rand(sample_rand)
@@ -63,41 +68,53 @@ fn is_blank(trace: &DynamicSamplingContext) -> bool {
         && trace.org_id().is_none()
 }
 
+/// A number below 1 that six places round to 1.
+fn near_one() -> Result<SampleRand, Fail> {
+    Ok(SampleRand::from_billionths(999_999_900).ok().ok_or("rand")?)
+}
+
 #[test]
 fn sampling_contexts(rt: HostRuntime) -> Result<(), Fail> {
-    let alloc = rt.alloc();
     let sample_rand = SampleRand::from_billionths(123_456_000).ok().ok_or("rand")?;
-    let trace = sampling(alloc, sample_rand)?;
-    wanted(is_given(&trace, sample_rand) && trace.clone()? == trace)?;
-    wanted(is_blank(&DynamicSamplingContext::new()))
+    let new = DynamicSamplingContext::new();
+    let blank = is_blank(&new);
+    drop(new);
+    wanted(blank)?;
+    wanted(holds(
+        sampling(rt.alloc(), sample_rand),
+        |trace: &DynamicSamplingContext| {
+            is_given(trace, sample_rand) && is_same(trace.clone(), trace)
+        },
+    ))
 }
 
 fn software(alloc: Global) -> Result<ClientSdkInfo, AllocError> {
+    let (name, version) = (text(alloc, "a")?, text(alloc, "1")?);
     Ok(ClientSdkInfo {
-        name: text(alloc, "a")?,
-        version: text(alloc, "1")?,
+        name,
+        version,
         integrations: Vec::new(alloc),
         packages: Vec::new(alloc),
     })
 }
 
-/// A header with each of its fields; of what its trace is sampled by a number below 1 that six
-/// places round to 1.
-fn header(alloc: Global, dsn: Dsn, sent_at: Moment) -> Result<EnvelopeHeaders, Fail> {
-    let sample_rand = SampleRand::from_billionths(999_999_900).ok().ok_or("rand")?;
-    let sdk = software(alloc)?;
-    Ok(
-        EnvelopeHeaders::new()
-            .with_event_id(Uuid::nil())
-            .with_dsn(dsn)
-            .with_sent_at(sent_at)
-            .with_trace(DynamicSamplingContext::new().with_sample_rand(sample_rand))
-            .with_sdk(sdk),
-    )
+/// A header with each of its fields.
+fn header(
+    dsn: Dsn,
+    sdk: ClientSdkInfo,
+    sent_at: Moment,
+    sample_rand: SampleRand,
+) -> EnvelopeHeaders {
+    EnvelopeHeaders::new()
+        .with_event_id(Uuid::nil())
+        .with_dsn(dsn)
+        .with_sent_at(sent_at)
+        .with_trace(DynamicSamplingContext::new().with_sample_rand(sample_rand))
+        .with_sdk(sdk)
 }
 
 /// Whether each getter gives what was put in.
-fn holds(header: &EnvelopeHeaders, dsn: &Dsn, sent_at: Moment) -> bool {
+fn is_full(header: &EnvelopeHeaders, dsn: &Dsn, sent_at: Moment) -> bool {
     header.event_id().copied() == Some(Uuid::nil())
         && header.dsn().is_some_and(|found| *found == *dsn)
         && header.sdk().is_some_and(|found| found.name.as_str() == "a")
@@ -122,32 +139,65 @@ const LINE: &str = concat!(
     "\"trace\":{\"sample_rand\":\"0.999999\"}}\n"
 );
 
-/// Whether a header's envelope is written as `LINE`.
-fn is_line(alloc: Global, header: EnvelopeHeaders) -> bool {
-    is_written(alloc, &Envelope::new(alloc).with_headers(header), LINE)
+/// Whether a header's envelope is written as this line.
+fn is_line(alloc: Global, header: EnvelopeHeaders, line: &str) -> bool {
+    let envelope = Envelope::new(alloc).with_headers(header);
+    let written = is_written(alloc, &envelope, line);
+    drop(envelope);
+    written
+}
+
+/// Whether a header was made that is written as `LINE`.
+fn is_usual(alloc: Global, header: Result<EnvelopeHeaders, AllocError>) -> bool {
+    match header {
+        Ok(header) => is_line(alloc, header, LINE),
+        Err(_) => false,
+    }
+}
+
+/// Whether a header is its clone, isn't its normal form, and both are written as `LINE`.
+fn is_written_alike(alloc: Global, header: &EnvelopeHeaders) -> bool {
+    is_same(header.clone(), header)
+        && holds(
+            header.normalized(alloc),
+            |normal: &EnvelopeHeaders| *normal != *header,
+        )
+        && is_usual(alloc, header.clone())
+        && is_usual(alloc, header.normalized(alloc))
+}
+
+/// Whether a header with each of its fields gives them, and is written with them.
+fn is_right(alloc: Global, dsn: &Dsn, sent_at: Moment, sample_rand: SampleRand) -> bool {
+    let Ok(sdk) = software(alloc) else {
+        return false;
+    };
+    let full = dsn
+        .clone()
+        .map(|dsn: Dsn| header(dsn, sdk, sent_at, sample_rand));
+    holds(full, |full: &EnvelopeHeaders| {
+        is_full(full, dsn, sent_at) && is_written_alike(alloc, full)
+    })
 }
 
 #[test]
 fn headers(rt: HostRuntime) -> Result<(), Fail> {
     let alloc = rt.alloc();
-    let sent_at = Moment::new(1_581_084_960, 0).ok_or("moment")?;
-    let dsn = Dsn::from_str(alloc, "https://username@domain/42")?;
-    let full = header(alloc, dsn.clone()?, sent_at)?;
-    wanted(holds(&full, &dsn, sent_at) && is_empty(&EnvelopeHeaders::new()))?;
-    let (copy, normal) = (full.clone()?, full.normalized(alloc)?);
-    wanted(copy == full && normal != full)?;
-    wanted(is_line(alloc, copy) && is_line(alloc, normal))
+    let (sample_rand, sent_at) = (near_one()?, Moment::new(1_581_084_960, 0).ok_or("moment")?);
+    let new = EnvelopeHeaders::new();
+    let empty = is_empty(&new);
+    drop(new);
+    let dsn = Dsn::from_str(alloc, "https://username@domain/42");
+    let right = holds(dsn, |dsn: &Dsn| is_right(alloc, dsn, sent_at, sample_rand));
+    wanted(empty && right)
 }
 
 #[test]
 fn a_sample_rand_is_not_rounded_up_to_1(rt: HostRuntime) -> Result<(), Fail> {
-    let sample_rand = SampleRand::from_billionths(999_999_900).ok().ok_or("rand")?;
-    let trace = DynamicSamplingContext::new().with_sample_rand(sample_rand);
+    let trace = DynamicSamplingContext::new().with_sample_rand(near_one()?);
     let header = EnvelopeHeaders::new().with_trace(trace);
-    let envelope = Envelope::new(rt.alloc()).with_headers(header);
-    wanted(is_written(
+    wanted(is_line(
         rt.alloc(),
-        &envelope,
+        header,
         "{\"trace\":{\"sample_rand\":\"0.999999\"}}\n",
     ))
 }

@@ -4,8 +4,8 @@
 //! whichever it is (`rt try --test --fail-alloc N`), they pass too: the answer is then want of
 //! memory, nothing was done, and the next call is answered.
 
-use super::{HELLO, ID_LINE, filtered, read};
-use crate::wanted::wanted;
+use super::{HELLO, ID_LINE, read};
+use crate::wanted::{holds, is_none, is_same, taken, wanted};
 use sentry_types::protocol::v7::{
     CountedWriter, Envelope, EnvelopeError, EnvelopeFilter, EnvelopeItem, EnvelopeWriteError,
 };
@@ -124,6 +124,11 @@ pub(crate) fn read_at_last(alloc: Global, bytes: &[u8]) -> Result<Envelope, Enve
     }
 }
 
+/// The envelope that `TWO` spells.
+fn two(alloc: Global) -> Result<Envelope, EnvelopeError> {
+    read_at_last(alloc, TWO.as_bytes())
+}
+
 /// Whether an envelope has an id, an event and another item.
 fn is_read(envelope: &Envelope) -> bool {
     envelope.uuid().is_some() && envelope.event().is_some() && envelope.items().count() == 2
@@ -131,7 +136,7 @@ fn is_read(envelope: &Envelope) -> bool {
 
 #[test]
 fn refused_when_reading(rt: HostRuntime) -> Result<(), Fail> {
-    wanted(is_read(&read_at_last(rt.alloc(), TWO.as_bytes())?))
+    wanted(holds(two(rt.alloc()), is_read))
 }
 
 /// Whether a page gets the whole text, after a refusal that wrote nothing at the second try.
@@ -149,54 +154,61 @@ fn is_written_at_last(alloc: Global, envelope: &Envelope) -> bool {
 
 #[test]
 fn refused_when_writing(rt: HostRuntime) -> Result<(), Fail> {
-    wanted(is_written_at_last(rt.alloc(), &read_at_last(rt.alloc(), TWO.as_bytes())?))
+    wanted(holds(two(rt.alloc()), |envelope: &Envelope| {
+        is_written_at_last(rt.alloc(), envelope)
+    }))
 }
 
 /// The normal form of an envelope. After a refusal it is asked for once more.
 fn normalized_at_last(envelope: &Envelope) -> Result<Envelope, AllocError> {
     match envelope.normalized() {
         Ok(normal) => Ok(normal),
-        Err(_) => envelope.normalized(),
+        Err(AllocError) => envelope.normalized(),
     }
 }
 
 #[test]
 fn refused_when_normalizing(rt: HostRuntime) -> Result<(), Fail> {
-    let normal = normalized_at_last(&read_at_last(rt.alloc(), TWO.as_bytes())?)?;
-    wanted(is_written_at_last(rt.alloc(), &normal))
+    wanted(holds(two(rt.alloc()), |envelope: &Envelope| {
+        holds(normalized_at_last(envelope), |normal: &Envelope| {
+            is_written_at_last(rt.alloc(), normal)
+        })
+    }))
 }
 
-/// Whether an envelope is the one that `TWO` spells.
-fn is_unchanged(alloc: Global, envelope: &Envelope) -> bool {
-    matches!(read(alloc, TWO.as_bytes()), Ok(same) if same == *envelope)
+/// Whether an envelope is left after a filter.
+fn is_left<T: Drop, E: Drop>(filtered: Result<Option<T>, E>) -> bool {
+    matches!(filtered, Ok(Some(_)))
 }
 
 /// Whether all stays, after a refusal that called nothing and left the envelope as it was at the
 /// second try.
 fn stays_at_last(alloc: Global, envelope: Envelope) -> bool {
     match envelope.filter(alloc, Calls::none()) {
-        Ok(left) => left.is_some(),
+        Ok(left) => !is_none(left),
         Err((envelope, calls)) => {
-            calls.are(0, 0)
-                && is_unchanged(alloc, &envelope)
-                && matches!(envelope.filter(alloc, calls), Ok(Some(_)))
+            let unchanged = calls.are(0, 0) && is_same(read(alloc, TWO.as_bytes()), &envelope);
+            let left = is_left(envelope.filter(alloc, calls));
+            unchanged && left
         }
     }
 }
 
 #[test]
 fn refused_when_filtering(rt: HostRuntime) -> Result<(), Fail> {
-    wanted(stays_at_last(rt.alloc(), read_at_last(rt.alloc(), TWO.as_bytes())?))
+    wanted(stays_at_last(rt.alloc(), two(rt.alloc())?))
+}
+
+/// A header line, an event, and an attachment of so many bytes, up to those.
+fn beginning(alloc: Global, length: usize) -> Result<String, AllocError> {
+    let event =
+        "{\"type\":\"event\"}\n{\"event_id\":\"22d00b3fd1b14b5d8d2049d138cd8a9c\",\"timestamp\":\"2020-07-20T14:51:14.296Z\"}\n";
+    format!(in alloc; "{ID_LINE}{event}{{\"type\":\"attachment\",\"length\":{length}}}\n")
 }
 
 /// The bytes of an envelope of an event, an attachment of so many bytes and a recording.
 fn bytes_of(alloc: Global, length: usize) -> Result<Vec<u8>, AllocError> {
-    let event =
-        "{\"type\":\"event\"}\n{\"event_id\":\"22d00b3fd1b14b5d8d2049d138cd8a9c\",\"timestamp\":\"2020-07-20T14:51:14.296Z\"}\n";
-    let header = format!(in alloc;
-        "{ID_LINE}{event}{{\"type\":\"attachment\",\"length\":{length}}}\n"
-    )?;
-    let mut bytes = header.as_bytes().to_vec(alloc)?;
+    let mut bytes = beginning(alloc, length)?.as_bytes().to_vec(alloc)?;
     bytes.extend_from_slice(&vec![in alloc; b'x'; length]?)?;
     bytes.extend_from_slice(b"\n{\"type\":\"replay_recording\"}\n")?;
     Ok(bytes)
@@ -212,22 +224,41 @@ fn is_longer(alloc: Global, envelope: &Envelope, length: usize) -> bool {
         && counted.into_inner() == out
 }
 
-/// Whether all three items of an envelope stay.
-fn keeps_all(alloc: Global, envelope: Envelope, keep: bool) -> bool {
+/// Whether all three items stay where no header field does.
+fn stays_by(alloc: Global, envelope: Envelope) -> bool {
     let mut calls = Calls::none();
-    let left = filtered(alloc, envelope, &mut calls, keep);
-    matches!(left, Ok(Some(_))) && calls.are(3, 0)
+    is_left(envelope.filter_by(alloc, &mut calls)) && calls.are(3, 0)
 }
 
-/// Whether no call wants memory for the envelope of an event, an attachment of so many bytes and a
-/// recording.
-fn none_is_refused(alloc: Global, envelope: Envelope, length: usize) -> Result<bool, AllocError> {
-    let written = is_longer(alloc, &envelope, length);
-    let normal = is_longer(alloc, &envelope.normalized()?, length);
-    let filtered = keeps_all(alloc, envelope.clone()?, false);
-    let kept = keeps_all(alloc, envelope.clone()?, true);
-    let alone = matches!(envelope.filter(alloc, Calls::none()), Ok(Some(_)));
-    Ok(written && normal && filtered && kept && alone)
+/// Whether all three items stay with the header fields.
+fn stays_with_headers(alloc: Global, envelope: Envelope) -> bool {
+    let mut calls = Calls::none();
+    is_left(envelope.filter_keep_headers(alloc, &mut calls)) && calls.are(3, 0)
+}
+
+/// Whether all items stay by the call that takes its filter.
+fn stays(alloc: Global, envelope: Envelope) -> bool {
+    is_left(envelope.filter(alloc, Calls::none()))
+}
+
+/// Whether all items of an envelope stay by each call that filters.
+fn keeps_all(alloc: Global, envelope: &Envelope) -> bool {
+    taken(envelope.clone(), |copy: Envelope| stays_by(alloc, copy))
+        && taken(
+            envelope.clone(),
+            |copy: Envelope| stays_with_headers(alloc, copy),
+        )
+        && taken(envelope.clone(), |copy: Envelope| stays(alloc, copy))
+}
+
+/// Whether no call wants memory for an envelope of more bytes than these.
+fn none_is_refused(alloc: Global, envelope: &Envelope, length: usize) -> bool {
+    is_longer(alloc, envelope, length)
+        && holds(
+            envelope.normalized(),
+            |normal: &Envelope| is_longer(alloc, normal, length),
+        )
+        && keeps_all(alloc, envelope)
 }
 
 #[test]
@@ -235,7 +266,9 @@ fn none_refused(rt: HostRuntime) -> Result<(), Fail> {
     let alloc = rt.alloc();
     for length in [10, 1_000_000] {
         let bytes = bytes_of(alloc, length)?;
-        wanted(none_is_refused(alloc, read(alloc, &bytes)?, length)?)?;
+        wanted(holds(read(alloc, &bytes), |envelope: &Envelope| {
+            none_is_refused(alloc, envelope, length)
+        }))?;
     }
     Ok(())
 }

@@ -1,9 +1,11 @@
 //! Envelopes that are put together.
 
 use super::{HELLO, ID_LINE, hello, is_written, recording};
-use crate::wanted::wanted;
+use crate::wanted::{both, holds, is_done, is_same, wanted};
 use sentry_types::Uuid;
-use sentry_types::protocol::v7::{AddRefused, Envelope, EnvelopeHeaders, EnvelopeItem};
+use sentry_types::protocol::v7::{
+    AddRefused, Envelope, EnvelopeError, EnvelopeHeaders, EnvelopeItem,
+};
 use std::alloc::{AllocError, Global};
 use std::test::Fail;
 
@@ -14,34 +16,45 @@ fn is_bare(alloc: Global, envelope: &Envelope) -> bool {
 
 #[test]
 fn empty(rt: HostRuntime) -> Result<(), Fail> {
-    let alloc = rt.alloc();
-    wanted(is_bare(alloc, &Envelope::new(alloc)) && is_bare(alloc, &Envelope::default_in(alloc)))
+    let new = Envelope::new(rt.alloc());
+    let usual = Envelope::default_in(rt.alloc());
+    let bare = is_bare(rt.alloc(), &new) && is_bare(rt.alloc(), &usual);
+    drop(new);
+    drop(usual);
+    wanted(bare)
 }
 
-/// The id in `ID_LINE`.
-fn id() -> Uuid {
-    Uuid::from_u128(0x9ec7_9c33_ec99_42ab_8353_589f_cb2e_04dc)
+/// The header of `ID_LINE`.
+fn header() -> EnvelopeHeaders {
+    let id = Uuid::from_u128(0x9ec7_9c33_ec99_42ab_8353_589f_cb2e_04dc);
+    EnvelopeHeaders::new().with_event_id(id)
 }
 
 /// An envelope of the attachment of `helloworld`.
 fn one_item(alloc: Global) -> Result<Envelope, AddRefused> {
     match hello(alloc) {
         Ok(item) => Envelope::from_item(alloc, item),
-        Err(_) => Err(AddRefused::Memory(EnvelopeItem::Raw)),
+        Err(AllocError) => Err(AddRefused::Memory(EnvelopeItem::Raw)),
     }
 }
 
-fn and_item(mut envelope: Envelope, item: EnvelopeItem) -> Result<Envelope, AddRefused> {
-    envelope.add_item(item)?;
-    Ok(envelope)
+/// An envelope with one item more.
+fn with_item(mut envelope: Envelope, item: EnvelopeItem) -> Result<Envelope, AddRefused> {
+    match envelope.add_item(item) {
+        Ok(()) => Ok(envelope),
+        Err(refused) => {
+            drop(envelope);
+            Err(refused)
+        }
+    }
 }
 
 /// An envelope of the attachment of `helloworld`, raw bytes and a recording, with an id in its
 /// header.
 fn three_items(alloc: Global) -> Result<Envelope, AddRefused> {
-    let two = and_item(one_item(alloc)?, EnvelopeItem::Raw)?;
-    let three = and_item(two, recording(alloc))?;
-    Ok(three.with_headers(EnvelopeHeaders::new().with_event_id(id())))
+    let two = with_item(one_item(alloc)?, EnvelopeItem::Raw)?;
+    let three = with_item(two, recording(alloc))?;
+    Ok(three.with_headers(header()))
 }
 
 fn are_three(envelope: &Envelope) -> bool {
@@ -52,60 +65,103 @@ fn are_three(envelope: &Envelope) -> bool {
         && items.next().is_none()
 }
 
-/// The header and the text: raw items are not written.
-fn is_text(alloc: Global, envelope: &Envelope) -> Result<bool, AllocError> {
+/// Whether an envelope is written as the attachment and the recording: raw items are left out.
+fn is_text(alloc: Global, envelope: &Envelope) -> bool {
     let recording = "{\"length\":0,\"type\":\"replay_recording\"}\n\n";
-    let text = format!(in alloc; "{ID_LINE}{HELLO}{recording}")?;
-    let same = *envelope.headers() == EnvelopeHeaders::new().with_event_id(id());
-    Ok(same && is_written(alloc, envelope, text.as_str()))
+    let text = format!(in alloc; "{ID_LINE}{HELLO}{recording}");
+    holds(
+        text,
+        |text: &String| is_written(alloc, envelope, text.as_str()),
+    )
+}
+
+/// Whether an envelope has the header of `ID_LINE`.
+fn has_header(envelope: &Envelope) -> bool {
+    let header = header();
+    let same = *envelope.headers() == header;
+    drop(header);
+    same
 }
 
 #[test]
 fn items(rt: HostRuntime) -> Result<(), Fail> {
-    let envelope = three_items(rt.alloc())?;
-    wanted(are_three(&envelope) && is_text(rt.alloc(), &envelope)?)
+    wanted(holds(three_items(rt.alloc()), |envelope: &Envelope| {
+        are_three(envelope) && has_header(envelope) && is_text(rt.alloc(), envelope)
+    }))
 }
 
-/// Whether two envelopes are the same, of three items each.
-fn are_alike(one: &Envelope, other: Envelope) -> Result<bool, AllocError> {
-    let alike = *one == other && are_three(&other) && other.items().clone()?.count() == 3;
-    Ok(alike && other.into_items().count() == 3)
+/// Whether an envelope is its clone, and there are three items to see.
+fn is_copied(envelope: &Envelope) -> bool {
+    is_same(envelope.clone(), envelope)
+        && holds(envelope.clone(), are_three)
+        && match envelope.items().clone() {
+            Ok(items) => items.count() == 3,
+            Err(_) => false,
+        }
+}
+
+/// How many items are taken out of an envelope.
+fn count_taken(envelope: Result<Envelope, AllocError>) -> Option<usize> {
+    Some(envelope.ok()?.into_items().count())
 }
 
 #[test]
 fn copies(rt: HostRuntime) -> Result<(), Fail> {
-    let envelope = three_items(rt.alloc())?;
-    wanted(are_alike(&envelope, envelope.clone()?)?)
+    wanted(holds(three_items(rt.alloc()), |envelope: &Envelope| {
+        is_copied(envelope) && count_taken(envelope.clone()) == Some(3)
+    }))
 }
 
-/// Whether the one envelope lost its raw item, and the two have one text.
-fn is_normal_form(alloc: Global, normal: &Envelope) -> Result<bool, AllocError> {
-    Ok(normal.items().count() == 2 && is_text(alloc, normal)?)
+/// Whether a normal form lost its raw item, and has the text.
+fn is_normal_form(alloc: Global, normal: &Envelope) -> bool {
+    normal.items().count() == 2 && is_text(alloc, normal)
 }
 
 #[test]
 fn normal_forms(rt: HostRuntime) -> Result<(), Fail> {
-    let envelope = three_items(rt.alloc())?;
-    wanted(is_normal_form(rt.alloc(), &envelope.normalized()?)?)
+    wanted(holds(three_items(rt.alloc()), |envelope: &Envelope| {
+        holds(
+            envelope.normalized(),
+            |normal: &Envelope| is_normal_form(rt.alloc(), normal),
+        )
+    }))
 }
 
-fn raw(alloc: Global) -> Result<Envelope, Fail> {
-    Ok(Envelope::from_bytes_raw(b"oh stahp!\0\x01\x02".to_vec(alloc)?)?)
+fn raw(alloc: Global) -> Result<Envelope, EnvelopeError> {
+    Envelope::from_bytes_raw(b"oh stahp!\0\x01\x02".to_vec(alloc)?)
+}
+
+/// The item that is handed back since the envelope is raw.
+fn handed_back(answer: Result<(), AddRefused>) -> Option<EnvelopeItem> {
+    match answer {
+        Err(AddRefused::RawEnvelope(item)) => Some(item),
+        Err(AddRefused::Memory(item)) => {
+            drop(item);
+            None
+        }
+        Ok(()) => None,
+    }
 }
 
 /// Whether a raw envelope refuses an attachment, and hands it back.
-fn is_refused(alloc: Global, envelope: &mut Envelope) -> Result<bool, AllocError> {
-    match envelope.add_item(hello(alloc)?) {
-        Err(AddRefused::RawEnvelope(item)) => Ok(item == hello(alloc)?),
-        _ => Ok(false),
-    }
+fn is_refused(alloc: Global, envelope: &mut Envelope) -> bool {
+    let Ok(item) = hello(alloc) else {
+        return false;
+    };
+    let back = handed_back(envelope.add_item(item)).ok_or("taken");
+    both(
+        back,
+        hello(alloc),
+        |back: &EnvelopeItem, hello: &EnvelopeItem| *back == *hello,
+    )
 }
 
 #[test]
 fn raw_envelopes_take_no_items(rt: HostRuntime) -> Result<(), Fail> {
     let mut envelope = raw(rt.alloc())?;
-    let refused = is_refused(rt.alloc(), &mut envelope)?;
-    let taken = envelope.add_item(EnvelopeItem::Raw).is_ok();
-    wanted(refused && taken && envelope.normalized()? == envelope)?;
-    wanted(envelope.into_items().count() == 0)
+    let refused = is_refused(rt.alloc(), &mut envelope);
+    let taken = is_done(envelope.add_item(EnvelopeItem::Raw));
+    let steady = is_same(envelope.normalized(), &envelope);
+    let none = envelope.into_items().count() == 0;
+    wanted(refused && taken && steady && none)
 }

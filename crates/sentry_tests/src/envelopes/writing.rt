@@ -1,7 +1,7 @@
 //! Writers that fail.
 
 use super::{HELLO, ID_LINE, read};
-use crate::wanted::wanted;
+use crate::wanted::{holds, wanted};
 use crate::writers::Full;
 use sentry_types::protocol::v7::{CountedWriter, Envelope, EnvelopeWriteError};
 use std::alloc::{AllocError, Global};
@@ -28,16 +28,25 @@ fn is_cut(alloc: Global, envelope: &Envelope, text: &[u8], room: usize, by_error
         && counted.into_inner().holds(text, room)
 }
 
-#[test]
-fn a_failed_write_ends_it(rt: HostRuntime) -> Result<(), Fail> {
-    let text = text(rt.alloc())?;
-    let envelope = read(rt.alloc(), text.as_bytes())?;
-    for by_error in [false, true] {
-        for room in 0..text.len() {
-            wanted(is_cut(rt.alloc(), &envelope, text.as_bytes(), room, by_error))?;
+/// Whether each writer that has no room for the text gets a beginning of it.
+fn is_cut_anywhere(alloc: Global, envelope: &Envelope, text: &[u8], by_error: bool) -> bool {
+    for room in 0..text.len() {
+        if !is_cut(alloc, envelope, text, room, by_error) {
+            return false;
         }
     }
-    Ok(())
+    true
+}
+
+#[test]
+fn a_failed_write_ends_it(rt: HostRuntime) -> Result<(), Fail> {
+    let alloc = rt.alloc();
+    let text = text(alloc)?;
+    let bytes = text.as_bytes();
+    wanted(holds(read(alloc, bytes), |envelope: &Envelope| {
+        is_cut_anywhere(alloc, envelope, bytes, false)
+            && is_cut_anywhere(alloc, envelope, bytes, true)
+    }))
 }
 
 /// Whether a writer with so much room gets the whole text a byte at a time, and counts no failure.
@@ -53,10 +62,11 @@ fn is_taken(alloc: Global, envelope: &Envelope, text: &[u8], room: usize) -> boo
 
 #[test]
 fn a_byte_at_a_time(rt: HostRuntime) -> Result<(), Fail> {
-    let text = text(rt.alloc())?;
-    let envelope = read(rt.alloc(), text.as_bytes())?;
-    for room in [text.len(), usize::MAX] {
-        wanted(is_taken(rt.alloc(), &envelope, text.as_bytes(), room))?;
-    }
-    Ok(())
+    let alloc = rt.alloc();
+    let text = text(alloc)?;
+    let bytes = text.as_bytes();
+    wanted(holds(read(alloc, bytes), |envelope: &Envelope| {
+        is_taken(alloc, envelope, bytes, bytes.len())
+            && is_taken(alloc, envelope, bytes, usize::MAX)
+    }))
 }

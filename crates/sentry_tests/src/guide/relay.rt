@@ -1,7 +1,7 @@
 //! A relay: it reads the envelope header, keeps a quota of events, and forwards.
 
 use crate::envelopes::read;
-use crate::wanted::wanted;
+use crate::wanted::{holds, wanted};
 use sentry_types::protocol::v7::{
     Envelope, EnvelopeError, EnvelopeItem, EnvelopeWriteError, Frames, ItemKind, read_item_header,
 };
@@ -63,15 +63,21 @@ const FIRST: &str = concat!(
     "{\"event_id\":\"22d00b3fd1b14b5d8d2049d138cd8a9c\",\"timestamp\":1}\n"
 );
 
+/// The text of what a quota admits of `EVENTS`.
+fn forwarded(alloc: Global, quota: &mut Quota) -> Result<Option<Vec<u8>>, Fail> {
+    Ok(forward(alloc, read(alloc, EVENTS.as_bytes())?, quota)?)
+}
+
 #[test]
 fn a_quota_is_used_up(rt: HostRuntime) -> Result<(), Fail> {
     let alloc = rt.alloc();
+    wanted(holds(read(alloc, EVENTS.as_bytes()), |envelope: &Envelope| {
+        public_key(envelope) == Some("key")
+    }))?;
     let mut quota = Quota { left: 1 };
-    let envelope = read(alloc, EVENTS.as_bytes())?;
-    wanted(public_key(&envelope) == Some("key"))?;
-    let text = forward(alloc, envelope, &mut quota)?;
+    let text = forwarded(alloc, &mut quota)?;
     wanted(text.is_some_and(|text| text.as_slice() == FIRST.as_bytes()))?;
-    wanted(forward(alloc, read(alloc, EVENTS.as_bytes())?, &mut quota)?.is_none())
+    wanted(forwarded(alloc, &mut quota)?.is_none())
 }
 
 fn push_line(out: &mut Vec<u8>, line: &[u8]) -> Result<(), AllocError> {

@@ -1,7 +1,7 @@
 //! A viewer: it lists what an envelope holds and loses, and says where a damaged one fails.
 
 use crate::envelopes::read;
-use crate::wanted::wanted;
+use crate::wanted::{holds, wanted};
 use sentry_types::protocol::v7::client_report::LossSource;
 use sentry_types::protocol::v7::{Envelope, EnvelopeError, EnvelopeItem, Frames};
 use std::alloc::{AllocError, Global};
@@ -46,8 +46,13 @@ fn fault(alloc: Global, bytes: &[u8]) -> Option<(usize, EnvelopeError)> {
 #[test]
 fn items_are_listed(rt: HostRuntime) -> Result<(), Fail> {
     let bytes = b"{}\n{\"type\":\"attachment\"}\nabc\n{\"type\":\"replay_recording\"}\n";
-    let lines = list(rt.alloc(), &read(rt.alloc(), bytes)?)?;
-    wanted(lines.as_str() == "attachment -attachment\nreplay_recording -replay\n")
+    let text = "attachment -attachment\nreplay_recording -replay\n";
+    wanted(holds(read(rt.alloc(), bytes), |envelope: &Envelope| {
+        holds(
+            list(rt.alloc(), envelope),
+            |lines: &String| lines.as_str() == text,
+        )
+    }))
 }
 
 #[test]
