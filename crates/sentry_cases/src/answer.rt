@@ -1,5 +1,6 @@
 //! The answer to what is asked.
 
+use crate::asked::said_of;
 use crate::auths::{of_header, of_pairs, of_query};
 use crate::bytes::{decoded, of_bytes};
 use crate::dsns::of_dsn;
@@ -7,7 +8,7 @@ use crate::equal::of_two_trees;
 use crate::ledger::of_history;
 use crate::made::{of_other_unit, of_parts};
 use crate::numbers::of_numbers;
-use crate::said::{refused, text, unknown};
+use crate::said::{text, unknown};
 use crate::texts::of_text;
 use sentry_members::read_tree;
 use sentry_types::protocol::v7::Value;
@@ -59,18 +60,18 @@ fn of_string(alloc: Global, name: &str, given: &str) -> Result<Value, AllocError
     }
 }
 
+fn of_value(alloc: Global, name: &str, given: &Value) -> Result<Value, AllocError> {
+    match given {
+        Value::Array(items) => of_list(alloc, name, items.as_slice()),
+        Value::String(given) => of_string(alloc, name, given.as_str()),
+        _ => text(alloc, "neither a text nor a list"),
+    }
+}
+
 fn of_json(alloc: Global, name: &str, given: &str) -> Result<Value, AllocError> {
-    let tree = match read_tree(alloc, given.as_bytes()) {
-        Ok(tree) => tree,
-        Err(error) => return refused(alloc, &error),
-    };
-    if let Some(items) = tree.as_array() {
-        return of_list(alloc, name, items.as_slice());
-    }
-    match tree.as_str() {
-        Some(given) => of_string(alloc, name, given),
-        None => text(alloc, "neither a text nor a list"),
-    }
+    said_of(alloc, read_tree(alloc, given.as_bytes()), |tree: &Value| {
+        of_value(alloc, name, tree)
+    })
 }
 
 // The answer for bytes that are given in hex.

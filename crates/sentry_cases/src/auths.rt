@@ -1,33 +1,37 @@
 //! Authentications.
 
-use crate::said::{list, maybe, refused, shown, text};
-use sentry_types::protocol::v7::{Member, Value};
+use crate::asked::said_of;
+use crate::said::{as_tree, list, maybe, shown, text};
+use sentry_types::protocol::v7::{Member, Moment, Value};
 use sentry_types::{Auth, ParseAuthError};
 use std::alloc::{AllocError, Global};
 
+fn said_time(alloc: Global, found: Option<Moment>) -> Result<Value, AllocError> {
+    match found {
+        Some(moment) => shown(alloc, &moment),
+        None => Ok(Value::Null),
+    }
+}
+
 // The text, the parts and the tree of an authentication.
-fn of_auth(alloc: Global, answer: Result<Auth, ParseAuthError>) -> Result<Value, AllocError> {
-    let auth = match answer {
-        Ok(auth) => auth,
-        Err(error) => return refused(alloc, &error),
-    };
-    let timestamp = match auth.timestamp() {
-        Some(moment) => shown(alloc, &moment)?,
-        None => Value::Null,
-    };
+fn said_auth(alloc: Global, auth: &Auth) -> Result<Value, AllocError> {
     list(
         alloc,
         [
-            shown(alloc, &auth.clone()?)?,
-            timestamp,
-            maybe(alloc, auth.client_agent())?,
-            Value::from(auth.version()),
-            text(alloc, auth.public_key())?,
-            maybe(alloc, auth.secret_key())?,
-            Value::from(auth.is_public()),
-            auth.to_tree(alloc)?,
+            said_of(alloc, auth.clone(), |copy: &Auth| shown(alloc, copy)),
+            said_time(alloc, auth.timestamp()),
+            maybe(alloc, auth.client_agent()),
+            as_tree(auth.version()),
+            text(alloc, auth.public_key()),
+            maybe(alloc, auth.secret_key()),
+            as_tree(auth.is_public()),
+            auth.to_tree(alloc),
         ],
     )
+}
+
+fn of_auth(alloc: Global, answer: Result<Auth, ParseAuthError>) -> Result<Value, AllocError> {
+    said_of(alloc, answer, |auth: &Auth| said_auth(alloc, auth))
 }
 
 pub fn of_header(alloc: Global, given: &str) -> Result<Value, AllocError> {

@@ -4,7 +4,7 @@ use crate::envelopes::{of_envelope, of_frames, of_losses, of_raw, of_rewritten};
 use crate::filters::{of_answers, of_filter};
 use crate::form::of_tape;
 use crate::ledger::of_recorded;
-use crate::said::{list, text};
+use crate::said::{as_tree, list, text};
 use crate::trees::of_tree;
 use sentry_types::protocol::v7::Value;
 use std::alloc::{AllocError, Global};
@@ -24,7 +24,7 @@ pub fn said_bytes(alloc: Global, bytes: &[u8]) -> Result<Value, AllocError> {
         Ok(found) => text(alloc, found),
         Err(_) => {
             let digits = hex::encode(alloc, bytes)?;
-            list(alloc, [text(alloc, "hex")?, Value::from(digits)])
+            list(alloc, [text(alloc, "hex"), as_tree(digits)])
         }
     }
 }

@@ -9,6 +9,14 @@ use sentry_types::protocol::v7::{
 };
 use std::alloc::{AllocError, Global};
 
+// The type and the tree of a context.
+fn said_context(alloc: Global, context: &Context) -> Result<Value, AllocError> {
+    list(
+        alloc,
+        [text(alloc, context.type_name()), context.to_tree(alloc)],
+    )
+}
+
 // The type and the tree of a context that is made of its struct.
 fn boxed<T: Drop, C: FnOnce(Global, T) -> Result<Context, T>>(
     alloc: Global,
@@ -20,10 +28,14 @@ fn boxed<T: Drop, C: FnOnce(Global, T) -> Result<Context, T>>(
     match read {
         Ok(value) => match boxing(alloc, value) {
             Ok(context) => {
-                let name = text(alloc, context.type_name())?;
-                list(alloc, [name, context.to_tree(alloc)?])
+                let told = said_context(alloc, &context);
+                drop(context);
+                told
             }
-            Err(_) => text(alloc, "handed back"),
+            Err(back) => {
+                drop(back);
+                text(alloc, "handed back")
+            }
         },
         Err(error) => refused(alloc, &error),
     }

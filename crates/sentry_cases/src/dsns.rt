@@ -1,33 +1,34 @@
 //! DSNs.
 
-use crate::said::{list, maybe, refused, shown, text};
-use sentry_types::protocol::v7::{Moment, Url, Value};
-use sentry_types::{ApiUrlError, Dsn};
+use crate::asked::{is_same, said_of};
+use crate::said::{as_tree, list, maybe, owned, shown, text};
+use sentry_types::protocol::v7::{Moment, OrganizationId, Url, Value};
+use sentry_types::{ApiUrlError, Auth, Dsn};
 use std::alloc::{AllocError, Global};
 
-fn of_url(alloc: Global, answer: &Result<Url, ApiUrlError>) -> Result<Value, AllocError> {
-    match answer {
-        Ok(url) => text(alloc, url.as_str()),
-        Err(error) => refused(alloc, error),
+fn of_url(alloc: Global, answer: Result<Url, ApiUrlError>) -> Result<Value, AllocError> {
+    said_of(alloc, answer, |url: &Url| text(alloc, url.as_str()))
+}
+
+fn said_organization(found: Option<OrganizationId>) -> Result<Value, AllocError> {
+    match found {
+        Some(id) => as_tree(id.value()),
+        None => Ok(Value::Null),
     }
 }
 
 fn parts(alloc: Global, dsn: &Dsn) -> Result<Value, AllocError> {
-    let organization = match dsn.org_id() {
-        Some(id) => Value::from(id.value()),
-        None => Value::Null,
-    };
     list(
         alloc,
         [
-            shown(alloc, &dsn.scheme())?,
-            text(alloc, dsn.public_key())?,
-            maybe(alloc, dsn.secret_key())?,
-            text(alloc, dsn.host())?,
-            Value::from(dsn.port()),
-            text(alloc, dsn.path())?,
-            text(alloc, dsn.project_id().value())?,
-            organization,
+            shown(alloc, &dsn.scheme()),
+            text(alloc, dsn.public_key()),
+            maybe(alloc, dsn.secret_key()),
+            text(alloc, dsn.host()),
+            as_tree(dsn.port()),
+            text(alloc, dsn.path()),
+            text(alloc, dsn.project_id().value()),
+            said_organization(dsn.org_id()),
         ],
     )
 }
@@ -36,10 +37,10 @@ fn destinations(alloc: Global, dsn: &Dsn) -> Result<Value, AllocError> {
     list(
         alloc,
         [
-            Value::from(dsn.store_api_url_text(alloc)?),
-            of_url(alloc, &dsn.store_api_url(alloc))?,
-            Value::from(dsn.envelope_api_url_text(alloc)?),
-            of_url(alloc, &dsn.envelope_api_url(alloc))?,
+            owned(dsn.store_api_url_text(alloc)),
+            of_url(alloc, dsn.store_api_url(alloc)),
+            owned(dsn.envelope_api_url_text(alloc)),
+            of_url(alloc, dsn.envelope_api_url(alloc)),
         ],
     )
 }
@@ -47,7 +48,10 @@ fn destinations(alloc: Global, dsn: &Dsn) -> Result<Value, AllocError> {
 // The authentication of a DSN at second 5 by the client `a`.
 fn authentication(alloc: Global, dsn: &Dsn) -> Result<Value, AllocError> {
     match Moment::new(5, 0) {
-        Some(now) => shown(alloc, &dsn.to_auth(alloc, now, Some("a"))?),
+        Some(now) => {
+            let auth = dsn.to_auth(alloc, now, Some("a"));
+            said_of(alloc, auth, |auth: &Auth| shown(alloc, auth))
+        }
         None => Ok(Value::Null),
     }
 }
@@ -55,28 +59,29 @@ fn authentication(alloc: Global, dsn: &Dsn) -> Result<Value, AllocError> {
 // Whether a DSN is its copy, and what its text is read as.
 fn is_read_back(alloc: Global, dsn: &Dsn) -> Result<bool, AllocError> {
     let text = dsn.to_string(alloc)?;
-    Ok(match Dsn::from_str(alloc, text.as_str()) {
-        Ok(again) => again == *dsn && dsn.clone()? == *dsn,
-        Err(_) => false,
-    })
+    Ok(is_same(Dsn::from_str(alloc, text.as_str()), dsn) && is_same(dsn.clone(), dsn))
 }
 
-/// The text, the parts, the API URLs and the authentication of the DSN that a text names.
-pub fn of_dsn(alloc: Global, given: &str) -> Result<Value, AllocError> {
-    let dsn = match Dsn::from_str(alloc, given) {
-        Ok(dsn) => dsn,
-        Err(error) => return refused(alloc, &error),
-    };
-    if !is_read_back(alloc, &dsn)? {
+fn said_dsn(alloc: Global, dsn: &Dsn) -> Result<Value, AllocError> {
+    if !is_read_back(alloc, dsn)? {
         return text(alloc, "not read back");
     }
     list(
         alloc,
         [
-            shown(alloc, &dsn)?,
-            parts(alloc, &dsn)?,
-            destinations(alloc, &dsn)?,
-            authentication(alloc, &dsn)?,
+            shown(alloc, dsn),
+            parts(alloc, dsn),
+            destinations(alloc, dsn),
+            authentication(alloc, dsn),
         ],
+    )
+}
+
+/// The text, the parts, the API URLs and the authentication of the DSN that a text names.
+pub fn of_dsn(alloc: Global, given: &str) -> Result<Value, AllocError> {
+    said_of(
+        alloc,
+        Dsn::from_str(alloc, given),
+        |dsn: &Dsn| said_dsn(alloc, dsn),
     )
 }

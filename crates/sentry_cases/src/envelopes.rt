@@ -1,7 +1,8 @@
 //! What bytes spell, as envelopes.
 
+use crate::asked::{holds, is_same, said_of};
 use crate::bytes::said_bytes;
-use crate::said::{list, maybe, refused, text};
+use crate::said::{as_tree, list, maybe, refused, text};
 use rand_pcg::Pcg32;
 use sentry_types::protocol::v7::{
     CountedWriter, Envelope, EnvelopeError, Frames, ItemFrame, ItemLoss, LossSource, Moment, Value,
@@ -37,59 +38,75 @@ fn is_written(alloc: Global, envelope: &Envelope, text: &[u8]) -> bool {
         && counted.into_inner().as_slice() == text
 }
 
-// Whether a text spells this envelope, and is written for what it spells.
+// Whether a text spells this envelope, and both are written as the text.
 fn spells(alloc: Global, text: &[u8], envelope: &Envelope) -> bool {
-    match read(alloc, text) {
-        Ok(again) => again == *envelope && is_written(alloc, &again, text),
-        Err(_) => false,
-    }
+    is_written(alloc, envelope, text)
+        && holds(read(alloc, text), |again: &Envelope| {
+            *again == *envelope && is_written(alloc, again, text)
+        })
 }
 
 // Whether the text of an envelope spells its normal form, which has the same text, and a clone is
 // the envelope.
-fn is_steady(alloc: Global, envelope: &Envelope) -> Result<bool, AllocError> {
+fn is_steady(alloc: Global, envelope: &Envelope) -> bool {
     let mut text = Vec::new(alloc);
-    if envelope.to_writer(alloc, &mut text).is_err() || !envelope.is_plain() {
-        return Ok(false);
+    envelope.to_writer(alloc, &mut text).is_ok()
+        && envelope.is_plain()
+        && is_written(alloc, envelope, &text)
+        && is_same(envelope.clone(), envelope)
+        && holds(
+            envelope.normalized(),
+            |normal: &Envelope| spells(alloc, &text, normal),
+        )
+}
+
+// What is written of an envelope, if its text can be read.
+fn said_steady(alloc: Global, envelope: &Envelope) -> Result<Value, AllocError> {
+    if is_steady(alloc, envelope) {
+        said_envelope(alloc, envelope)
+    } else {
+        text(alloc, "not read back")
     }
-    let same = is_written(alloc, envelope, &text) && envelope.clone()? == *envelope;
-    let normal = envelope.normalized()?;
-    Ok(same && is_written(alloc, &normal, &text) && spells(alloc, &text, &normal))
 }
 
 /// What is written of the envelope that bytes spell.
 pub fn of_envelope(alloc: Global, bytes: &[u8]) -> Result<Value, AllocError> {
-    match read(alloc, bytes) {
-        Ok(envelope) if is_steady(alloc, &envelope)? => said_envelope(alloc, &envelope),
-        Ok(_) => text(alloc, "not read back"),
-        Err(error) => refused(alloc, &error),
-    }
+    said_of(
+        alloc,
+        read(alloc, bytes),
+        |envelope: &Envelope| said_steady(alloc, envelope),
+    )
 }
 
 /// What is written of the envelope that bytes spell, whether or not its text can be read.
 pub fn of_rewritten(alloc: Global, bytes: &[u8]) -> Result<Value, AllocError> {
-    match read(alloc, bytes) {
-        Ok(envelope) => said_envelope(alloc, &envelope),
-        Err(error) => refused(alloc, &error),
-    }
+    said_of(
+        alloc,
+        read(alloc, bytes),
+        |envelope: &Envelope| said_envelope(alloc, envelope),
+    )
 }
 
-/// What is written of the raw envelope of bytes, whether it is plain, how many items it shows, and
-/// what is lost with them.
+// What is written of a raw envelope, whether it is plain, how many items it shows, and what is lost
+// with them.
+fn said_raw(alloc: Global, envelope: &Envelope) -> Result<Value, AllocError> {
+    let fields = [
+        said_of(
+            alloc,
+            envelope.clone(),
+            |copy: &Envelope| said_envelope(alloc, copy),
+        ),
+        as_tree(envelope.is_plain()),
+        as_tree(envelope.items().count() as u64),
+        said_losses(alloc, envelope),
+    ];
+    list(alloc, fields)
+}
+
+/// What is said of the raw envelope of bytes.
 pub fn of_raw(alloc: Global, bytes: &[u8]) -> Result<Value, AllocError> {
-    let envelope = match Envelope::from_bytes_raw(bytes.to_vec(alloc)?) {
-        Ok(envelope) => envelope,
-        Err(error) => return refused(alloc, &error),
-    };
-    list(
-        alloc,
-        [
-            said_envelope(alloc, &envelope.clone()?)?,
-            Value::from(envelope.is_plain()),
-            Value::from(envelope.items().count() as u64),
-            said_losses(alloc, &envelope)?,
-        ],
-    )
+    let made = Envelope::from_bytes_raw(bytes.to_vec(alloc)?);
+    said_of(alloc, made, |envelope: &Envelope| said_raw(alloc, envelope))
 }
 
 /// The header and the payload of a frame, or why there is none.
@@ -101,8 +118,8 @@ fn said_frame(
         Ok(frame) => list(
             alloc,
             [
-                said_bytes(alloc, frame.header)?,
-                said_bytes(alloc, frame.payload)?,
+                said_bytes(alloc, frame.header),
+                said_bytes(alloc, frame.payload),
             ],
         ),
         Err(error) => refused(alloc, &error),
@@ -129,9 +146,11 @@ pub fn said_loss(alloc: Global, loss: &ItemLoss) -> Result<Value, AllocError> {
         Some(reason) => Some(reason.as_str()),
         None => None,
     };
-    let category = text(alloc, loss.category.as_str())?;
-    let fields = [category, Value::from(loss.quantity), maybe(alloc, reason)?];
-    list(alloc, fields)
+    let category = text(alloc, loss.category.as_str());
+    list(
+        alloc,
+        [category, as_tree(loss.quantity), maybe(alloc, reason)],
+    )
 }
 
 /// The losses of a source, in order.
@@ -145,8 +164,9 @@ pub fn said_losses<S: LossSource>(alloc: Global, source: &S) -> Result<Value, Al
 
 /// The losses of the envelope that bytes spell.
 pub fn of_losses(alloc: Global, bytes: &[u8]) -> Result<Value, AllocError> {
-    match read(alloc, bytes) {
-        Ok(envelope) => said_losses(alloc, &envelope),
-        Err(error) => refused(alloc, &error),
-    }
+    said_of(
+        alloc,
+        read(alloc, bytes),
+        |envelope: &Envelope| said_losses(alloc, envelope),
+    )
 }

@@ -1,7 +1,8 @@
 //! Which values are the same, by `==`.
 
+use crate::asked::is_same;
 use crate::form::{ids, now};
-use crate::said::{list, refused, unknown};
+use crate::said::{as_tree, list, refused, unknown};
 use sentry_types::protocol::v7::{
     Breadcrumb, Context, DebugMeta, Event, Exception, Frame, FromTree, FromTreeAt, GpuContext, Log,
     LogEntry, Mechanism, Member, Metric, OtelContext, Report, Request, ResponseContext, Span,
@@ -12,9 +13,9 @@ use std::alloc::{AllocError, Global};
 // Whether a value is its clone, and whether it is the other one, both ways.
 fn compared<T: Member + PartialEq>(alloc: Global, one: &T, other: &T) -> Result<Value, AllocError> {
     let fields = [
-        Value::from(*one == one.copy()?),
-        Value::from(*one == *other),
-        Value::from(*other == *one),
+        as_tree(is_same(one.copy(), one)),
+        as_tree(*one == *other),
+        as_tree(*other == *one),
     ];
     list(alloc, fields)
 }

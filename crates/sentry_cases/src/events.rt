@@ -1,5 +1,6 @@
 //! Events, spans and transactions that lines of JSON show.
 
+use crate::asked::said_of;
 use crate::envelopes::said_envelope;
 use crate::form::{by_tree_at, cloned_at};
 use crate::said::{list, refused, shown, text};
@@ -12,47 +13,55 @@ use std::fmt::Display;
 
 // What the value that a line shows prints.
 fn printed<T: FromTreeAt + Display>(alloc: Global, line: &[u8]) -> Result<Value, AllocError> {
-    match by_tree_at::<T>(alloc, line) {
-        Ok(value) => shown(alloc, &value),
-        Err(error) => refused(alloc, &error),
-    }
+    said_of(
+        alloc,
+        by_tree_at::<T>(alloc, line),
+        |value: &T| shown(alloc, value),
+    )
 }
 
 // The text of the envelope of an item.
 fn said_item(alloc: Global, item: EnvelopeItem) -> Result<Value, AllocError> {
-    match Envelope::from_item(alloc, item) {
-        Ok(envelope) => said_envelope(alloc, &envelope),
-        Err(error) => refused(alloc, &error),
+    let made = Envelope::from_item(alloc, item);
+    said_of(
+        alloc,
+        made,
+        |envelope: &Envelope| said_envelope(alloc, envelope),
+    )
+}
+
+// The text of the envelope of an item that was boxed, if it was.
+fn said_boxed<T: Drop>(alloc: Global, boxed: Result<EnvelopeItem, T>) -> Result<Value, AllocError> {
+    match boxed {
+        Ok(item) => said_item(alloc, item),
+        Err(back) => {
+            drop(back);
+            text(alloc, "handed back")
+        }
     }
 }
 
 /// The text of the envelope of an event.
 pub fn said_event(alloc: Global, event: Event<'static>) -> Result<Value, AllocError> {
-    match EnvelopeItem::event(alloc, event) {
-        Ok(item) => said_item(alloc, item),
-        Err(_) => text(alloc, "handed back"),
-    }
+    said_boxed(alloc, EnvelopeItem::event(alloc, event))
+}
+
+// The text of the envelope of a transaction.
+fn said_transaction(alloc: Global, transaction: Transaction<'static>) -> Result<Value, AllocError> {
+    said_boxed(alloc, EnvelopeItem::transaction(alloc, transaction))
 }
 
 // The text of the envelope of the event that a line shows.
 fn envelope_of_event(alloc: Global, line: &[u8]) -> Result<Value, AllocError> {
-    match by_tree_at::<Event<'static>>(alloc, line) {
+    match by_tree_at(alloc, line) {
         Ok(event) => said_event(alloc, event),
         Err(error) => refused(alloc, &error),
     }
 }
 
-// The text of the envelope of a transaction.
-fn said_transaction(alloc: Global, transaction: Transaction<'static>) -> Result<Value, AllocError> {
-    match EnvelopeItem::transaction(alloc, transaction) {
-        Ok(item) => said_item(alloc, item),
-        Err(_) => text(alloc, "handed back"),
-    }
-}
-
 // The text of the envelope of the transaction that a line shows.
 fn envelope_of_transaction(alloc: Global, line: &[u8]) -> Result<Value, AllocError> {
-    match by_tree_at::<Transaction<'static>>(alloc, line) {
+    match by_tree_at(alloc, line) {
         Ok(transaction) => said_transaction(alloc, transaction),
         Err(error) => refused(alloc, &error),
     }
@@ -70,16 +79,22 @@ fn lend<'a>(event: &mut Event<'a>, lent: &'a str) {
     }
 }
 
+// What a value that borrows nothing writes, if it was made.
+fn said_owned<T: Member, B: Drop>(alloc: Global, owned: Result<T, B>) -> Result<Value, AllocError> {
+    match owned {
+        Ok(owned) => list(alloc, [owned.to_tree(alloc)]),
+        Err(_) => text(alloc, "handed back"),
+    }
+}
+
 // What the event that a line shows writes once it borrows nothing.
 fn owned_event(alloc: Global, line: &[u8], lent: &str) -> Result<Value, AllocError> {
-    let mut event = match by_tree_at::<Event<'_>>(alloc, line) {
-        Ok(event) => event,
-        Err(error) => return refused(alloc, &error),
-    };
-    lend(&mut event, lent);
-    match event.into_owned(alloc) {
-        Ok(event) => list(alloc, [event.to_tree(alloc)?]),
-        Err(_) => text(alloc, "handed back"),
+    match by_tree_at::<Event<'_>>(alloc, line) {
+        Ok(mut event) => {
+            lend(&mut event, lent);
+            said_owned(alloc, event.into_owned(alloc))
+        }
+        Err(error) => refused(alloc, &error),
     }
 }
 
@@ -93,14 +108,12 @@ fn lend_to<'a>(transaction: &mut Transaction<'a>, lent: &'a str) {
 
 // What the transaction that a line shows writes once it borrows nothing.
 fn owned_transaction(alloc: Global, line: &[u8], lent: &str) -> Result<Value, AllocError> {
-    let mut transaction = match by_tree_at::<Transaction<'_>>(alloc, line) {
-        Ok(transaction) => transaction,
-        Err(error) => return refused(alloc, &error),
-    };
-    lend_to(&mut transaction, lent);
-    match transaction.into_owned(alloc) {
-        Ok(transaction) => list(alloc, [transaction.to_tree(alloc)?]),
-        Err(_) => text(alloc, "handed back"),
+    match by_tree_at::<Transaction<'_>>(alloc, line) {
+        Ok(mut transaction) => {
+            lend_to(&mut transaction, lent);
+            said_owned(alloc, transaction.into_owned(alloc))
+        }
+        Err(error) => refused(alloc, &error),
     }
 }
 

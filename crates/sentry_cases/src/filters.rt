@@ -1,7 +1,8 @@
 //! Envelopes without the items that a filter refuses: those of some kinds, or by a list of answers.
 
+use crate::asked::taken;
 use crate::envelopes::{read, said_envelope, said_loss};
-use crate::said::{list, refused};
+use crate::said::{as_tree, list};
 use sentry_types::protocol::v7::{Envelope, EnvelopeFilter, EnvelopeItem, LossSource, Value};
 use std::alloc::{AllocError, Global};
 
@@ -58,6 +59,7 @@ impl EnvelopeFilter for ByKinds<'_> {
 
     fn on_filtered(&mut self, item: EnvelopeItem) {
         let _ = self.note(&item);
+        drop(item);
     }
 }
 
@@ -77,12 +79,29 @@ fn filtered<F: EnvelopeFilter>(
     }
 }
 
-// The text of what is left, or null.
-fn said_left(alloc: Global, left: Result<Option<Envelope>, Envelope>) -> Result<Value, AllocError> {
+/// The text of what is left, or null.
+pub fn said_left(alloc: Global, left: Option<Envelope>) -> Result<Value, AllocError> {
     match left {
-        Ok(Some(left)) => said_envelope(alloc, &left),
-        Ok(None) => Ok(Value::Null),
-        Err(_) => Err(AllocError),
+        Some(left) => {
+            let told = said_envelope(alloc, &left);
+            drop(left);
+            told
+        }
+        None => Ok(Value::Null),
+    }
+}
+
+// The text of what a filter left, or null.
+fn said_filtered(
+    alloc: Global,
+    left: Result<Option<Envelope>, Envelope>,
+) -> Result<Value, AllocError> {
+    match left {
+        Ok(left) => said_left(alloc, left),
+        Err(envelope) => {
+            drop(envelope);
+            Err(AllocError)
+        }
     }
 }
 
@@ -94,9 +113,9 @@ fn left_by(
     words: &str,
 ) -> Result<Value, AllocError> {
     let mut filter = ByKinds::new(alloc, words);
-    let left = said_left(alloc, filtered(alloc, envelope, keep, &mut filter))?;
+    let left = said_filtered(alloc, filtered(alloc, envelope, keep, &mut filter));
     let ByKinds { losses, .. } = filter;
-    list(alloc, [left, Value::from(losses)])
+    list(alloc, [left, as_tree(losses)])
 }
 
 /// What is left of the envelope that bytes spell without the items of some kinds. The fields of its
@@ -106,10 +125,9 @@ pub fn of_filter(alloc: Global, words: &str, bytes: &[u8]) -> Result<Value, Allo
         Some(words) => (true, words),
         None => (false, words),
     };
-    match read(alloc, bytes) {
-        Ok(envelope) => left_by(alloc, envelope, keep, words),
-        Err(error) => refused(alloc, &error),
-    }
+    taken(alloc, read(alloc, bytes), |envelope: Envelope| {
+        left_by(alloc, envelope, keep, words)
+    })
 }
 
 /// Answers by a list of `y` and `n`, and notes each call.
@@ -163,6 +181,7 @@ impl EnvelopeFilter for Scribe<'_> {
 
     fn on_filtered(&mut self, item: EnvelopeItem) {
         let _ = self.note("hand", &item);
+        drop(item);
     }
 }
 
@@ -178,9 +197,9 @@ fn answered_by(
         answers: answers.as_bytes(),
         calls: Vec::new(alloc),
     };
-    let left = said_left(alloc, filtered(alloc, envelope, keep, &mut filter))?;
+    let left = said_filtered(alloc, filtered(alloc, envelope, keep, &mut filter));
     let Scribe { calls, .. } = filter;
-    list(alloc, [left, Value::from(calls)])
+    list(alloc, [left, as_tree(calls)])
 }
 
 /// What is left by some answers of the envelope that bytes spell, or of the raw envelope of bytes
@@ -193,8 +212,7 @@ pub fn of_answers(alloc: Global, words: &str, bytes: &[u8]) -> Result<Value, All
     } else {
         read(alloc, bytes)
     };
-    match envelope {
-        Ok(envelope) => answered_by(alloc, envelope, first == "-k", answers),
-        Err(error) => refused(alloc, &error),
-    }
+    taken(alloc, envelope, |envelope: Envelope| {
+        answered_by(alloc, envelope, first == "-k", answers)
+    })
 }

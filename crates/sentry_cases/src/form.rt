@@ -1,6 +1,7 @@
 //! Values that lines of JSON show, and what is written of them.
 
-use crate::said::{list, refused, text};
+use crate::asked::holds;
+use crate::said::{debug, list, refused, text};
 use rand_pcg::Pcg32;
 use sentry_json::{Line, LineError, scratch};
 use sentry_members::read_tree;
@@ -25,8 +26,9 @@ fn written<F: Codec<T>, T: Drop>(alloc: Global, value: &T, clone: &T) -> Result<
         && F::to_tree(clone, alloc)?.to_string(alloc)?.as_str() == line.as_str()
         && F::to_tree(&normal, alloc)?.to_string(alloc)?.as_str() == line.as_str();
     if same {
-        list(alloc, [tree])
+        list(alloc, [Ok(tree)])
     } else {
+        drop(tree);
         text(alloc, "two texts")
     }
 }
@@ -56,12 +58,35 @@ pub fn answered_by<T: Member, C: FnOnce(&T) -> Result<T, AllocError>>(
     }
 }
 
+// Whether two trees have one text.
+fn are_alike(alloc: Global, one: &Value, other: &Value) -> bool {
+    holds(one.to_string(alloc), |text: &String| {
+        holds(
+            other.to_string(alloc),
+            |found: &String| found.as_str() == text.as_str(),
+        )
+    })
+}
+
 // What the tree of values answers, if the tape answers the same.
-fn agreed(alloc: Global, by_tree: Value, by_tape: Value) -> Result<Value, AllocError> {
-    if by_tape.to_string(alloc)?.as_str() == by_tree.to_string(alloc)?.as_str() {
-        Ok(by_tree)
-    } else {
-        list(alloc, [text(alloc, "by tape")?, by_tape, by_tree])
+fn agreed(
+    alloc: Global,
+    by_tree: Value,
+    by_tape: Result<Value, AllocError>,
+) -> Result<Value, AllocError> {
+    match by_tape {
+        Ok(by_tape) => {
+            if are_alike(alloc, &by_tree, &by_tape) {
+                drop(by_tape);
+                Ok(by_tree)
+            } else {
+                list(alloc, [text(alloc, "by tape"), Ok(by_tape), Ok(by_tree)])
+            }
+        }
+        Err(error) => {
+            drop(by_tree);
+            Err(error)
+        }
     }
 }
 
@@ -83,7 +108,7 @@ fn beside_tape<F: ReadCodec<T>, T: Drop>(
         Err(LineError::Memory) => Err(TreeError::Memory),
         Err(LineError::Unfit) => return Ok(told),
     };
-    agreed(alloc, told, answered::<F, T>(alloc, &by_tape)?)
+    agreed(alloc, told, answered::<F, T>(alloc, &by_tape))
 }
 
 // The value that a line shows in a form, as a tree of values.
@@ -138,6 +163,7 @@ fn beside_tape_at<F: ReadCodecAt<T>, T: Drop>(
     told: Value,
 ) -> Result<Value, AllocError> {
     let Ok(now) = now() else {
+        drop(told);
         return text(alloc, "no moment");
     };
     let mut scratch = scratch(alloc);
@@ -147,7 +173,7 @@ fn beside_tape_at<F: ReadCodecAt<T>, T: Drop>(
         Err(LineError::Memory) => Err(TreeError::Memory),
         Err(LineError::Unfit) => return Ok(told),
     };
-    agreed(alloc, told, answered::<F, T>(alloc, &by_tape)?)
+    agreed(alloc, told, answered::<F, T>(alloc, &by_tape))
 }
 
 // The value that a line shows in a form at the moment of reading, as a tree of values.
@@ -182,13 +208,13 @@ fn cloned_member<T: TreeMember>(alloc: Global, value: &T) -> Result<Value, Alloc
         return text(alloc, "not plain");
     }
     let clone = value.clone()?;
-    agreed(alloc, value.to_tree(alloc)?, clone.to_tree(alloc)?)
+    agreed(alloc, value.to_tree(alloc)?, clone.to_tree(alloc))
 }
 
 /// The tree in a list that a value writes that may stand in lists, read at the moment of reading.
 pub fn member<T: TreeMember>(alloc: Global, line: &[u8]) -> Result<Value, AllocError> {
     match member_of::<T>(alloc, line) {
-        Ok(value) => list(alloc, [cloned_member(alloc, &value)?]),
+        Ok(value) => list(alloc, [cloned_member(alloc, &value)]),
         Err(error) => refused(alloc, &error),
     }
 }
@@ -220,7 +246,7 @@ pub fn debugged<T: Debug + Drop>(
     read: &Result<T, TreeError>,
 ) -> Result<Value, AllocError> {
     match read {
-        Ok(value) => Ok(Value::from(format!(in alloc; "{value:?}")?)),
+        Ok(value) => debug(alloc, value),
         Err(error) => refused(alloc, error),
     }
 }

@@ -1,6 +1,7 @@
 //! Ids.
 
-use crate::said::{list, refused, shown, text};
+use crate::asked::said_of;
+use crate::said::{as_tree, debug, list, owned, refused, shown, text};
 use sentry_types::protocol::v7::{OrganizationId, SpanId, TraceId, Value};
 use sentry_types::{CodeId, DebugId, ProjectId};
 use std::alloc::{AllocError, Global};
@@ -10,10 +11,10 @@ fn of_span(alloc: Global, given: &str) -> Result<Value, AllocError> {
         Ok(id) => {
             let same = given.parse::<SpanId>() == Ok(id);
             let fields = [
-                shown(alloc, &id)?,
-                Value::from(id.to_text(alloc)?),
-                Value::from(format!(in alloc; "{id:?}")?),
-                Value::from(same),
+                shown(alloc, &id),
+                owned(id.to_text(alloc)),
+                debug(alloc, &id),
+                as_tree(same),
             ];
             list(alloc, fields)
         }
@@ -26,10 +27,10 @@ fn of_trace(alloc: Global, given: &str) -> Result<Value, AllocError> {
         Ok(id) => {
             let same = given.parse::<TraceId>() == Ok(id);
             let fields = [
-                shown(alloc, &id)?,
-                Value::from(id.to_text(alloc)?),
-                Value::from(format!(in alloc; "{id:?}")?),
-                Value::from(same),
+                shown(alloc, &id),
+                owned(id.to_text(alloc)),
+                debug(alloc, &id),
+                as_tree(same),
             ];
             list(alloc, fields)
         }
@@ -42,10 +43,10 @@ fn of_debug(alloc: Global, given: &str) -> Result<Value, AllocError> {
         Ok(id) => {
             let again = DebugId::from_parts(id.uuid(), id.appendix());
             let fields = [
-                shown(alloc, &id.uuid())?,
-                Value::from(id.appendix()),
-                shown(alloc, &id)?,
-                Value::from(again == id),
+                shown(alloc, &id.uuid()),
+                as_tree(id.appendix()),
+                shown(alloc, &id),
+                as_tree(again == id),
             ];
             list(alloc, fields)
         }
@@ -53,29 +54,37 @@ fn of_debug(alloc: Global, given: &str) -> Result<Value, AllocError> {
     }
 }
 
+fn said_project(alloc: Global, id: &ProjectId) -> Result<Value, AllocError> {
+    let copy = said_of(alloc, id.clone(), |copy: &ProjectId| shown(alloc, copy));
+    list(alloc, [text(alloc, id.value()), copy])
+}
+
 fn of_project(alloc: Global, given: &str) -> Result<Value, AllocError> {
-    match ProjectId::from_str(alloc, given) {
-        Ok(id) => list(
-            alloc,
-            [text(alloc, id.value())?, shown(alloc, &id.clone()?)?],
-        ),
-        Err(error) => refused(alloc, &error),
-    }
+    let read = ProjectId::from_str(alloc, given);
+    said_of(alloc, read, |id: &ProjectId| said_project(alloc, id))
 }
 
 fn of_organization(alloc: Global, given: &str) -> Result<Value, AllocError> {
     match given.parse::<OrganizationId>() {
-        Ok(id) => list(alloc, [Value::from(id.value()), shown(alloc, &id)?]),
+        Ok(id) => list(alloc, [as_tree(id.value()), shown(alloc, &id)]),
         Err(error) => refused(alloc, &error),
     }
 }
 
-fn of_code(alloc: Global, given: &str) -> Result<Value, AllocError> {
-    let id = CodeId::new(alloc, given)?;
-    let copy = id.clone()?;
-    list(
+fn said_code(alloc: Global, id: &CodeId) -> Result<Value, AllocError> {
+    let copy = said_of(
         alloc,
-        [text(alloc, id.as_str())?, text(alloc, copy.as_str())?],
+        id.clone(),
+        |copy: &CodeId| text(alloc, copy.as_str()),
+    );
+    list(alloc, [text(alloc, id.as_str()), copy])
+}
+
+fn of_code(alloc: Global, given: &str) -> Result<Value, AllocError> {
+    said_of(
+        alloc,
+        CodeId::new(alloc, given),
+        |id: &CodeId| said_code(alloc, id),
     )
 }
 

@@ -1,13 +1,14 @@
 //! Histories of a ledger, and envelopes whose losses a ledger records.
 
-use crate::envelopes::{read, said_envelope, said_loss};
-use crate::filters::ByKinds;
-use crate::said::{list, refused, text};
+use crate::asked::taken;
+use crate::envelopes::{read, said_loss};
+use crate::filters::{ByKinds, said_left};
+use crate::said::{as_tree, list, text};
 use sentry_types::IndexedEnum;
 use sentry_types::protocol::v7::client_report::{
     Category, ItemLoss, Ledger, Reason, Step, StepAnswer, filter_recorded, run_steps,
 };
-use sentry_types::protocol::v7::{Member, Moment};
+use sentry_types::protocol::v7::{Envelope, Member, Moment};
 use serde_json::Value;
 use std::alloc::{AllocError, Global};
 
@@ -108,7 +109,29 @@ pub fn of_history(alloc: Global, given: &str) -> Result<Value, AllocError> {
     for answer in &run_steps(alloc, &mut ledger, steps.as_slice())? {
         told.push(said_answer(alloc, answer)?)?;
     }
-    list(alloc, [Value::from(told), said_held(alloc, &ledger)?])
+    list(alloc, [as_tree(told), said_held(alloc, &ledger)])
+}
+
+// What is left of an envelope without the items of some kinds, how many of their losses a ledger
+// refuses, and what it holds afterwards.
+fn said_recorded(
+    alloc: Global,
+    envelope: Envelope,
+    kinds: &str,
+    reason: Reason,
+    ledger: &mut Ledger,
+) -> Result<Value, AllocError> {
+    let filter = ByKinds::new(alloc, kinds);
+    match filter_recorded(alloc, envelope, filter, reason, ledger) {
+        Ok((left, refused)) => {
+            let left = said_left(alloc, left);
+            list(alloc, [left, as_tree(refused), said_held(alloc, ledger)])
+        }
+        Err(envelope) => {
+            drop(envelope);
+            Err(AllocError)
+        }
+    }
 }
 
 /// What is left of the envelope that bytes spell without the items of some kinds, how many of their
@@ -120,22 +143,9 @@ pub fn of_recorded(alloc: Global, words: &str, bytes: &[u8]) -> Result<Value, Al
     let (Some(reason), Some(steps)) = (reason_of(reason), steps_of(alloc, before)?) else {
         return text(alloc, "no steps");
     };
-    let envelope = match read(alloc, bytes) {
-        Ok(envelope) => envelope,
-        Err(error) => return refused(alloc, &error),
-    };
     let mut ledger = Ledger::new();
     drop(run_steps(alloc, &mut ledger, steps.as_slice())?);
-    let filter = ByKinds::new(alloc, kinds);
-    let Ok((left, number)) = filter_recorded(alloc, envelope, filter, reason, &mut ledger) else {
-        return Err(AllocError);
-    };
-    let left = match left {
-        Some(left) => said_envelope(alloc, &left)?,
-        None => Value::Null,
-    };
-    list(
-        alloc,
-        [left, Value::from(number), said_held(alloc, &ledger)?],
-    )
+    taken(alloc, read(alloc, bytes), |envelope: Envelope| {
+        said_recorded(alloc, envelope, kinds, reason, &mut ledger)
+    })
 }

@@ -8,6 +8,7 @@
 #![tactic(auto)]
 
 mod answer;
+mod asked;
 mod auths;
 mod bytes;
 mod case;

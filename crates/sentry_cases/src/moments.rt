@@ -1,6 +1,6 @@
 //! Moments and sampling values.
 
-use crate::said::{list, none, refused, shown};
+use crate::said::{as_tree, list, none, owned, refused, shown};
 use sentry_types::protocol::v7::{Moment, SampleRand, SampleRate, Value};
 use std::alloc::{AllocError, Global};
 
@@ -12,11 +12,11 @@ pub fn of_moment(alloc: Global, found: Option<Moment>) -> Result<Value, AllocErr
     list(
         alloc,
         [
-            Value::from(moment.secs()),
-            Value::from(moment.nanos()),
-            Value::from(moment.to_rfc3339(alloc)?),
-            shown(alloc, &moment)?,
-            Value::from(moment.to_decimal(alloc)?),
+            as_tree(moment.secs()),
+            as_tree(moment.nanos()),
+            owned(moment.to_rfc3339(alloc)),
+            shown(alloc, &moment),
+            owned(moment.to_decimal(alloc)),
         ],
     )
 }
@@ -27,17 +27,14 @@ pub fn of_rand<E: std::fmt::Display>(
     found: &Result<SampleRand, E>,
 ) -> Result<Value, AllocError> {
     match found {
-        Ok(value) => list(
-            alloc,
-            [Value::from(value.billionths()), shown(alloc, value)?],
-        ),
+        Ok(value) => list(alloc, [as_tree(value.billionths()), shown(alloc, value)]),
         Err(error) => refused(alloc, error),
     }
 }
 
 fn of_rate(alloc: Global, given: &str) -> Result<Value, AllocError> {
     match given.parse::<SampleRate>() {
-        Ok(rate) => list(alloc, [Value::from(rate.0), shown(alloc, &rate)?]),
+        Ok(rate) => list(alloc, [as_tree(rate.0), shown(alloc, &rate)]),
         Err(error) => refused(alloc, &error),
     }
 }

@@ -1,18 +1,19 @@
 //! What numbers are made into.
 
 use crate::moments::{of_moment, of_rand};
-use crate::said::{list, none, refused, shown, unknown};
+use crate::said::{as_tree, list, none, refused, shown, unknown};
 use crate::words::of_place;
 use sentry_types::protocol::v7::{
     Addr, Decimal, IpAddress, LogSeverityNumber, Moment, OrganizationId, RegVal, SampleRand,
     SampleRate, Value,
 };
 use std::alloc::{AllocError, Global};
+use std::cmp::Ordering;
 use std::net::IpAddr;
 
 fn of_severity(alloc: Global, number: u64) -> Result<Value, AllocError> {
     match LogSeverityNumber::try_from(u8::try_from(number).unwrap_or(u8::MAX)) {
-        Ok(severity) => list(alloc, [Value::from(severity.value())]),
+        Ok(severity) => list(alloc, [as_tree(severity.value())]),
         Err(error) => refused(alloc, &error),
     }
 }
@@ -25,8 +26,8 @@ fn of_signed(alloc: Global, name: &str, number: i64) -> Result<Value, AllocError
     list(
         alloc,
         [
-            shown(alloc, &Addr::from(number))?,
-            shown(alloc, &RegVal::from(number))?,
+            shown(alloc, &Addr::from(number)),
+            shown(alloc, &RegVal::from(number)),
         ],
     )
 }
@@ -40,11 +41,11 @@ fn of_unsigned(alloc: Global, number: u64) -> Result<Value, AllocError> {
     list(
         alloc,
         [
-            shown(alloc, &Addr::from(number))?,
-            shown(alloc, &RegVal::from(number))?,
-            Value::from(u64::from(addr)),
-            Value::from(u64::from(value)),
-            Value::from(addr.is_null()),
+            shown(alloc, &Addr::from(number)),
+            shown(alloc, &RegVal::from(number)),
+            as_tree(u64::from(addr)),
+            as_tree(u64::from(value)),
+            as_tree(addr.is_null()),
         ],
     )
 }
@@ -63,6 +64,13 @@ fn of_one(alloc: Global, name: &str, number: u64) -> Result<Value, AllocError> {
     }
 }
 
+fn said_order(found: Option<Ordering>) -> Result<Value, AllocError> {
+    match found {
+        Some(order) => as_tree(i64::from(order as i8)),
+        None => Ok(Value::Null),
+    }
+}
+
 // How an IP address of a user compares with an IP address.
 fn of_ips(alloc: Global, name: &str, user: &str, ip: &str) -> Result<Value, AllocError> {
     if name != "IpAddress::partial_cmp_ip" {
@@ -71,16 +79,12 @@ fn of_ips(alloc: Global, name: &str, user: &str, ip: &str) -> Result<Value, Allo
     let (Ok(user), Ok(ip)) = (user.parse::<IpAddress>(), ip.parse::<IpAddr>()) else {
         return none(alloc);
     };
-    let order = match user.partial_cmp_ip(&ip) {
-        Some(order) => Value::from(i64::from(order as i8)),
-        None => Value::Null,
-    };
     list(
         alloc,
         [
-            Value::from(user.eq_ip(&ip)),
-            order,
-            shown(alloc, &IpAddress::from(ip))?,
+            as_tree(user.eq_ip(&ip)),
+            said_order(user.partial_cmp_ip(&ip)),
+            shown(alloc, &IpAddress::from(ip)),
         ],
     )
 }

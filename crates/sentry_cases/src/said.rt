@@ -2,17 +2,39 @@
 
 use sentry_types::protocol::v7::Value;
 use std::alloc::{AllocError, Global};
-use std::fmt::Display;
+use std::fmt::{Debug, Display};
 use std::str::FromStr;
 
-/// A list of fields.
-pub fn list<const N: usize>(alloc: Global, fields: [Value; N]) -> Result<Value, AllocError> {
-    Ok(Value::from(Vec::from_array(alloc, fields)?))
+/// A list of fields, if each was made.
+pub fn list<const N: usize>(
+    alloc: Global,
+    fields: [Result<Value, AllocError>; N],
+) -> Result<Value, AllocError> {
+    let mut items = Vec::new(alloc);
+    for field in Vec::from_array(alloc, fields)? {
+        items.push(field?)?;
+    }
+    Ok(Value::from(items))
+}
+
+/// A text that was made.
+pub fn owned(made: Result<String, AllocError>) -> Result<Value, AllocError> {
+    Ok(Value::from(made?))
+}
+
+/// A number, a truth value, a text or a list, as a tree.
+pub fn as_tree<T: Into<Value>>(value: T) -> Result<Value, AllocError> {
+    Ok(value.into())
+}
+
+/// The `Debug` text of a value.
+pub fn debug<T: Debug>(alloc: Global, value: &T) -> Result<Value, AllocError> {
+    owned(format!(in alloc; "{value:?}"))
 }
 
 /// What a value prints.
 pub fn shown<T: Display>(alloc: Global, value: &T) -> Result<Value, AllocError> {
-    Ok(Value::from(value.to_string(alloc)?))
+    owned(value.to_string(alloc))
 }
 
 pub fn text(alloc: Global, text: &str) -> Result<Value, AllocError> {
@@ -29,7 +51,7 @@ pub fn maybe(alloc: Global, found: Option<&str>) -> Result<Value, AllocError> {
 
 /// What a refusal prints, after `!`.
 pub fn refused<E: Display>(alloc: Global, error: &E) -> Result<Value, AllocError> {
-    Ok(Value::from(format!(in alloc; "!{error}")?))
+    owned(format!(in alloc; "!{error}"))
 }
 
 /// The answer to a name that asks for nothing.
@@ -48,7 +70,7 @@ where
     T::Err: Display + Drop,
 {
     match given.parse::<T>() {
-        Ok(value) => list(alloc, [shown(alloc, &value)?]),
+        Ok(value) => list(alloc, [shown(alloc, &value)]),
         Err(error) => refused(alloc, &error),
     }
 }

@@ -1,8 +1,9 @@
 //! What small texts are read as.
 
+use crate::asked::said_of;
 use crate::ids::of_id;
 use crate::moments::of_moment_text;
-use crate::said::{list, printed, refused, shown};
+use crate::said::{as_tree, list, printed, refused, shown};
 use crate::words::of_word;
 use sentry_types::protocol::v7::{
     Addr, CrontabParseError, IpAddress, Member, MonitorSchedule, RegVal, ScheduleError, ThreadId,
@@ -12,43 +13,38 @@ use std::alloc::{AllocError, Global};
 
 fn of_address(alloc: Global, given: &str) -> Result<Value, AllocError> {
     match given.parse::<Addr>() {
-        Ok(addr) => list(alloc, [Value::from(u64::from(addr)), shown(alloc, &addr)?]),
+        Ok(addr) => list(alloc, [as_tree(u64::from(addr)), shown(alloc, &addr)]),
         Err(error) => refused(alloc, &error),
     }
 }
 
 fn of_register(alloc: Global, given: &str) -> Result<Value, AllocError> {
     match given.parse::<RegVal>() {
-        Ok(value) => list(
-            alloc,
-            [Value::from(u64::from(value)), shown(alloc, &value)?],
-        ),
+        Ok(value) => list(alloc, [as_tree(u64::from(value)), shown(alloc, &value)]),
         Err(error) => refused(alloc, &error),
     }
 }
 
-// The tree of the schedule of a crontab, or the refusals, outer and inner.
+// The refusals of a crontab, outer and inner.
+fn said_fault(alloc: Global, given: &str, inner: &CrontabParseError) -> Result<Value, AllocError> {
+    let outer = ScheduleError::Invalid(CrontabParseError::new(alloc, given)?);
+    list(alloc, [refused(alloc, &outer), shown(alloc, inner)])
+}
+
+// The tree of the schedule of a crontab, or the refusals.
 fn of_crontab(alloc: Global, given: &str) -> Result<Value, AllocError> {
     match MonitorSchedule::from_crontab(alloc, given) {
-        Ok(schedule) => list(alloc, [schedule.to_tree(alloc)?]),
-        Err(ScheduleError::Invalid(reason)) => list(
-            alloc,
-            [
-                refused(
-                    alloc,
-                    &ScheduleError::Invalid(CrontabParseError::new(alloc, given)?),
-                )?,
-                shown(alloc, &reason)?,
-            ],
-        ),
+        Ok(schedule) => list(alloc, [schedule.to_tree(alloc)]),
+        Err(ScheduleError::Invalid(inner)) => said_fault(alloc, given, &inner),
         Err(error) => refused(alloc, &error),
     }
 }
 
 // The tree of the id that is a text, and what it prints.
 fn of_thread_id(alloc: Global, given: &str) -> Result<Value, AllocError> {
-    let id = ThreadId::from_text(alloc, given)?;
-    list(alloc, [id.to_tree(alloc)?, shown(alloc, &id)?])
+    said_of(alloc, ThreadId::from_text(alloc, given), |id: &ThreadId| {
+        list(alloc, [id.to_tree(alloc), shown(alloc, id)])
+    })
 }
 
 fn of_other_text(alloc: Global, name: &str, given: &str) -> Result<Option<Value>, AllocError> {

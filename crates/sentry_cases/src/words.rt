@@ -1,6 +1,6 @@
 //! Words and units.
 
-use crate::said::{list, printed, refused, shown, text};
+use crate::said::{as_tree, list, printed, refused, shown, text};
 use sentry_types::IndexedEnum;
 use sentry_types::protocol::v7::{
     AttachmentType, Category, Level, LogLevel, MetricType, MonitorCheckInStatus,
@@ -14,13 +14,13 @@ fn of_level(alloc: Global, given: &str) -> Result<Value, AllocError> {
     match given.parse::<Level>() {
         Ok(level) => {
             let fields = [
-                text(alloc, level.as_str())?,
-                shown(alloc, &level)?,
-                Value::from(level.is_debug()),
-                Value::from(level.is_info()),
-                Value::from(level.is_warning()),
-                Value::from(level.is_error()),
-                Value::from(level.is_fatal()),
+                text(alloc, level.as_str()),
+                shown(alloc, &level),
+                as_tree(level.is_debug()),
+                as_tree(level.is_info()),
+                as_tree(level.is_warning()),
+                as_tree(level.is_error()),
+                as_tree(level.is_fatal()),
             ];
             list(alloc, fields)
         }
@@ -31,14 +31,14 @@ fn of_level(alloc: Global, given: &str) -> Result<Value, AllocError> {
 // The text of a unit, and whether it is one that the table of units doesn't list.
 fn of_unit(alloc: Global, unit: &Unit) -> Result<Value, AllocError> {
     let other = matches!(unit, Unit::Other(_));
-    list(alloc, [text(alloc, unit.as_str())?, Value::from(other)])
+    list(alloc, [text(alloc, unit.as_str()), as_tree(other)])
 }
 
 // A type of attachments, and whether it is one of its own.
 fn of_attachment_type(alloc: Global, given: &str) -> Result<Value, AllocError> {
     let ty = AttachmentType::from_text(alloc, given)?;
     let custom = matches!(ty, AttachmentType::Custom(_));
-    list(alloc, [text(alloc, ty.as_str())?, Value::from(custom)])
+    list(alloc, [text(alloc, ty.as_str()), as_tree(custom)])
 }
 
 // A word with `as_str` alone.
@@ -47,7 +47,7 @@ fn word<E: Display + Drop>(
     found: Result<&'static str, E>,
 ) -> Result<Value, AllocError> {
     match found {
-        Ok(word) => list(alloc, [text(alloc, word)?]),
+        Ok(word) => list(alloc, [text(alloc, word)]),
         Err(error) => refused(alloc, &error),
     }
 }
@@ -65,7 +65,7 @@ pub fn of_word(alloc: Global, name: &str, given: &str) -> Result<Option<Value>, 
         }
         "MonitorCheckInStatus" => {
             let status = MonitorCheckInStatus::from_word(given);
-            list(alloc, [text(alloc, status.as_str())?])?
+            list(alloc, [text(alloc, status.as_str())])?
         }
         "SpanStatus" => word(alloc, given.parse::<SpanStatus>().map(|w| w.as_str()))?,
         "SessionStatus" => word(alloc, given.parse::<SessionStatus>().map(|w| w.as_str()))?,
@@ -93,7 +93,7 @@ pub fn of_place(alloc: Global, name: &str, place: usize) -> Result<Option<Value>
         _ => return Ok(None),
     };
     Ok(Some(match found {
-        Some((word, index)) => list(alloc, [text(alloc, word)?, Value::from(index as u64)])?,
+        Some((word, index)) => list(alloc, [text(alloc, word), as_tree(index as u64)])?,
         None => crate::said::none(alloc)?,
     }))
 }

@@ -1,0 +1,56 @@
+//! Questions about values that were made.
+//!
+//! A value of a large type that is dropped where its scope ends costs many seconds of proof: each
+//! of its fields is walked there. So such values are handed to the generic calls here, which drop
+//! them once for all types, or to `drop`.
+
+use crate::said::refused;
+use sentry_types::protocol::v7::Value;
+use std::alloc::{AllocError, Global};
+use std::fmt::Display;
+
+/// Whether a value was made, and is as asked.
+pub fn holds<T: Drop, E: Drop, F: FnOnce(&T) -> bool>(made: Result<T, E>, ask: F) -> bool
+    requires { F.IsAlwaysCallable ask }
+{
+    match made {
+        Ok(value) => ask(&value),
+        Err(_) => false,
+    }
+}
+
+/// Whether a value was made, and is this one.
+pub fn is_same<T: PartialEq + Drop, E: Drop>(made: Result<T, E>, value: &T) -> bool {
+    match made {
+        Ok(made) => made == *value,
+        Err(_) => false,
+    }
+}
+
+/// What is said of a value that was made, or why none was.
+pub fn said_of<T: Drop, E: Display + Drop, F: FnOnce(&T) -> Result<Value, AllocError>>(
+    alloc: Global,
+    made: Result<T, E>,
+    say: F,
+) -> Result<Value, AllocError>
+    requires { F.IsAlwaysCallable say }
+{
+    match made {
+        Ok(value) => say(&value),
+        Err(error) => refused(alloc, &error),
+    }
+}
+
+/// What a call makes of a value that was made, or why none was.
+pub fn taken<T: Drop, E: Display + Drop, F: FnOnce(T) -> Result<Value, AllocError>>(
+    alloc: Global,
+    made: Result<T, E>,
+    call: F,
+) -> Result<Value, AllocError>
+    requires { F.IsAlwaysCallable call }
+{
+    match made {
+        Ok(value) => call(value),
+        Err(error) => refused(alloc, &error),
+    }
+}
