@@ -23,12 +23,8 @@ fn without_attachments(alloc: Global, bytes: &[u8]) -> Result<Option<Envelope>, 
     let now = Moment::new(0, 0).ok_or("no moment")?;
     let envelope = Envelope::from_slice(alloc, bytes, now, &mut Pcg32::new(42, 54))?;
     let mut filter = |item: &EnvelopeItem| !matches!(item, EnvelopeItem::Attachment(_));
-    Ok(
-        envelope
-            .filter_by(alloc, &mut filter)
-            .ok()
-            .ok_or("out of memory")?,
-    )
+    let left = envelope.filter_by(alloc, &mut filter).ok();
+    Ok(left.ok_or("out of memory")?)
 }
 
 /// Whether one loss is told of an envelope, and it is written as this text.
