@@ -1,6 +1,6 @@
 //! Parsing, normalizing and filtering envelopes.
 
-ghost use Rattle.std.specs.Prelude.{◌≡◌, ◌≢◌, ◌⊎◌, ◌^◌, ◌<◌, ◌≤◌, IfErr, IfNone, IfOk, IfSome, IsSomeAnd, length, replicate};
+ghost use Rattle.std.specs.Prelude.{◌≡◌, ◌≢◌, ◌⊎◌, ◌^◌, ◌<◌, ◌≤◌, IfErr, IfOk, IsSomeAnd, MatchOption, OnOk, length, replicate};
 ghost use Rattle.sentry_framing.specs.declared.error.EnvelopeError.{EnvelopeError as Refusal};
 ghost use Rattle.sentry_framing.specs.declared.error.EnvelopeError.TheVariants as refusals;
 ghost use Rattle.sentry_tables.specs.Cell.{moment};
@@ -99,6 +99,15 @@ pub extern "C" fn sentry_envelope_normalize(
     }
 }
 
+#[tactic(auto, using(crate::proofs::Envelopes::is_spelled))]
+fn checked(alloc: Global, bytes: &[u8], now: Moment, seed: u64) -> Result<(), EnvelopeError>
+    ensures spelled { OnOk result (IsSpelled bytes.now (moment_cell now)) }
+    ensures fault { IfErr result (λ x. x ≢ EnvelopeError.OutOfMemory → Fault profile bytes.now x) }
+{
+    read(alloc, bytes, now, seed)?;
+    Ok(())
+}
+
 /// Parses an envelope, and writes nothing.
 #[unsafe(no_mangle)]
 pub extern "C" fn sentry_envelope_check(
@@ -120,8 +129,8 @@ pub extern "C" fn sentry_envelope_check(
     let Some(now) = Moment::new(now_secs, now_nanos) else {
         return NO_MOMENT;
     };
-    match read(alloc, bytes, now, seed) {
-        Ok(_) => OK,
+    match checked(alloc, bytes, now, seed) {
+        Ok(()) => OK,
         Err(error) => of_refusal(&error),
     }
 }
@@ -144,7 +153,6 @@ fn filtered<F: EnvelopeFilter>(
 }
 
 // Returns what is left of an envelope.
-#[tactic(auto, using(crate::proofs::Filtering::left_of))]
 fn read_left(
     alloc: Global,
     bytes: &[u8],
@@ -154,10 +162,11 @@ fn read_left(
     filter: &mut KindFilter,
 ) -> Result<Option<Envelope>, EnvelopeError>
     requires { filter.old.sums ≡ replicate 120 0 }
-    ensures left { IfOk result (λ left. IfSome left (λ e. IsLeft bytes.now (moment_cell now)
+    ensures left { IfOk result (λ left. MatchOption left
+        (LeavesNothing bytes.now (moment_cell now)
+        filter.old.kinds filter.old.keep keep_headers filter.new.sums)
+        (λ e. IsLeft bytes.now (moment_cell now)
         filter.old.kinds filter.old.keep keep_headers filter.new.sums (text_of e))) }
-    ensures nothing { IfOk result (λ left. IfNone left (LeavesNothing bytes.now (moment_cell now)
-        filter.old.kinds filter.old.keep keep_headers filter.new.sums)) }
     ensures fault { IfErr result (λ x. x ≢ EnvelopeError.OutOfMemory → Fault profile bytes.now x) }
 {
     let envelope = read(alloc, bytes, now, seed)?;
@@ -177,10 +186,11 @@ fn text_left(
     filter: &mut KindFilter,
 ) -> Result<Option<Vec<u8>>, EnvelopeError>
     requires { filter.old.sums ≡ replicate 120 0 }
-    ensures left { IfOk result (λ left. IfSome left (λ text. IsLeft bytes.now (moment_cell now)
+    ensures left { IfOk result (λ left. MatchOption left
+        (LeavesNothing bytes.now (moment_cell now)
+        filter.old.kinds filter.old.keep keep_headers filter.new.sums)
+        (λ text. IsLeft bytes.now (moment_cell now)
         filter.old.kinds filter.old.keep keep_headers filter.new.sums text.items)) }
-    ensures nothing { IfOk result (λ left. IfNone left (LeavesNothing bytes.now (moment_cell now)
-        filter.old.kinds filter.old.keep keep_headers filter.new.sums)) }
     ensures fault { IfErr result (λ x. x ≢ EnvelopeError.OutOfMemory → Fault profile bytes.now x) }
 {
     let Some(left) = read_left(alloc, bytes, now, seed, keep_headers, filter)? else {
