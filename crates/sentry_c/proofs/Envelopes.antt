@@ -1,5 +1,6 @@
 -- What is read and written of an envelope.
-use Rattle.std.proofs.Common.{◌≡◌, ℕ, List, refl, ◌∙◌, ap}
+use Rattle.std.proofs.Common.{◌≡◌, ℕ, List, Some, ◌∙◌, ap}
+use Rattle.std.proofs.lemmas.Option.{same_Some}
 use Rattle.std.specs.Option.{IsSomeAnd}
 use Rattle.sentry_tables.specs.Cell.{Cell}
 use Rattle.sentry_envelope.specs.Envelope.{Envelope as Model, Spells, envelope_norm, envelope_text}
@@ -23,3 +24,11 @@ normal_form_is bytes text now envelope spelled rewritten is = go (held envelope)
         → text ≡ text_by (header_of envelope) h → IsNormalForm bytes now text
     go (held_items is) spelled rewritten same = record { envelope = record { header = header_of envelope; items = is }; spells = spelled; text_is = same; normal = same ∙ rewritten }
     go (held_bytes b) spelled rewritten same = absurd spelled
+
+-- the text of a structured envelope is that of its model
+pub text_of_model : (envelope : Envelope) (m : Model) → structured envelope ≡ Some m → text_of envelope ≡ envelope_text profile m
+text_of_model envelope m is = go (held envelope) is
+  where
+    go : (h : Held) → structured_by (header_of envelope) h ≡ Some m → text_by (header_of envelope) h ≡ envelope_text profile m
+    go (held_items is) same = ap (envelope_text profile) (same_Some _ _ same)
+    go (held_bytes b) same = cc

@@ -121,11 +121,17 @@ pub extern "C" fn sentry_ledger_held(
     OK
 }
 
+fn are_zeros(quantities: &[u64]) -> bool
+    ensures { IsTrue result ↔ EachIndex quantities.now (λ k. slice_index quantities.now k ≡ 0) }
+{
+    quantities.iter().all(|quantity| *quantity == 0)
+}
+
 fn holds_nothing(ledger: &[u64]) -> bool
     requires { length ledger.now ≡ 108 }
     ensures { IsTrue result ↔ HoldsNothing (held_in ledger.now) }
 {
-    ledger.iter().all(|quantity| *quantity == 0)
+    are_zeros(ledger)
 }
 
 // Appends the item of a pair, unless its quantity is 0.
