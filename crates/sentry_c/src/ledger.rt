@@ -213,10 +213,11 @@ fn report_text(alloc: Global, ledger: &[u64], now: Moment) -> Result<Vec<u8>, Al
         IsReportText (held_in ledger.now) now.secs now.nanos text.items) }
 {
     let report = Report::new(now, report_items(alloc, ledger)?);
-    match Envelope::from_item(alloc, EnvelopeItem::ClientReport(report)) {
-        Ok(envelope) => text_of(alloc, &envelope),
-        Err(_) => Err(AllocError),
-    }
+    let Ok(envelope) = Envelope::from_item(alloc, EnvelopeItem::ClientReport(report)) else {
+        return Err(AllocError);
+    };
+    let text = text_of(alloc, &envelope)?;
+    Ok(text)
 }
 
 /// Moves all losses of a ledger into a client report, in an envelope that is written to `out`.
