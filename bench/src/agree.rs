@@ -1,0 +1,180 @@
+//! Compares the answers to many envelopes.
+
+use crate::answers::{self, Answer, Fault};
+use crate::compare;
+use crate::envelopes;
+use crate::frames;
+use crate::rows::{self, ROWS};
+use std::collections::BTreeMap;
+use std::time::Instant;
+
+/// How many unexplained differences are printed.
+const PRINTED: u64 = 20;
+
+/// What comes of comparing the answers to an envelope.
+enum Verdict {
+    /// Written alike, but for these rows.
+    Written(compare::Rows),
+    /// Refused alike.
+    Refused(Fault),
+    /// The answers differ by these rows.
+    Explained(Vec<&'static str>),
+    /// The answers differ, and no row says why.
+    Unexplained(String),
+}
+
+#[derive(Default)]
+struct Tally {
+    written: u64,
+    refused: BTreeMap<Fault, u64>,
+    in_writing: BTreeMap<&'static str, u64>,
+    explained: BTreeMap<String, u64>,
+    unexplained: u64,
+}
+
+fn judge(bytes: &[u8]) -> Verdict {
+    let (ours, theirs) = (answers::ours(bytes), answers::theirs(bytes));
+    match compare::answers(&ours, &theirs) {
+        Ok(rows) => match ours {
+            Answer::Refused(fault) => Verdict::Refused(fault),
+            _ if rows::has_float(&frames::cut(bytes)) => {
+                Verdict::Unexplained("a float is read".to_owned())
+            }
+            _ => Verdict::Written(rows),
+        },
+        Err(what) => match explain(bytes) {
+            Some(rows) => Verdict::Explained(rows),
+            None => Verdict::Unexplained(what),
+        },
+    }
+}
+
+fn agree(bytes: &[u8]) -> bool {
+    compare::answers(&answers::ours(bytes), &answers::theirs(bytes)).is_ok()
+}
+
+/// Returns the rows that explain a difference: one alone if one does, else all that apply.
+fn explain(bytes: &[u8]) -> Option<Vec<&'static str>> {
+    let cut = frames::cut(bytes);
+    let applied: Vec<_> = ROWS
+        .iter()
+        .filter(|row| row.mend(&mut cut.clone()))
+        .collect();
+    for row in &applied {
+        let mut mended = cut.clone();
+        row.mend(&mut mended);
+        if agree(&frames::join(&mended)) {
+            return Some(vec![row.name]);
+        }
+    }
+    let mut mended = cut;
+    let mut names = Vec::new();
+    for row in &ROWS {
+        if row.mend(&mut mended) {
+            names.push(row.name);
+        }
+    }
+    agree(&frames::join(&mended)).then_some(names)
+}
+
+fn print_bytes(bytes: &[u8]) {
+    println!("  b\"{}\"", bytes.escape_ascii());
+}
+
+fn print_answer(name: &str, answer: &Answer) {
+    match answer {
+        Answer::Written(bytes) => {
+            println!("  {name}: written");
+            print_bytes(bytes);
+        }
+        Answer::Refused(fault) => println!("  {name}: {fault:?}"),
+        Answer::Unwritten(why) => println!("  {name}: not written: {why}"),
+    }
+}
+
+fn print_difference(bytes: &[u8], what: &str) {
+    println!("  {what}");
+    print_bytes(bytes);
+    print_answer("ours", &answers::ours(bytes));
+    print_answer("theirs", &answers::theirs(bytes));
+}
+
+fn print_rows<K: std::fmt::Display>(title: &str, counts: &BTreeMap<K, u64>) {
+    println!("\n{title}");
+    for (name, count) in counts {
+        println!("{count:>10}  {name}");
+    }
+}
+
+impl Tally {
+    fn add(&mut self, verdict: &Verdict) {
+        match verdict {
+            Verdict::Written(rows) => {
+                self.written += 1;
+                for row in rows {
+                    *self.in_writing.entry(row).or_default() += 1;
+                }
+            }
+            Verdict::Refused(fault) => *self.refused.entry(*fault).or_default() += 1,
+            Verdict::Explained(rows) => {
+                let name = match rows.as_slice() {
+                    [row] => (*row).to_owned(),
+                    _ => "several of these together".to_owned(),
+                };
+                *self.explained.entry(name).or_default() += 1;
+            }
+            Verdict::Unexplained(_) => self.unexplained += 1,
+        }
+    }
+
+    fn print(&self) {
+        let refused: u64 = self.refused.values().sum();
+        let explained: u64 = self.explained.values().sum();
+        println!("{:>10}  read, and written alike", self.written);
+        println!("{refused:>10}  refused with the same error");
+        println!("{explained:>10}  different by a row of docs/DIFFERENCES.md");
+        println!("{:>10}  different, and not explained", self.unexplained);
+        let refused = self
+            .refused
+            .iter()
+            .map(|(fault, count)| (format!("{fault:?}"), *count));
+        print_rows("Refused with the same error:", &refused.collect());
+        print_rows("Written alike but for a row:", &self.in_writing);
+        print_rows("Different by a row:", &self.explained);
+    }
+}
+
+/// Compares the answers to `count` envelopes; returns whether each difference is explained.
+pub fn run(seed: u64, count: u64) -> bool {
+    let start = Instant::now();
+    let mut tally = Tally::default();
+    for index in 0..count {
+        let bytes = envelopes::make(seed, index);
+        let verdict = judge(&bytes);
+        if let Verdict::Unexplained(what) = &verdict {
+            if tally.unexplained < PRINTED {
+                println!("envelope {index} of seed {seed}:");
+                print_difference(&bytes, what);
+            }
+        }
+        tally.add(&verdict);
+    }
+    tally.print();
+    eprintln!("{count} envelopes in {} s", start.elapsed().as_secs());
+    tally.unexplained == 0
+}
+
+/// Compares the answers to an envelope in a file; returns whether a difference is explained.
+pub fn run_file(path: &str) -> Result<bool, std::io::Error> {
+    let bytes = std::fs::read(path)?;
+    match judge(&bytes) {
+        Verdict::Written(rows) => println!("read, and written alike, but for {rows:?}"),
+        Verdict::Refused(fault) => println!("refused by both: {fault:?}"),
+        Verdict::Explained(rows) => print_difference(&bytes, &format!("explained by {rows:?}")),
+        Verdict::Unexplained(what) => {
+            print_difference(&bytes, &what);
+            return Ok(false);
+        }
+    }
+    Ok(true)
+}

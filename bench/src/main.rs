@@ -1,0 +1,60 @@
+//! Runs Curdmesa and the Rust crate `sentry-types` side by side in one process.
+
+mod agree;
+mod answers;
+mod compare;
+mod damage;
+mod envelopes;
+mod forms;
+mod frames;
+mod json;
+mod make;
+mod random;
+mod rows;
+mod schema;
+mod speed;
+mod texts;
+
+use std::process::ExitCode;
+
+const USAGE: &str = "usage: beside agree SEED COUNT
+       beside agree FILE
+       beside speed ROUNDS PATH..
+       beside speed --once ours|theirs read|both FILE COUNT";
+
+fn number(word: &str) -> Option<u64> {
+    word.parse().ok()
+}
+
+fn run(words: &[&str]) -> Option<Result<bool, std::io::Error>> {
+    match words {
+        ["agree", seed, count] => Some(Ok(agree::run(number(seed)?, number(count)?))),
+        ["agree", file] => Some(agree::run_file(file)),
+        ["speed", "--once", side, part, file, count] => {
+            let work = speed::Work::from_words(side, part)?;
+            Some(speed::once(work, file, number(count)?).map(|()| true))
+        }
+        ["speed", rounds, paths @ ..] if !paths.is_empty() => {
+            let rounds = number(rounds).filter(|rounds| *rounds > 0)?;
+            Some(speed::run(rounds, paths).map(|()| true))
+        }
+        _ => None,
+    }
+}
+
+fn main() -> ExitCode {
+    let words: Vec<String> = std::env::args().skip(1).collect();
+    let words: Vec<&str> = words.iter().map(String::as_str).collect();
+    match run(&words) {
+        Some(Ok(true)) => ExitCode::SUCCESS,
+        Some(Ok(false)) => ExitCode::from(1),
+        Some(Err(error)) => {
+            eprintln!("beside: {error}");
+            ExitCode::from(2)
+        }
+        None => {
+            eprintln!("{USAGE}");
+            ExitCode::from(3)
+        }
+    }
+}

@@ -1,0 +1,478 @@
+//! The rows of `docs/DIFFERENCES.md` that show in what is read and written.
+//!
+//! A row mends an envelope: it takes out what the two judge differently, and leaves all else. Where
+//! the answers differ, and agree about the mended bytes, the row is the cause.
+
+use crate::frames::{Cut, Piece};
+use crate::json::{is_float, Json};
+use crate::schema::{self, Field, Kind, Rule, Table, CONTEXTS};
+use sentry_types::protocol::v7::debugid::DebugId;
+use std::collections::HashSet;
+
+/// How a row mends an envelope; each answers whether it changed anything.
+enum Mend {
+    /// A JSON value of a kind, wherever it stands.
+    Node(fn(&mut Json, &Kind) -> bool),
+    /// A line of JSON.
+    Line(fn(&mut Json) -> bool),
+    Items(fn(&mut Cut) -> bool),
+}
+
+/// A row.
+pub struct Row {
+    pub name: &'static str,
+    mend: Mend,
+}
+
+const fn node(name: &'static str, mend: fn(&mut Json, &Kind) -> bool) -> Row {
+    let mend = Mend::Node(mend);
+    Row { name, mend }
+}
+
+const fn line(name: &'static str, mend: fn(&mut Json) -> bool) -> Row {
+    let mend = Mend::Line(mend);
+    Row { name, mend }
+}
+
+const fn items(name: &'static str, mend: fn(&mut Cut) -> bool) -> Row {
+    let mend = Mend::Items(mend);
+    Row { name, mend }
+}
+
+/// All rows, in the order in which they mend together.
+pub static ROWS: [Row; 22] = [
+    items("item types that only Curdmesa has", own_items),
+    node("an item header that is an array", item_header_array),
+    node("a struct as an array", struct_array),
+    node("Values as a bare array", bare_values),
+    node("a key twice in a struct", key_twice),
+    node(
+        "a replaced member of a map that doesn't fit",
+        replaced_entry,
+    ),
+    node("an unknown field that isn't looked into", unread_field),
+    line("a float", float),
+    node("a word as an object of one key", word_object),
+    node("categories that only Curdmesa has", own_category),
+    node(
+        "a number past the range of the whole number here",
+        real_range,
+    ),
+    node("a severity outside 1 to 24", severity),
+    node("urn:uuid: in another case", urn_case),
+    node("a debug id of another form", debug_form),
+    node("an invalid label in xn--", punycode),
+    node("^ in a URL", caret),
+    node("a moment past 9999", past_last),
+    node("an RFC 3339 text: separator, second 60", rfc3339_form),
+    node("the sign of an offset of less than an hour", offset_sign),
+    node("a sample rate that is no short decimal", rate_form),
+    node("a sample rand that is no short decimal", rand_form),
+    node("an id or a moment that is absent", drawn),
+];
+
+impl Row {
+    /// Mends an envelope, and returns whether anything changed.
+    pub fn mend(&self, cut: &mut Cut) -> bool {
+        match self.mend {
+            Mend::Items(mend) => mend(cut),
+            Mend::Line(mend) => each_line(cut, &mut |value, _| mend(value)),
+            Mend::Node(mend) => each_line(cut, &mut |value, kind| walk(value, kind, mend)),
+        }
+    }
+}
+
+/// Returns whether a line has a float that counts.
+pub fn has_float(cut: &Cut) -> bool {
+    each_line(&mut cut.clone(), &mut |value, _| float(value))
+}
+
+fn each_line(cut: &mut Cut, mend: &mut dyn FnMut(&mut Json, &Kind) -> bool) -> bool {
+    let mut changed = false;
+    if let Piece::Json(header) = &mut cut.header {
+        changed |= mend(header, &schema::HEADER);
+    }
+    for item in &mut cut.items {
+        let kind = item.kind();
+        changed |= mend(&mut item.header, &schema::ITEM_HEADER);
+        if let (Piece::Json(payload), Some(kind)) = (&mut item.payload, kind) {
+            changed |= mend(payload, kind);
+        }
+    }
+    changed
+}
+
+/// Mends a value, and then all in it.
+fn walk(value: &mut Json, kind: &Kind, mend: fn(&mut Json, &Kind) -> bool) -> bool {
+    let mut changed = mend(value, kind);
+    match (kind, value) {
+        (Kind::List(kind) | Kind::Values(kind), Json::List(values)) => {
+            for value in values {
+                changed |= walk(value, kind, mend);
+            }
+        }
+        (Kind::Values(kind), value) => {
+            if let Some(Json::List(values)) = value.get_mut("values") {
+                for value in values {
+                    changed |= walk(value, kind, mend);
+                }
+            }
+        }
+        (Kind::Map(kind), Json::Object(members)) => {
+            for (_, value) in members {
+                changed |= walk(value, kind, mend);
+            }
+        }
+        (Kind::Contexts, Json::Object(members)) => {
+            for (key, value) in members {
+                if let Some(table) = context(key, value) {
+                    changed |= walk(value, &Kind::Table(table), mend);
+                }
+            }
+        }
+        (Kind::Tagged(cases), value) => {
+            if let Some(table) = case(cases, value) {
+                changed |= walk(value, &Kind::Table(table), mend);
+            }
+        }
+        (Kind::Table(table), value) => changed |= walk_table(value, table, mend),
+        _ => {}
+    }
+    changed
+}
+
+fn walk_table(value: &mut Json, table: &Table, mend: fn(&mut Json, &Kind) -> bool) -> bool {
+    let mut changed = false;
+    match value {
+        Json::Object(members) => {
+            for (key, value) in members {
+                if let Some(field) = key.as_text().and_then(|key| table.field(key)) {
+                    changed |= walk(value, &field.kind, mend);
+                }
+            }
+        }
+        Json::List(values) => {
+            for (field, value) in table.fields.iter().zip(values) {
+                changed |= walk(value, &field.kind, mend);
+            }
+        }
+        _ => {}
+    }
+    changed
+}
+
+/// Returns the table of a context in a map of contexts.
+fn context(key: &Json, value: &Json) -> Option<&'static Table> {
+    let tag = value.get("type").unwrap_or(key).as_text()?;
+    let found = CONTEXTS.iter().find(|(name, _)| *name == tag);
+    found.map(|(_, table)| table)
+}
+
+/// Returns the table of a value by its tag.
+fn case(cases: &'static [(&'static str, Table)], value: &Json) -> Option<&'static Table> {
+    let tag = value.get("type")?.as_text()?;
+    let found = cases.iter().find(|(name, _)| *name == tag);
+    found.map(|(_, table)| table)
+}
+
+fn replace(value: &mut Json, new: Json) -> bool {
+    let changed = *value != new;
+    *value = new;
+    changed
+}
+
+fn own_items(cut: &mut Cut) -> bool {
+    let before = cut.items.len();
+    cut.items.retain(|item| {
+        !schema::ITEMS[9..]
+            .iter()
+            .any(|word| item.word() == Some(word))
+    });
+    cut.items.len() < before
+}
+
+fn is_item_header(table: &Table) -> bool {
+    table.field("attachment_type").is_some()
+}
+
+fn fields_as_object(value: &mut Json, fields: &[Field]) -> bool {
+    let Json::List(values) = value else {
+        return false;
+    };
+    if values.len() > fields.len() {
+        return false;
+    }
+    let keys = fields.iter().map(|field| Json::text(field.key));
+    let members = keys.zip(std::mem::take(values)).collect();
+    replace(value, Json::Object(members))
+}
+
+fn item_header_array(value: &mut Json, kind: &Kind) -> bool {
+    match kind {
+        Kind::Table(table) if is_item_header(table) => fields_as_object(value, table.fields),
+        _ => false,
+    }
+}
+
+fn struct_array(value: &mut Json, kind: &Kind) -> bool {
+    match (kind, &mut *value) {
+        (Kind::Table(table), _) if !table.other && !is_item_header(table) => {
+            fields_as_object(value, table.fields)
+        }
+        (Kind::Tagged(cases), Json::List(values)) if !values.is_empty() => {
+            let tag = values.remove(0);
+            let found = cases.iter().find(|(name, _)| tag.is(name));
+            let Some((_, table)) = found else {
+                values.insert(0, tag);
+                return false;
+            };
+            fields_as_object(value, table.fields);
+            if let Json::Object(members) = value {
+                members.push((Json::text("type"), tag));
+            }
+            true
+        }
+        _ => false,
+    }
+}
+
+fn bare_values(value: &mut Json, kind: &Kind) -> bool {
+    match (kind, &mut *value) {
+        (Kind::Values(_), Json::List(values)) => {
+            let values = Json::List(std::mem::take(values));
+            replace(value, Json::Object(vec![(Json::text("values"), values)]))
+        }
+        _ => false,
+    }
+}
+
+/// Keeps the last member of each key that `counts`.
+fn keep_last(members: &mut Vec<(Json, Json)>, counts: impl Fn(&str) -> bool) -> bool {
+    let before = members.len();
+    let mut seen = HashSet::new();
+    members.reverse();
+    members.retain(|(key, _)| match key.as_text() {
+        Some(key) if counts(key) => seen.insert(key.to_owned()),
+        _ => true,
+    });
+    members.reverse();
+    members.len() < before
+}
+
+fn key_twice(value: &mut Json, kind: &Kind) -> bool {
+    match (kind, value) {
+        (Kind::Table(table), Json::Object(members)) => {
+            keep_last(members, |key| table.field(key).is_some())
+        }
+        (Kind::Tagged(_), Json::Object(members)) => keep_last(members, |key| key == "type"),
+        (Kind::Values(_), Json::Object(members)) => keep_last(members, |key| key == "values"),
+        (Kind::Attribute, Json::Object(members)) => {
+            keep_last(members, |key| key == "type" || key == "value")
+        }
+        _ => false,
+    }
+}
+
+fn replaced_entry(value: &mut Json, kind: &Kind) -> bool {
+    match (kind, value) {
+        (Kind::Map(_) | Kind::Contexts, Json::Object(members)) => keep_last(members, |_| true),
+        _ => false,
+    }
+}
+
+fn has_broken(value: &Json) -> bool {
+    match value {
+        Json::Broken(_) => true,
+        Json::List(values) => values.iter().any(has_broken),
+        Json::Object(members) => members
+            .iter()
+            .any(|(key, value)| has_broken(key) || has_broken(value)),
+        _ => false,
+    }
+}
+
+fn unread_field(value: &mut Json, kind: &Kind) -> bool {
+    let (Kind::Table(table), Json::Object(members)) = (kind, value) else {
+        return false;
+    };
+    let mut changed = false;
+    for (key, value) in members {
+        let known = key.as_text().is_some_and(|key| table.field(key).is_some());
+        if !known && (has_broken(value) || value.depth() > 100) {
+            *value = Json::Null;
+            changed = true;
+        }
+    }
+    changed
+}
+
+fn float(value: &mut Json) -> bool {
+    match value {
+        Json::Number(number) if is_float(number) => replace(value, Json::number(1)),
+        Json::List(values) => values
+            .iter_mut()
+            .fold(false, |changed, value| float(value) | changed),
+        Json::Object(members) => {
+            let mut changed = false;
+            let mut seen = HashSet::new();
+            for (key, value) in members.iter_mut().rev() {
+                let counts = key.as_text().is_none_or(|key| seen.insert(key.to_owned()));
+                changed |= counts && float(value);
+            }
+            changed
+        }
+        _ => false,
+    }
+}
+
+fn word_object(value: &mut Json, kind: &Kind) -> bool {
+    let words = matches!(
+        kind,
+        Kind::Word(_) | Kind::CheckInStatus | Kind::AttachmentType
+    );
+    match value {
+        Json::Object(members) if words => match members.as_slice() {
+            [(key, Json::Null)] => {
+                let key = key.clone();
+                replace(value, key)
+            }
+            _ => false,
+        },
+        _ => false,
+    }
+}
+
+fn own_category(value: &mut Json, kind: &Kind) -> bool {
+    let own = schema::CATEGORIES[10..].iter().any(|word| value.is(word));
+    let categories = matches!(kind, Kind::Word(words) if words.len() == schema::CATEGORIES.len());
+    own && categories && replace(value, Json::text("error"))
+}
+
+fn real_range(value: &mut Json, kind: &Kind) -> bool {
+    match (kind, value.as_whole()) {
+        (Kind::Real(low, high), Some(whole)) if !(*low..=*high).contains(&whole) => {
+            replace(value, Json::number(1))
+        }
+        _ => false,
+    }
+}
+
+fn severity(value: &mut Json, kind: &Kind) -> bool {
+    match (kind, value.as_whole()) {
+        (Kind::Severity, Some(0 | 25..=255)) => replace(value, Json::number(1)),
+        _ => false,
+    }
+}
+
+/// Mends a text of a kind.
+fn text(value: &mut Json, fits: bool, mend: impl Fn(&str) -> Option<String>) -> bool {
+    let mended = value.as_text().filter(|_| fits).and_then(mend);
+    mended.is_some_and(|mended| replace(value, Json::Text(mended)))
+}
+
+fn urn_case(value: &mut Json, kind: &Kind) -> bool {
+    text(value, matches!(kind, Kind::Uuid), |text| {
+        let (prefix, rest) = text.split_at_checked(9)?;
+        prefix
+            .eq_ignore_ascii_case("urn:uuid:")
+            .then(|| format!("urn:uuid:{rest}"))
+    })
+}
+
+fn debug_form(value: &mut Json, kind: &Kind) -> bool {
+    text(value, matches!(kind, Kind::DebugId), |text| {
+        let id: DebugId = text.parse().ok()?;
+        Some(id.to_string())
+    })
+}
+
+fn punycode(value: &mut Json, kind: &Kind) -> bool {
+    text(value, matches!(kind, Kind::Url | Kind::Dsn), |text| {
+        Some(text.replace("xn--", "xn-"))
+    })
+}
+
+fn caret(value: &mut Json, kind: &Kind) -> bool {
+    text(value, matches!(kind, Kind::Url | Kind::Dsn), |text| {
+        Some(text.replace('^', "%5E"))
+    })
+}
+
+fn is_moment(kind: &Kind) -> bool {
+    matches!(kind, Kind::Seconds | Kind::Rfc3339)
+}
+
+fn past_last(value: &mut Json, kind: &Kind) -> bool {
+    const LAST: i128 = 253_402_300_799;
+    if matches!(kind, Kind::Seconds) && value.as_whole().is_some_and(|whole| whole > LAST) {
+        return replace(value, Json::number(LAST));
+    }
+    text(value, is_moment(kind), |text| {
+        let rest = text.strip_prefix("9999-")?;
+        (!rest.ends_with(['Z', 'z'])).then(|| format!("9998-{rest}"))
+    })
+}
+
+fn rfc3339_form(value: &mut Json, kind: &Kind) -> bool {
+    text(value, is_moment(kind), |text| {
+        let (date, rest) = text.split_at_checked(10)?;
+        let rest = rest.get(rest.chars().next()?.len_utf8()..)?;
+        let rest = match rest.strip_prefix("23:59:60") {
+            Some(after) => format!("23:59:59{after}"),
+            None => rest.to_owned(),
+        };
+        Some(format!("{date}T{rest}"))
+    })
+}
+
+fn offset_sign(value: &mut Json, kind: &Kind) -> bool {
+    text(value, is_moment(kind), |text| {
+        let (front, offset) = text.split_at_checked(text.len().checked_sub(6)?)?;
+        let minutes = offset.strip_prefix("-00:")?;
+        Some(format!("{front}+00:{minutes}"))
+    })
+}
+
+/// Returns whether a text is digits with at most so many behind a point.
+fn is_short_decimal(text: &str, places: usize) -> bool {
+    let (whole, fraction) = text.split_once('.').unwrap_or((text, ""));
+    let digits = |text: &str| text.bytes().all(|byte| byte.is_ascii_digit());
+    digits(whole) && digits(fraction) && whole.len() <= 9 && fraction.len() <= places
+}
+
+fn rate_form(value: &mut Json, kind: &Kind) -> bool {
+    text(value, matches!(kind, Kind::SampleRate), |text| {
+        (!is_short_decimal(text, 9)).then(|| "0.5".to_owned())
+    })
+}
+
+fn rand_form(value: &mut Json, kind: &Kind) -> bool {
+    text(value, matches!(kind, Kind::SampleRand), |text| {
+        (!is_short_decimal(text, 6)).then(|| "0.5".to_owned())
+    })
+}
+
+fn stand_in(kind: &Kind) -> Json {
+    match kind {
+        Kind::Seconds => Json::number(1),
+        Kind::Rfc3339 => Json::text("2020-07-20T14:51:14Z"),
+        Kind::SpanId => Json::text("d42cee9fc3e74f5c"),
+        _ => Json::text("22d00b3fd1b14b5d8d2049d138cd8a9c"),
+    }
+}
+
+fn drawn(value: &mut Json, kind: &Kind) -> bool {
+    let Kind::Table(table) = kind else {
+        return false;
+    };
+    let mut changed = false;
+    for field in table.fields {
+        if field.rule == Rule::Drawn && value.get(field.key).is_none() {
+            if let Json::Object(members) = value {
+                members.push((Json::text(field.key), stand_in(&field.kind)));
+                changed = true;
+            }
+        }
+    }
+    changed
+}
