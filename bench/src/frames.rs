@@ -31,6 +31,8 @@ pub struct Item {
     pub space: Vec<u8>,
     pub header: Json,
     pub payload: Piece,
+    /// Whether the item can be cut; if not, the payload is all bytes behind the header.
+    pub whole: bool,
 }
 
 impl Item {
@@ -49,6 +51,20 @@ impl Item {
     /// Returns the form of the payload, if it is JSON.
     pub fn kind(&self) -> Option<&'static Kind> {
         schema::payload(self.word()?)
+    }
+
+    fn write(&self, out: &mut Vec<u8>) {
+        let mut item = self.clone();
+        let mut payload = Vec::new();
+        item.payload.write(&mut payload);
+        if let Some(length) = item.length_mut().filter(|_| self.whole) {
+            *length = Json::number(payload.len());
+        }
+        out.push(b'\n');
+        out.extend(&item.space);
+        json::write(&item.header, out);
+        out.extend(self.whole.then_some(b'\n'));
+        out.extend(payload);
     }
 
     /// Returns the place of the stated length.
@@ -84,32 +100,50 @@ pub fn cut(bytes: &[u8]) -> Cut {
     };
     let mut left = end.map_or(&[][..], |end| &bytes[end + 1..]);
     while !left.is_empty() {
-        let Some((item, after, ended)) = cut_item(left) else {
+        let Some((item, used)) = front_item(left) else {
             cut.rest = left.to_vec();
             break;
         };
-        cut.items.push(item);
-        cut.ended = ended;
-        left = after;
+        let behind = &left[used..];
+        let Some((payload, after)) = cut_payload(&item, behind) else {
+            let payload = Piece::Bytes(behind.to_vec());
+            let whole = false;
+            cut.items.push(Item {
+                payload,
+                whole,
+                ..item
+            });
+            cut.ended = false;
+            break;
+        };
+        cut.items.push(Item { payload, ..item });
+        cut.ended = after.is_some();
+        left = after.unwrap_or(&[]);
     }
     cut
 }
 
-/// Returns the item at the front, what is behind it, and whether a line feed ends it.
-fn cut_item(bytes: &[u8]) -> Option<(Item, &[u8], bool)> {
+/// Returns the item at the front, without its payload, and where its header ends.
+fn front_item(bytes: &[u8]) -> Option<(Item, usize)> {
     let space = bytes.iter().position(|byte| !json::is_space(*byte))?;
     let (header, used) = json::parse_front(&bytes[space..])?;
-    let after = match &bytes[space + used..] {
+    let item = Item {
+        space: bytes[..space].to_vec(),
+        header,
+        payload: Piece::Bytes(Vec::new()),
+        whole: true,
+    };
+    Some((item, space + used))
+}
+
+/// Returns the payload of an item, and what is behind the line feed that ends it, if one does.
+fn cut_payload<'a>(item: &Item, behind: &'a [u8]) -> Option<(Piece, Option<&'a [u8]>)> {
+    let after = match behind {
         [] => &[],
         [b'\n', after @ ..] => after,
         _ => return None,
     };
-    let mut item = Item {
-        space: bytes[..space].to_vec(),
-        header,
-        payload: Piece::Bytes(Vec::new()),
-    };
-    let length = match item.length_mut() {
+    let length = match item.clone().length_mut() {
         Some(length) => usize::try_from(length.as_whole()?).ok()?,
         None => after
             .iter()
@@ -117,13 +151,13 @@ fn cut_item(bytes: &[u8]) -> Option<(Item, &[u8], bool)> {
             .unwrap_or(after.len()),
     };
     let payload = after.get(..length)?;
-    item.payload = match item.kind() {
+    let payload = match item.kind() {
         Some(_) => Piece::json_or_bytes(payload),
         None => Piece::Bytes(payload.to_vec()),
     };
     match &after[length..] {
-        [] => Some((item, &[], false)),
-        [b'\n', behind @ ..] => Some((item, behind, true)),
+        [] => Some((payload, None)),
+        [b'\n', behind @ ..] => Some((payload, Some(behind))),
         _ => None,
     }
 }
@@ -133,17 +167,7 @@ pub fn join(cut: &Cut) -> Vec<u8> {
     let mut out = Vec::new();
     cut.header.write(&mut out);
     for item in &cut.items {
-        out.push(b'\n');
-        let mut item = item.clone();
-        let mut payload = Vec::new();
-        item.payload.write(&mut payload);
-        if let Some(length) = item.length_mut() {
-            *length = Json::number(payload.len());
-        }
-        out.extend(&item.space);
-        json::write(&item.header, &mut out);
-        out.push(b'\n');
-        out.extend(payload);
+        item.write(&mut out);
     }
     out.extend(cut.ended.then_some(b'\n'));
     out.extend(&cut.rest);

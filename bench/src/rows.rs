@@ -181,14 +181,22 @@ fn replace(value: &mut Json, new: Json) -> bool {
     changed
 }
 
+/// Makes items whose type only Curdmesa has attachments.
 fn own_items(cut: &mut Cut) -> bool {
-    let before = cut.items.len();
-    cut.items.retain(|item| {
-        !schema::ITEMS[9..]
-            .iter()
-            .any(|word| item.word() == Some(word))
-    });
-    cut.items.len() < before
+    let mut changed = false;
+    for item in &mut cut.items {
+        if item
+            .word()
+            .is_some_and(|word| schema::ITEMS[9..].contains(&word))
+        {
+            let place = match &mut item.header {
+                Json::List(values) => values.first_mut(),
+                header => header.get_mut("type"),
+            };
+            changed |= place.is_some_and(|word| replace(word, Json::text("attachment")));
+        }
+    }
+    changed
 }
 
 fn is_item_header(table: &Table) -> bool {
@@ -381,7 +389,16 @@ fn urn_case(value: &mut Json, kind: &Kind) -> bool {
 
 fn debug_form(value: &mut Json, kind: &Kind) -> bool {
     text(value, matches!(kind, Kind::DebugId), |text| {
-        let id: DebugId = text.parse().ok()?;
+        let hyphens = match text.split_at_checked(32) {
+            Some((id, appendix))
+                if appendix.starts_with('-') && id.is_ascii() && !id.contains('-') =>
+            {
+                let parts = [&id[..8], &id[8..12], &id[12..16], &id[16..20], &id[20..]];
+                parts.join("-") + appendix
+            }
+            _ => text.to_owned(),
+        };
+        let id: DebugId = hyphens.parse().ok()?;
         Some(id.to_string())
     })
 }
