@@ -288,9 +288,11 @@ fn replaced_entry(value: &mut Json, kind: &Kind) -> bool {
     }
 }
 
+/// Returns whether there is a string that is no text, or a number past the range of floats.
 fn has_broken(value: &Json) -> bool {
     match value {
         Json::Broken(_) => true,
+        Json::Number(number) => number.parse().is_ok_and(f64::is_infinite),
         Json::List(values) => values.iter().any(has_broken),
         Json::Object(members) => members
             .iter()
