@@ -24,7 +24,7 @@ use Rattle.sentry_identifiers.proofs.HexIdTrees.{hex_id_laws, drawn_id_laws}
 use Rattle.sentry_identifiers.proofs.UuidLaws.{simple_laws, drawn_uuid_laws}
 use Rattle.sentry_frames.proofs.TableLaws.{entry_lawful, stacktrace_lawful, template_lawful, thread_lawful, exception_lawful}
 use Rattle.sentry_parts.proofs.ClientSdkLaws.{sdk_lawful}
-use Rattle.sentry_parts.proofs.DebugLaws.{meta_lawful, meta_stands}
+use Rattle.sentry_parts.proofs.DebugLaws.{debug_meta_lawful, debug_meta_stands}
 use Rattle.sentry_parts.proofs.TableLaws.{breadcrumb_lawful, user_lawful, request_lawful}
 use Rattle.sentry_contexts.proofs.ContextLaws.{contexts_lawful, no_contexts_stand}
 use Rattle.sentry_event.specs.Events.{event_fields, event_kind}
@@ -80,7 +80,7 @@ transaction_lawful = laws_by_rows (rows_of transaction_fields) refl (search (tex
 
 pub event_lawful : IsLawful event_kind
 unfolding event_fields
-event_lawful = laws_by_rows (rows_of event_fields) refl (search (text_laws, any_laws, simple_laws, id_drawn, level_lawful, error_stands, fingerprint_lawful, fingerprint_default, entry_lawful, stacktrace_lawful, template_lawful, thread_lawful, exception_lawful, breadcrumb_lawful, user_lawful, request_lawful, meta_lawful, meta_stands, sdk_lawful, contexts_lawful, no_contexts_stand, other_stands, seconds_laws, seconds_at_once, empty_map_stands, empty_values_stand))
+event_lawful = laws_by_rows (rows_of event_fields) refl (search (text_laws, any_laws, simple_laws, id_drawn, level_lawful, error_stands, fingerprint_lawful, fingerprint_default, entry_lawful, stacktrace_lawful, template_lawful, thread_lawful, exception_lawful, breadcrumb_lawful, user_lawful, request_lawful, debug_meta_lawful, debug_meta_stands, sdk_lawful, contexts_lawful, no_contexts_stand, other_stands, seconds_laws, seconds_at_once, empty_map_stands, empty_values_stand))
 
 -- ---- their laws
 

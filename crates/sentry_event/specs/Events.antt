@@ -19,7 +19,7 @@ use Rattle.sentry_frames.specs.LogEntries.{entry_cell, entry_kind}
 use Rattle.sentry_frames.specs.Threads.{thread_cell, thread_kind}
 use Rattle.sentry_parts.specs.Breadcrumbs.{breadcrumb_cell, breadcrumb_kind}
 use Rattle.sentry_parts.specs.ClientSdk.{sdk_cell, sdk_kind}
-use Rattle.sentry_parts.specs.Debugging.{empty_meta, meta_cell, meta_kind}
+use Rattle.sentry_parts.specs.Debugging.{empty_meta, debug_meta_cell, debug_meta_kind}
 use Rattle.sentry_parts.specs.Requests.{request_cell, request_kind}
 use Rattle.sentry_parts.specs.Users.{user_cell, user_kind}
 use Rattle.sentry_contexts.specs.Contexts.{context_cell, contexts_kind}
@@ -31,7 +31,7 @@ event_fields =
     field (codes "breadcrumbs") (default empty_list) (values breadcrumb_kind) (λ e. list_cell breadcrumb_cell e.breadcrumbs.values.items)
     ∷ field (codes "contexts") (default empty_map) contexts_kind (λ e. map_cell context_cell e.contexts.entries)
     ∷ field (codes "culprit") may text_kind (λ e. option_cell text_cell e.culprit)
-    ∷ field (codes "debug_meta") (default empty_meta) meta_kind (λ e. meta_cell e.debug_meta)
+    ∷ field (codes "debug_meta") (default empty_meta) debug_meta_kind (λ e. debug_meta_cell e.debug_meta)
     ∷ field (codes "dist") may text_kind (λ e. option_cell cow_cell e.dist)
     ∷ field (codes "environment") may text_kind (λ e. option_cell cow_cell e.environment)
     ∷ field (codes "event_id") (draw IsRandomUuid) simple_kind (λ e. octets e.event_id)

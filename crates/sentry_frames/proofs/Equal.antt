@@ -9,7 +9,7 @@ use Rattle.sentry_members.specs.Cells.{text_cell, natural_cell}
 use Rattle.sentry_members.proofs.Equal.{texts_decide, naturals_decide, wholes_decide, options_decide, lists_decide}
 use Rattle.sentry_frames.specs.Causes.{c_error_fields, c_error_cell, mach_fields, mach_cell, signal_fields, signal_cell}
 use Rattle.sentry_frames.specs.Frames.{template_fields, template_cell}
-use Rattle.sentry_frames.specs.Mechanisms.{meta_fields, meta_cell}
+use Rattle.sentry_frames.specs.Mechanisms.{mechanism_meta_fields, mechanism_meta_cell}
 use Rattle.sentry_frames.specs.ThreadIds.{thread_id_cell}
 use Rattle.sentry_frames.specs.contracts.c_error.CErrorPartialEq.TheImpl.{eq-value as of_c_errors}
 use Rattle.sentry_frames.specs.contracts.mach_exception.MachExceptionPartialEq.TheImpl.{eq-value as of_mach_exceptions}
@@ -70,8 +70,8 @@ signals_decide a b =
     (options_decide string_eq text_cell texts_decide a.code_name b.code_name))) in
     (λ same. let e = parts.0 same in let number = e.0 in let code = e.1.0 in let name = e.1.1.0 in let code_name = e.1.1.1 in cc, λ same. parts.1 (cc, (cc, (cc, cc))))
 
-pub metas_decide : (a b : MechanismMeta) → Decides (of_metas.it a b) (meta_cell a ≡ meta_cell b)
-unfolding meta_fields
+pub metas_decide : (a b : MechanismMeta) → Decides (of_metas.it a b) (mechanism_meta_cell a ≡ mechanism_meta_cell b)
+unfolding mechanism_meta_fields
 metas_decide a b =
     let parts = Decides-and _ _ (options_decide of_c_errors.it c_error_cell c_errors_decide a.errno b.errno)
     (Decides-and _ _ (options_decide of_signals.it signal_cell signals_decide a.signal b.signal)

@@ -15,7 +15,7 @@ use Rattle.sentry_frames.specs.Causes.{c_error_fields, c_error_kind, mach_fields
 use Rattle.sentry_frames.specs.Exceptions.{exception_fields, exception_kind}
 use Rattle.sentry_frames.specs.Frames.{frame_fields, frame_kind, stacktrace_fields, stacktrace_kind, template_fields, template_kind}
 use Rattle.sentry_frames.specs.LogEntries.{entry_fields, entry_kind}
-use Rattle.sentry_frames.specs.Mechanisms.{mechanism_fields, mechanism_kind, meta_fields, meta_kind, no_meta}
+use Rattle.sentry_frames.specs.Mechanisms.{mechanism_fields, mechanism_kind, mechanism_meta_fields, mechanism_meta_kind, no_meta}
 use Rattle.sentry_frames.specs.ThreadIds.{thread_id_kind}
 use Rattle.sentry_frames.specs.Threads.{thread_fields, thread_kind}
 use Rattle.sentry_frames.proofs.ThreadIds.{thread_id_lawful}
@@ -54,18 +54,18 @@ signal_lawful : IsLawful signal_kind
 unfolding signal_fields
 signal_lawful = laws_by_rows (rows_of signal_fields) refl (search (text_laws, i32_laws))
 
-meta_lawful : IsLawful meta_kind
-unfolding meta_fields
-meta_lawful = laws_by_rows (rows_of meta_fields) refl (search (c_error_lawful, mach_lawful, signal_lawful))
+mechanism_meta_lawful : IsLawful mechanism_meta_kind
+unfolding mechanism_meta_fields
+mechanism_meta_lawful = laws_by_rows (rows_of mechanism_meta_fields) refl (search (c_error_lawful, mach_lawful, signal_lawful))
 
 -- where nothing is told, that is its own normal form, and null is none
-no_meta_stands : RuleLaws (default no_meta) meta_kind
-unfolding meta_fields
-no_meta_stands = (table_refuses_null (rows_of meta_fields) ignored, (((tt, (tt, (tt, tt))), refl), ((tt, (tt, (tt, tt))), (tt, refl)), ((tt, (tt, (tt, tt))), tt), refl))
+no_meta_stands : RuleLaws (default no_meta) mechanism_meta_kind
+unfolding mechanism_meta_fields
+no_meta_stands = (table_refuses_null (rows_of mechanism_meta_fields) ignored, (((tt, (tt, (tt, tt))), refl), ((tt, (tt, (tt, tt))), (tt, refl)), ((tt, (tt, (tt, tt))), tt), refl))
 
 mechanism_lawful : IsLawful mechanism_kind
 unfolding mechanism_fields
-mechanism_lawful = laws_by_rows (rows_of mechanism_fields) refl (search (text_laws, truth_laws, any_laws, url_lawful, meta_lawful, no_meta_stands, empty_map_stands))
+mechanism_lawful = laws_by_rows (rows_of mechanism_fields) refl (search (text_laws, truth_laws, any_laws, url_lawful, mechanism_meta_lawful, no_meta_stands, empty_map_stands))
 
 pub exception_lawful : IsLawful exception_kind
 unfolding exception_fields
@@ -97,8 +97,8 @@ mach_laws = has_laws mach_kind mach_lawful
 pub signal_laws : HasLaws signal_kind
 signal_laws = has_laws signal_kind signal_lawful
 
-pub meta_laws : HasLaws meta_kind
-meta_laws = has_laws meta_kind meta_lawful
+pub mechanism_meta_laws : HasLaws mechanism_meta_kind
+mechanism_meta_laws = has_laws mechanism_meta_kind mechanism_meta_lawful
 
 pub mechanism_laws : HasLaws mechanism_kind
 mechanism_laws = has_laws mechanism_kind mechanism_lawful

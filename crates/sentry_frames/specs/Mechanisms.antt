@@ -14,21 +14,21 @@ use Rattle.sentry_frames.specs.declared.mechanism.Mechanism.{Mechanism}
 
 -- ---- what is told of a cause
 
-unfoldable pub meta_fields : List (Field MechanismMeta)
-meta_fields =
+unfoldable pub mechanism_meta_fields : List (Field MechanismMeta)
+mechanism_meta_fields =
     field (codes "errno") may c_error_kind (λ m. option_cell c_error_cell m.errno)
     ∷ field (codes "mach_exception") may mach_kind (λ m. option_cell mach_cell m.mach_exception)
     ∷ field (codes "signal") may signal_kind (λ m. option_cell signal_cell m.signal)
     ∷ []
 
-abbrev pub meta_kind : Kind
-meta_kind = table_of meta_fields
+abbrev pub mechanism_meta_kind : Kind
+mechanism_meta_kind = table_of mechanism_meta_fields
 
-abbrev pub meta_cell : MechanismMeta → Cell
-meta_cell m = fields_by meta_fields m
+abbrev pub mechanism_meta_cell : MechanismMeta → Cell
+mechanism_meta_cell m = fields_by mechanism_meta_fields m
 
-pub meta_in_order : in_order (keys (rows_of meta_fields)) ≡ true
-unfolding meta_fields
+pub meta_in_order : in_order (keys (rows_of mechanism_meta_fields)) ≡ true
+unfolding mechanism_meta_fields
 meta_in_order = refl
 
 -- nothing is told
@@ -43,7 +43,7 @@ mechanism_fields =
     ∷ field (codes "description") may text_kind (λ m. option_cell text_cell m.description)
     ∷ field (codes "handled") may truth_kind (λ m. option_cell truth m.handled)
     ∷ field (codes "help_link") may url_kind (λ m. option_cell url_cell m.help_link)
-    ∷ field (codes "meta") (default no_meta) meta_kind (λ m. meta_cell m.meta)
+    ∷ field (codes "meta") (default no_meta) mechanism_meta_kind (λ m. mechanism_meta_cell m.meta)
     ∷ field (codes "synthetic") may truth_kind (λ m. option_cell truth m.synthetic)
     ∷ field (codes "type") must text_kind (λ m. text_cell m.ty)
     ∷ []

@@ -15,7 +15,7 @@ ghost use Rattle.sentry_frames.specs.Causes.{c_error_cell, c_error_kind, mach_ce
 ghost use Rattle.sentry_frames.specs.Exceptions.{exception_kind};
 ghost use Rattle.sentry_frames.specs.Frames.{frame_kind, stacktrace_kind, template_cell, template_kind};
 ghost use Rattle.sentry_frames.specs.LogEntries.{entry_kind};
-ghost use Rattle.sentry_frames.specs.Mechanisms.{mechanism_kind, meta_cell, meta_kind};
+ghost use Rattle.sentry_frames.specs.Mechanisms.{mechanism_kind, mechanism_meta_cell, mechanism_meta_kind};
 ghost use Rattle.sentry_frames.specs.ThreadIds.{IsThreadId, thread_id_cell, thread_id_kind};
 ghost use Rattle.sentry_frames.specs.Threads.{thread_kind};
 ghost use Rattle.sentry_frames.specs.declared.c_error.CError.{CError as CErrors};
@@ -29,7 +29,7 @@ ghost use Rattle.sentry_frames.specs.declared.thread_id.ThreadId.TheVariants.{In
 use crate::{CError, MachException, MechanismMeta, PosixSignal, TemplateInfo, ThreadId};
 
 /// The laws of JSON forms (`HasLaws`) hold of each type that is a JSON object.
-#[tactic(auto, using(crate::proofs::TableLaws::entry_laws, crate::proofs::TableLaws::frame_laws, crate::proofs::TableLaws::template_laws, crate::proofs::TableLaws::stacktrace_laws, crate::proofs::TableLaws::thread_laws, crate::proofs::TableLaws::c_error_laws, crate::proofs::TableLaws::mach_laws, crate::proofs::TableLaws::signal_laws, crate::proofs::TableLaws::meta_laws, crate::proofs::TableLaws::mechanism_laws, crate::proofs::TableLaws::exception_laws))]
+#[tactic(auto, using(crate::proofs::TableLaws::entry_laws, crate::proofs::TableLaws::frame_laws, crate::proofs::TableLaws::template_laws, crate::proofs::TableLaws::stacktrace_laws, crate::proofs::TableLaws::thread_laws, crate::proofs::TableLaws::c_error_laws, crate::proofs::TableLaws::mach_laws, crate::proofs::TableLaws::signal_laws, crate::proofs::TableLaws::mechanism_meta_laws, crate::proofs::TableLaws::mechanism_laws, crate::proofs::TableLaws::exception_laws))]
 pub fn tables()
     ensures messages { HasLaws entry_kind }
     ensures frames { HasLaws frame_kind }
@@ -39,7 +39,7 @@ pub fn tables()
     ensures c_errors { HasLaws c_error_kind }
     ensures mach_exceptions { HasLaws mach_kind }
     ensures signals { HasLaws signal_kind }
-    ensures causes { HasLaws meta_kind }
+    ensures causes { HasLaws mechanism_meta_kind }
     ensures mechanisms { HasLaws mechanism_kind }
     ensures exceptions { HasLaws exception_kind }
 {}
@@ -74,7 +74,7 @@ pub fn equal_tables()
     ensures signals { (a b : PosixSignals) → ⟦<PosixSignal as PartialEq>⟧.eq a b ≡ true ↔
         (signal_cell a ≡ signal_cell b) }
     ensures causes { (a b : Metas) → ⟦<MechanismMeta as PartialEq>⟧.eq a b ≡ true ↔
-        (meta_cell a ≡ meta_cell b) }
+        (mechanism_meta_cell a ≡ mechanism_meta_cell b) }
 {}
 
 /// `cmp` orders numbers before strings, numbers by value and strings by bytes.

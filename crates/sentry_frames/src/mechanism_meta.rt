@@ -1,6 +1,6 @@
 //! Meta information of exception mechanisms.
 
-ghost use Rattle.sentry_frames.specs.Mechanisms.{meta_fields, meta_in_order, no_meta};
+ghost use Rattle.sentry_frames.specs.Mechanisms.{mechanism_meta_fields, meta_in_order, no_meta};
 
 use crate::c_error::CError;
 use crate::mach_exception::MachException;
@@ -31,20 +31,20 @@ impl MechanismMeta {
     ghost use Rattle.sentry_tables.specs.Cell.{same_cell};
     ghost use Rattle.sentry_tables.specs.Defaults.{IsDefault};
     ghost use Rattle.sentry_tables.specs.Norm.{norm};
-    ghost use Rattle.sentry_frames.specs.Mechanisms.{meta_cell, meta_kind};
+    ghost use Rattle.sentry_frames.specs.Mechanisms.{mechanism_meta_cell, mechanism_meta_kind};
 
     /// Creates meta information with no fields set.
-    #[tactic(auto, unfolding(crate::specs::Mechanisms::meta_fields))]
+    #[tactic(auto, unfolding(crate::specs::Mechanisms::mechanism_meta_fields))]
     pub fn default_in(_alloc: Global) -> MechanismMeta
-        ensures { IsDefault meta_fields result }
+        ensures { IsDefault mechanism_meta_fields result }
     {
         MechanismMeta::none()
     }
 
     // The value of an absent member `meta`.
-    #[tactic(auto, unfolding(crate::specs::Mechanisms::meta_fields))]
+    #[tactic(auto, unfolding(crate::specs::Mechanisms::mechanism_meta_fields))]
     pub(crate) fn none() -> MechanismMeta
-        ensures { meta_cell result ≡ no_meta }
+        ensures { mechanism_meta_cell result ≡ no_meta }
     {
         MechanismMeta {
             errno: None,
@@ -54,16 +54,16 @@ impl MechanismMeta {
     }
 
     // Whether no field is set; a mechanism then omits the member `meta`.
-    #[tactic(auto, unfolding(crate::specs::Mechanisms::meta_fields))]
+    #[tactic(auto, unfolding(crate::specs::Mechanisms::mechanism_meta_fields))]
     fn is_nothing(&self) -> bool
-        ensures { result ≡ same_cell (norm meta_kind (meta_cell self.now)) no_meta }
+        ensures { result ≡ same_cell (norm mechanism_meta_kind (mechanism_meta_cell self.now)) no_meta }
     {
         self.errno.is_none() && self.signal.is_none() && self.mach_exception.is_none()
     }
 
     /// Clones the meta information. `AllocError` if an allocation fails.
     pub fn clone(&self) -> Result<MechanismMeta, AllocError>
-        ensures { IfOk result (λ copy. meta_cell copy ≡ meta_cell self.now) }
+        ensures { IfOk result (λ copy. mechanism_meta_cell copy ≡ mechanism_meta_cell self.now) }
     {
         self.copy()
     }
@@ -73,9 +73,9 @@ impl Formed for MechanismMeta {
     type Form = AsTable;
 }
 
-#[tactic(auto, unfolding(crate::specs::Mechanisms::meta_fields))]
+#[tactic(auto, unfolding(crate::specs::Mechanisms::mechanism_meta_fields))]
 impl Table for MechanismMeta {
-    ghost lines = { meta_fields };
+    ghost lines = { mechanism_meta_fields };
 
     fn rows<S: Sink>(&self, to: &mut S) {
         to.optional("errno", &self.errno);
@@ -86,7 +86,7 @@ impl Table for MechanismMeta {
     ghost ordered = { meta_in_order };
 }
 
-#[tactic(auto, unfolding(crate::specs::Mechanisms::meta_fields))]
+#[tactic(auto, unfolding(crate::specs::Mechanisms::mechanism_meta_fields))]
 impl ReadTable for MechanismMeta {
     fn read<N: Node>(from: &mut Reader<'_, N>) -> MechanismMeta {
         MechanismMeta {
@@ -97,7 +97,7 @@ impl ReadTable for MechanismMeta {
     }
 }
 
-#[tactic(auto, unfolding(crate::specs::Mechanisms::meta_fields))]
+#[tactic(auto, unfolding(crate::specs::Mechanisms::mechanism_meta_fields))]
 impl CopyTable for MechanismMeta {
     fn copy_rows(&self, copies: &mut Copier) -> Result<MechanismMeta, AllocError> {
         Ok(MechanismMeta {
@@ -112,11 +112,11 @@ impl CopyTable for MechanismMeta {
 pub(crate) struct ToldOrNothing;
 
 impl Codec<MechanismMeta> for ToldOrNothing {
-    ghost use Rattle.sentry_frames.specs.Mechanisms.{meta_cell, meta_kind};
+    ghost use Rattle.sentry_frames.specs.Mechanisms.{mechanism_meta_cell, mechanism_meta_kind};
 
-    ghost kind = { meta_kind };
+    ghost kind = { mechanism_meta_kind };
 
-    ghost cell_of = { meta_cell };
+    ghost cell_of = { mechanism_meta_cell };
 
     fn to_tree(value: &MechanismMeta, alloc: Global) -> Result<Value, AllocError> {
         value.to_tree(alloc)

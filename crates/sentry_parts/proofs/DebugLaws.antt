@@ -14,7 +14,7 @@ use Rattle.sentry_identifiers.proofs.CodeIdTrees.{code_lawful}
 use Rattle.sentry_identifiers.proofs.DebugIdTrees.{debug_lawful}
 use Rattle.sentry_identifiers.proofs.UuidLaws.{hyphenated_laws}
 use Rattle.sentry_parts.specs.DebugImages.{apple_fields, apple_kind, symbolic_fields, symbolic_kind, proguard_fields, proguard_kind, wasm_fields, wasm_kind, image_kind}
-use Rattle.sentry_parts.specs.Debugging.{empty_meta, meta_fields, meta_kind, system_fields, system_kind}
+use Rattle.sentry_parts.specs.Debugging.{empty_meta, debug_meta_fields, debug_meta_kind, system_fields, system_kind}
 
 -- ---- scalars and defaults
 
@@ -49,9 +49,9 @@ system_lawful : IsLawful system_kind
 unfolding system_fields
 system_lawful = laws_by_rows (rows_of system_fields) refl (search (text_laws, u32_laws))
 
-pub meta_lawful : IsLawful meta_kind
-unfolding meta_fields
-meta_lawful = laws_by_rows (rows_of meta_fields) refl (search (image_lawful, system_lawful, empty_list_stands))
+pub debug_meta_lawful : IsLawful debug_meta_kind
+unfolding debug_meta_fields
+debug_meta_lawful = laws_by_rows (rows_of debug_meta_fields) refl (search (image_lawful, system_lawful, empty_list_stands))
 
 pub apple_laws : HasLaws apple_kind
 apple_laws = has_laws apple_kind apple_lawful
@@ -71,10 +71,10 @@ image_laws = has_laws image_kind image_lawful
 pub system_laws : HasLaws system_kind
 system_laws = has_laws system_kind system_lawful
 
-pub meta_laws : HasLaws meta_kind
-meta_laws = has_laws meta_kind meta_lawful
+pub debug_meta_laws : HasLaws debug_meta_kind
+debug_meta_laws = has_laws debug_meta_kind debug_meta_lawful
 
 -- a row of what debuggers need may leave out what is empty
-pub meta_stands : RuleLaws (default empty_meta) meta_kind
-unfolding meta_fields
-meta_stands = ((λ now c h. absurd cc), (((tt, (tt, tt)), refl), ((tt, (tt, tt)), (tt, refl)), ((tt, (tt, tt)), tt), refl))
+pub debug_meta_stands : RuleLaws (default empty_meta) debug_meta_kind
+unfolding debug_meta_fields
+debug_meta_stands = ((λ now c h. absurd cc), (((tt, (tt, tt)), refl), ((tt, (tt, tt)), (tt, refl)), ((tt, (tt, tt)), tt), refl))

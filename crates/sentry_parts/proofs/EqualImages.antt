@@ -15,7 +15,7 @@ use Rattle.sentry_identifiers.specs.contracts.debug_id.DebugIdPartialEq.TheImpl.
 use Rattle.sentry_identifiers.specs.declared.code_id.CodeId.{CodeId}
 use Rattle.sentry_identifiers.specs.declared.debug_id.DebugId.{DebugId}
 use Rattle.sentry_parts.specs.DebugImages.{apple_fields, apple_cell, symbolic_fields, symbolic_cell, proguard_fields, proguard_cell, wasm_fields, wasm_cell, image_cell}
-use Rattle.sentry_parts.specs.Debugging.{meta_fields, meta_cell, system_fields, system_cell}
+use Rattle.sentry_parts.specs.Debugging.{debug_meta_fields, debug_meta_cell, system_fields, system_cell}
 use Rattle.sentry_parts.specs.contracts.debug_image.DebugImagePartialEq.TheImpl.{eq-value as of_images}
 use Rattle.sentry_parts.specs.contracts.debug_meta.DebugMetaPartialEq.TheImpl.{eq-value as of_metas}
 use Rattle.sentry_parts.specs.contracts.native_images.AppleDebugImagePartialEq.TheImpl.{eq-value as of_apples}
@@ -149,8 +149,8 @@ systems_decide a b =
     (Decides-and _ _ (naturals_decide a.version_minor b.version_minor) (naturals_decide a.version_patchlevel b.version_patchlevel))) in
     (λ same. let e = parts.0 same in let name = e.0 in let major = e.1.0 in let minor = e.1.1.0 in let patch = e.1.1.1 in cc, λ same. parts.1 (cc, (cc, (cc, cc))))
 
-pub metas_decide : (a b : DebugMeta) → Decides (of_metas.it a b) (meta_cell a ≡ meta_cell b)
-unfolding meta_fields
+pub metas_decide : (a b : DebugMeta) → Decides (of_metas.it a b) (debug_meta_cell a ≡ debug_meta_cell b)
+unfolding debug_meta_fields
 metas_decide a b =
     let parts = Decides-and _ _ (options_decide of_systems.it system_cell systems_decide a.sdk_info b.sdk_info) (lists_decide of_images.it image_cell images_decide a.images.items b.images.items) in
     (λ same. let e = parts.0 same in let system = e.0 in let images = e.1 in cc, λ same. parts.1 (cc, cc))

@@ -33,21 +33,21 @@ system_in_order = refl
 
 -- ---- what debuggers need
 
-unfoldable pub meta_fields : List (Field DebugMeta)
-meta_fields =
+unfoldable pub debug_meta_fields : List (Field DebugMeta)
+debug_meta_fields =
     field (codes "images") (default empty_list) (list image_kind) (λ m. list_cell image_cell m.images.items)
     ∷ field (codes "sdk_info") may system_kind (λ m. option_cell system_cell m.sdk_info)
     ∷ []
 
-abbrev pub meta_kind : Kind
-meta_kind = table_of meta_fields
+abbrev pub debug_meta_kind : Kind
+debug_meta_kind = table_of debug_meta_fields
 
-abbrev pub meta_cell : DebugMeta → Cell
-meta_cell m = fields_by meta_fields m
+abbrev pub debug_meta_cell : DebugMeta → Cell
+debug_meta_cell m = fields_by debug_meta_fields m
 
-pub meta_in_order : in_order (keys (rows_of meta_fields)) ≡ true
-unfolding meta_fields
-meta_in_order = refl
+pub debug_meta_in_order : in_order (keys (rows_of debug_meta_fields)) ≡ true
+unfolding debug_meta_fields
+debug_meta_in_order = refl
 
 -- no images, and nothing of the system's software
 abbrev pub empty_meta : Cell

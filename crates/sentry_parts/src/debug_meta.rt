@@ -1,6 +1,6 @@
 //! Debug meta information: debug images and SDK information for symbolication.
 
-ghost use Rattle.sentry_parts.specs.Debugging.{empty_meta, meta_cell, meta_fields, meta_in_order, meta_kind};
+ghost use Rattle.sentry_parts.specs.Debugging.{empty_meta, debug_meta_cell, debug_meta_fields, debug_meta_in_order, debug_meta_kind};
 
 use crate::debug_image::DebugImage;
 use crate::system_sdk_info::SystemSdkInfo;
@@ -23,16 +23,16 @@ pub struct DebugMeta {
     pub images: Vec<DebugImage>,
 }
 
-#[tactic(auto, unfolding(crate::specs::Debugging::meta_fields))]
+#[tactic(auto, unfolding(crate::specs::Debugging::debug_meta_fields))]
 impl DebugMeta {
     ghost use Rattle.std.specs.Prelude.{◌≡◌, ◌↔◌, [], None, IfOk, IsTrue};
     ghost use Rattle.sentry_tables.specs.Defaults.{IsDefault};
-    ghost use Rattle.sentry_parts.specs.Debugging.{empty_meta, meta_cell, meta_fields};
+    ghost use Rattle.sentry_parts.specs.Debugging.{empty_meta, debug_meta_cell, debug_meta_fields};
 
     /// Creates debug meta information without images or SDK information.
     pub fn default_in(alloc: Global) -> DebugMeta
-        ensures rows { IsDefault meta_fields result }
-        ensures empty { meta_cell result ≡ empty_meta }
+        ensures rows { IsDefault debug_meta_fields result }
+        ensures empty { debug_meta_cell result ≡ empty_meta }
     {
         DebugMeta {
             sdk_info: None,
@@ -49,16 +49,16 @@ impl DebugMeta {
 
     /// Clones the debug meta information. `AllocError` if an allocation fails.
     pub fn clone(&self) -> Result<DebugMeta, AllocError>
-        ensures { IfOk result (λ copy. meta_cell copy ≡ meta_cell self.now) }
+        ensures { IfOk result (λ copy. debug_meta_cell copy ≡ debug_meta_cell self.now) }
     {
         self.copy()
     }
 }
 
 impl Member for DebugMeta {
-    ghost kind = { meta_kind };
+    ghost kind = { debug_meta_kind };
 
-    ghost cell_of = { meta_cell };
+    ghost cell_of = { debug_meta_cell };
 
     fn to_tree(&self, alloc: Global) -> Result<Value, AllocError> {
         AsTable::to_tree(self, alloc)
@@ -87,19 +87,19 @@ impl FromTree for DebugMeta {
     }
 }
 
-#[tactic(auto, unfolding(crate::specs::Debugging::meta_fields))]
+#[tactic(auto, unfolding(crate::specs::Debugging::debug_meta_fields))]
 impl Table for DebugMeta {
-    ghost lines = { meta_fields };
+    ghost lines = { debug_meta_fields };
 
     fn rows<S: Sink>(&self, to: &mut S) {
         to.list("images", &self.images);
         to.optional("sdk_info", &self.sdk_info);
     }
 
-    ghost ordered = { meta_in_order };
+    ghost ordered = { debug_meta_in_order };
 }
 
-#[tactic(auto, unfolding(crate::specs::Debugging::meta_fields))]
+#[tactic(auto, unfolding(crate::specs::Debugging::debug_meta_fields))]
 impl ReadTable for DebugMeta {
     fn read<N: Node>(from: &mut Reader<'_, N>) -> DebugMeta {
         DebugMeta {
@@ -109,7 +109,7 @@ impl ReadTable for DebugMeta {
     }
 }
 
-#[tactic(auto, unfolding(crate::specs::Debugging::meta_fields))]
+#[tactic(auto, unfolding(crate::specs::Debugging::debug_meta_fields))]
 impl CopyTable for DebugMeta {
     fn copy_rows(&self, copies: &mut Copier) -> Result<DebugMeta, AllocError> {
         Ok(DebugMeta {

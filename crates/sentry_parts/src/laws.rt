@@ -9,7 +9,7 @@ ghost use Rattle.sentry_tables.specs.Meets.{IsReadable};
 ghost use Rattle.sentry_parts.specs.Breadcrumbs.{breadcrumb_kind};
 ghost use Rattle.sentry_parts.specs.ClientSdk.{package_cell, package_kind, sdk_cell, sdk_kind};
 ghost use Rattle.sentry_parts.specs.DebugImages.{apple_cell, apple_kind, image_cell, image_kind, proguard_cell, proguard_kind, symbolic_cell, symbolic_kind, wasm_cell, wasm_kind};
-ghost use Rattle.sentry_parts.specs.Debugging.{empty_meta, meta_cell, meta_kind, system_cell, system_kind};
+ghost use Rattle.sentry_parts.specs.Debugging.{empty_meta, debug_meta_cell, debug_meta_kind, system_cell, system_kind};
 ghost use Rattle.sentry_parts.specs.Requests.{request_cell, request_kind};
 ghost use Rattle.sentry_parts.specs.Users.{user_kind};
 ghost use Rattle.sentry_parts.specs.declared.client_sdk_info.ClientSdkInfo.{ClientSdkInfo as Software};
@@ -30,7 +30,7 @@ use crate::{
 
 /// The laws of JSON forms (`HasLaws`) hold of each type that is a JSON object, and of debug images,
 /// which are selected by the member `type`.
-#[tactic(auto, using(crate::proofs::ClientSdkLaws::package_laws, crate::proofs::ClientSdkLaws::sdk_laws, crate::proofs::TableLaws::breadcrumb_laws, crate::proofs::TableLaws::user_laws, crate::proofs::TableLaws::request_laws, crate::proofs::DebugLaws::system_laws, crate::proofs::DebugLaws::apple_laws, crate::proofs::DebugLaws::symbolic_laws, crate::proofs::DebugLaws::proguard_laws, crate::proofs::DebugLaws::wasm_laws, crate::proofs::DebugLaws::image_laws, crate::proofs::DebugLaws::meta_laws))]
+#[tactic(auto, using(crate::proofs::ClientSdkLaws::package_laws, crate::proofs::ClientSdkLaws::sdk_laws, crate::proofs::TableLaws::breadcrumb_laws, crate::proofs::TableLaws::user_laws, crate::proofs::TableLaws::request_laws, crate::proofs::DebugLaws::system_laws, crate::proofs::DebugLaws::apple_laws, crate::proofs::DebugLaws::symbolic_laws, crate::proofs::DebugLaws::proguard_laws, crate::proofs::DebugLaws::wasm_laws, crate::proofs::DebugLaws::image_laws, crate::proofs::DebugLaws::debug_meta_laws))]
 pub fn tables()
     ensures packages { HasLaws package_kind }
     ensures software { HasLaws sdk_kind }
@@ -43,7 +43,7 @@ pub fn tables()
     ensures proguard_images { HasLaws proguard_kind }
     ensures wasm_images { HasLaws wasm_kind }
     ensures images { HasLaws image_kind }
-    ensures metas { HasLaws meta_kind }
+    ensures metas { HasLaws debug_meta_kind }
 {}
 
 /// The laws of JSON forms hold of lists of breadcrumbs under the key `values`.
@@ -54,9 +54,9 @@ pub fn lists()
 
 /// Empty debug meta information may be the default of a member: null is rejected, and the empty
 /// value is its own normal form.
-#[tactic(auto, using(crate::proofs::DebugLaws::meta_stands))]
+#[tactic(auto, using(crate::proofs::DebugLaws::debug_meta_stands))]
 pub fn empty_debug_meta()
-    ensures { RuleLaws (default empty_meta) meta_kind }
+    ensures { RuleLaws (default empty_meta) debug_meta_kind }
 {}
 
 /// `==` compares contents: two values of a type below are equal exactly if all fields are the same.
@@ -84,5 +84,5 @@ pub fn equal_tables()
     ensures images { (a b : Images) → ⟦<DebugImage as PartialEq>⟧.eq a b ≡ true ↔
         (image_cell a ≡ image_cell b) }
     ensures metas { (a b : Metas) → ⟦<DebugMeta as PartialEq>⟧.eq a b ≡ true ↔
-        (meta_cell a ≡ meta_cell b) }
+        (debug_meta_cell a ≡ debug_meta_cell b) }
 {}

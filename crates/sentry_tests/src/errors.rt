@@ -4,8 +4,8 @@
 use crate::wanted::wanted;
 use sentry_types::protocol::v7::client_report::LossSlice;
 use sentry_types::protocol::v7::{
-    AddRefused, AttachmentWriteError, CrontabParseError, EnvelopeError, EnvelopeItem,
-    EnvelopeWriteError, OrganizationId, ScheduleError, TreeError,
+    AddRefused, AttachmentWriteError, Category, CrontabParseError, EnvelopeError, EnvelopeItem,
+    EnvelopeWriteError, ItemLoss, LedgerFull, OrganizationId, ScheduleError, TreeError,
 };
 use sentry_types::{ApiUrlError, ParseAuthError, ParseDsnError, ParseProjectIdError, Scheme};
 use std::alloc::Global;
@@ -14,6 +14,14 @@ use std::test::Fail;
 
 fn prints<E: Display + Drop>(alloc: Global, error: E, text: &str) -> bool {
     matches!(error.to_string(alloc), Ok(found) if found.as_str() == text)
+}
+
+fn one_error() -> ItemLoss {
+    ItemLoss {
+        category: Category::Error,
+        quantity: 1,
+        reason: None,
+    }
 }
 
 #[test]
@@ -42,6 +50,7 @@ fn others_are_printed(rt: HostRuntime) -> Result<(), Fail> {
             && prints(alloc, AttachmentWriteError::Io, "Io")
             && prints(alloc, EnvelopeWriteError::Io, "Io")
             && prints(alloc, EnvelopeWriteError::NotPlain, "NotPlain")
+            && prints(alloc, LedgerFull(one_error()), "LedgerFull")
             && prints(
                 alloc,
                 AddRefused::RawEnvelope(EnvelopeItem::Raw),

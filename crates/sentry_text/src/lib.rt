@@ -1,4 +1,5 @@
-//! Numbers of the Sentry protocol: numbers as texts, ids of projects and organizations, severities of logs.
+//! Small texts of the protocol: numbers, addresses, URLs, ids of projects and organizations,
+//! severities of logs and schedules of cron jobs.
 #![tactic(auto)]
 
 mod addr;

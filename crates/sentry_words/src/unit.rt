@@ -17,29 +17,53 @@ use std::borrow::CowStr;
 /// the known unit, but is read back as the known unit.
 #[derive(Debug, Drop, PartialEq)]
 pub enum Unit {
+    /// 10^-9 seconds; symbol `ns`.
     Nanosecond,
+    /// 10^-6 seconds; symbol `μs`, with either of the letters U+03BC and U+00B5.
     Microsecond,
+    /// 10^-3 seconds; symbol `ms`.
     Millisecond,
+    /// Symbol `s`.
     Second,
+    /// 60 seconds; symbol `min`.
     Minute,
+    /// 3,600 seconds; symbol `h`.
     Hour,
+    /// 24 hours; symbol `d`.
     Day,
+    /// 7 days; no symbol.
     Week,
+    /// Symbol `b`.
     Bit,
+    /// 8 bits; symbol `B`.
     Byte,
+    /// 1,000 bytes; symbol `kB`.
     Kilobyte,
+    /// 1,024 bytes; symbol `KiB`.
     Kibibyte,
+    /// 1,000^2 bytes; symbol `MB`.
     Megabyte,
+    /// 1,024^2 bytes; symbol `MiB`.
     Mebibyte,
+    /// 1,000^3 bytes; symbol `GB`.
     Gigabyte,
+    /// 1,024^3 bytes; symbol `GiB`.
     Gibibyte,
+    /// 1,000^4 bytes; symbol `TB`.
     Terabyte,
+    /// 1,024^4 bytes; symbol `TiB`.
     Tebibyte,
+    /// 1,000^5 bytes; symbol `PB`.
     Petabyte,
+    /// 1,024^5 bytes; symbol `PiB`.
     Pebibyte,
+    /// 1,000^6 bytes; symbol `EB`.
     Exabyte,
+    /// 1,024^6 bytes; symbol `EiB`.
     Exbibyte,
+    /// A fraction of 1, such as 0.5; no plural, no symbol.
     Ratio,
+    /// A fraction of 100; no plural; symbol `%`.
     Percent,
     /// Any other unit.
     Other(CowStr<'static>),
