@@ -1,25 +1,26 @@
 -- Nodes in lists and under keys, gathered one by one.
-use Rattle.std.proofs.Common.{◌≡◌, ℕ, zero, suc, ◌+◌, ◌<◌, ◌≤◌, arith, sym, false, true, true≢false, bytes_eq, subst, ◌≤◌, ◌-◌, Some, None, option_and_then, List, [], ◌∷◌, ◌++◌, length, get_or, take, String, Global, Ordering, Less, Equal, Greater, string_bytes, string_cmp, nat_cmp, refl, ap, ◌∙◌}
+use Rattle.std.proofs.Common.{◌≡◌, ℕ, zero, suc, ◌+◌, ◌<◌, arith, sym, false, true, true≢false, bytes_eq, subst, ◌≤◌, ◌-◌, Option, Some, None, option_map, option_and_then, List, [], ◌∷◌, ◌++◌, length, get_or, take, drop, String, Global, Ordering, Less, Equal, Greater, string_bytes, string_cmp, nat_cmp, refl, ap, ◌∙◌}
 use Rattle.std.proofs.lemmas.List.{take_more}
-use Rattle.std.specs.Ordering.{match_ordering, ordering_reverse}
-use Rattle.std.specs.BTreeMap.{insert_entry}
+use Rattle.std.proofs.lemmas.Option.{same_Some}
+use Rattle.std.specs.Ordering.{match_ordering}
+use Rattle.std.specs.BTreeMap.{insert_entry, is_at}
+use Rattle.std.specs.Prelude.{is_some}
 use Rattle.std.specs.List.Sorted.{IsStrictlySortedBy}
-use Rattle.std.specs.Map.{keys_of}
+use Rattle.std.specs.Map.{keys_of, lookup}
 use Rattle.serde_json.specs.Data.{unsigned, negative, float, Data, null, boolean, number, string, array, object, Items, no_items, item, Members, no_members, member, put, depth, items_depth, members_depth}
 use Rattle.serde_json.specs.Find.{get_member, as_array, as_object, as_str, as_bool, as_number, as_u64, as_i64}
 use Rattle.serde_json.specs.Written.{has_float}
-use Rattle.std.specs.List.{AllByRecursion}
 use Rattle.std.specs.Cmp.Lexicographic.{slice_cmp}
-use Rattle.std.proofs.lemmas.Cmp.{nat_list_cmp_total}
 use Rattle.serde_json.specs.View.{view, items_view, members_view}
 use Rattle.serde_json.specs.declared.value.Value.{Value}
-use Rattle.serde_json.proofs.Views.{Entry, put_last, members_view-insert_entry, get_member-put, get_member-put_other}
+use Rattle.serde_json.proofs.Views.{Entry, put_last, members_view-insert_entry, get_member-put, get_member-put_other, view-lookup}
 use Rattle.std.proofs.lemmas.Slice.Eq.{bytes_eq-Decides}
 use Rattle.sentry_json.proofs.Beside.{beside_named, beside_put}
 use Rattle.sentry_json.specs.Sound.{IsOrdered}
 use Rattle.sentry_json.proofs.Regular.{put_ordered}
+use Rattle.sentry_json.proofs.Latest.{one_put}
 use Rattle.sentry_json.specs.Keys.{is_among, beside}
-use Rattle.sentry_json.specs.Nodes.{items_by, members_by, named_after, named_by}
+use Rattle.sentry_json.specs.Nodes.{items_by, named_after, named_by}
 use Rattle.sentry_json.specs.declared.object.Named.{Named}
 
 more_items : {N : Type 0} (f : N → Data) (xs : List N) (x : N) (vs : List Value) (v : Value) → items_by f xs ≡ items_view vs → f x ≡ view v → items_by f (xs ++ x ∷ []) ≡ items_view (vs ++ v ∷ [])
@@ -47,19 +48,6 @@ items_before_none f (x ∷ xs) = ap (item (f x)) (items_before_none f xs)
 pub items_push : {N : Type 0} (f : N → Data) (xs : List N) (x : N) (ds : Items) → items_before f xs (item (f x) ds) ≡ items_before f (xs ++ x ∷ []) ds
 items_push f [] x ds = refl
 items_push f (y ∷ xs) x ds = ap (item (f y)) (items_push f xs x ds)
-
-by_ordering : {N : Type 0} (f : N → Data) (o : Ordering) (a b c : List (String Global × N)) → members_by f (match_ordering o a b c) ≡ match_ordering o (members_by f a) (members_by f b) (members_by f c)
-by_ordering f Less a b c = refl
-by_ordering f Equal a b c = refl
-by_ordering f Greater a b c = refl
-
-pub insert_put : {N : Type 0} (f : N → Data) (es : List (String Global × N)) (k : String Global) (x : N) → members_by f (insert_entry string_cmp es k x) ≡ put (string_bytes k) (f x) (members_by f es)
-insert_put f [] k x = refl
-insert_put f (e ∷ es) k x = by_ordering f (string_cmp k e.0) _ _ _ ∙ rw (insert_put f es k x)
-
-pub insert_last : {N : Type 0} (f : N → Data) (es new : List (String Global × N)) (k : String Global) (x : N) (done : List Entry) (e : Entry) (more : List Entry) → IsStrictlySortedBy string_cmp (keys_of (done ++ e ∷ more)) → new ≡ insert_entry string_cmp es k x → string_bytes k ≡ string_bytes e.0 → f x ≡ view e.1
-    → members_by f es ≡ members_view done → members_by f new ≡ members_view (done ++ e ∷ [])
-insert_last f es new k x done e more sorted made named seen h = ap (members_by f) made ∙ insert_put f es k x ∙ rw (named, seen, h) (put_last done e more sorted)
 
 -- ---- members as they come, put one after the other
 
@@ -125,26 +113,28 @@ item_depth f [] i x lt = absurd (omega arith)
 item_depth f (y ∷ ys) zero x lt = omega arith
 item_depth f (y ∷ ys) (suc i) x lt = omega (arith, item_depth f ys i x (omega arith))
 
-pub member_depth : {N : Type 0} (f : N → Data) (done : List (String Global × N)) (e : String Global × N) (more : List (String Global × N)) → depth (f e.1) ≤ members_depth (members_by f (done ++ e ∷ more))
-member_depth f [] e more = omega arith
-member_depth f (x ∷ xs) e more = omega (arith, member_depth f xs e more)
+-- a member is not deeper than all of them
+pub member_depth : (k : List ℕ) (ms : Members) (d : Data) → get_member k ms ≡ Some d → depth d ≤ members_depth ms
+member_depth k no_members d is = absurd cc
+member_depth k (member l e ms) d is = at (slice_cmp nat_cmp k l) (member_depth k ms d) is
+  where
+    at : (o : Ordering) → (get_member k ms ≡ Some d → depth d ≤ members_depth ms) → match_ordering o (get_member k ms) (Some e) (get_member k ms) ≡ Some d → depth d ≤ members_depth (member l e ms)
+    at Less more found = omega (arith, more found)
+    at Equal more found = let same : e ≡ d = same_Some _ _ found in rw (← same) (omega arith)
+    at Greater more found = omega (arith, more found)
 
-below_middle : {N : Type 0} (first : String Global × N) (es : List (String Global × N)) (e : String Global × N) (more : List (String Global × N)) → AllByRecursion (λ y. string_cmp first.0 y ≡ Less) (keys_of (es ++ e ∷ more)) → string_cmp first.0 e.0 ≡ Less
-below_middle first [] e more h = h.0
-below_middle first (x ∷ es) e more h = below_middle first es e more h.1
+any_viewed : (o : Option Value) → is_some o ≡ is_some (option_map view o)
+any_viewed None = refl
+any_viewed (Some v) = refl
 
-put_last_by : {N : Type 0} (f : N → Data) (done : List (String Global × N)) (e : String Global × N) (more : List (String Global × N)) → IsStrictlySortedBy string_cmp (keys_of (done ++ e ∷ more))
-    → put (string_bytes e.0) (f e.1) (members_by f done) ≡ members_by f (done ++ e ∷ [])
-unfolding IsStrictlySortedBy
-put_last_by f [] e more h = refl
-put_last_by f (first ∷ done) e more h =
-    let above : slice_cmp nat_cmp (string_bytes e.0) (string_bytes first.0) ≡ Greater =
-    nat_list_cmp_total.antisymm (string_bytes e.0) (string_bytes first.0) ∙ ap ordering_reverse (below_middle first done e more h.0) in
-    rw above (ap (member (string_bytes first.0) (f first.1)) (put_last_by f done e more h.1))
+-- a key stands in a map as it does in what the map shows
+pub key_there : (k : List ℕ) (es : List Entry) (ms : Members) → members_view es ≡ ms → is_some (lookup (is_at (λ l. slice_cmp nat_cmp k (string_bytes l))) es) ≡ is_some (get_member k ms)
+key_there k es ms h = any_viewed _ ∙ ap is_some (view-lookup k es) ∙ ap (λ x. is_some (get_member k x)) h
 
-pub grown_member : {N : Type 0} (f : N → Data) (done : List (String Global × N)) (e : String Global × N) (more : List (String Global × N)) (es new : List Entry) (k : String Global) (v : Value) → IsStrictlySortedBy string_cmp (keys_of (done ++ e ∷ more)) → new ≡ insert_entry string_cmp es k v
-    → string_bytes k ≡ string_bytes e.0 → view v ≡ f e.1 → members_view es ≡ members_by f done → members_view new ≡ members_by f (done ++ e ∷ [])
-grown_member f done e more es new k v sorted made named seen h = ap members_view made ∙ members_view-insert_entry es k v ∙ rw (named, seen, h) (put_last_by f done e more sorted)
+-- one more member, from the last to the first
+pub grown_member : {N : Type 0} (f : N → Data) (ms : List (Named N)) (n : ℕ) (m : Named N) (es new : List Entry) (k : String Global) (v : Value) → 0 < n → n ≤ length ms → m ≡ get_or ms (n - 1) m
+    → is_some (get_member m.key.now (named_by f (drop n ms))) ≡ false → new ≡ insert_entry string_cmp es k v → string_bytes k ≡ m.key.now → view v ≡ f m.node → members_view es ≡ named_by f (drop n ms) → members_view new ≡ named_by f (drop (n - 1) ms)
+grown_member f ms n m es new k v some within at last made named seen h = ap members_view made ∙ members_view-insert_entry es k v ∙ rw (named, seen, h) (sym (one_put f ms n m some within at last))
 
 pub only_null : (d : Data) → as_array d ≡ None → as_object d ≡ None → None ≡ as_str d → None ≡ as_bool d → None ≡ option_and_then as_u64 (as_number d) → None ≡ option_and_then as_i64 (as_number d) → has_float d ≡ false → null ≡ d
 only_null null a b c e f g h = refl

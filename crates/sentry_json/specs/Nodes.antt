@@ -1,7 +1,6 @@
 -- The nodes of a tree, in lists and under keys.
-use Rattle.std.specs.Prelude.{List, [], ◌∷◌, String, string_bytes}
-use Rattle.std.specs.declared.alloc.Global.{Global}
-use Rattle.serde_json.specs.Data.{Data, object, Items, no_items, item, Members, no_members, member, put}
+use Rattle.std.specs.Prelude.{List, [], ◌∷◌}
+use Rattle.serde_json.specs.Data.{Data, object, Items, no_items, item, Members, no_members, put}
 use Rattle.sentry_json.specs.declared.object.Named.{Named}
 use Rattle.sentry_json.specs.declared.object.Object.{Object}
 
@@ -9,11 +8,6 @@ use Rattle.sentry_json.specs.declared.object.Object.{Object}
 abbrev pub items_by : {N : Type 0} → (N → Data) → List N → Items
 items_by data_of [] = no_items
 items_by data_of (x ∷ xs) = item (data_of x) (items_by data_of xs)
-
--- the data of nodes under keys
-abbrev pub members_by : {N : Type 0} → (N → Data) → List (String Global × N) → Members
-members_by data_of [] = no_members
-members_by data_of (m ∷ ms) = member (string_bytes m.0) (data_of m.1) (members_by data_of ms)
 
 -- the members that come, put one after the other among those before
 abbrev pub named_after : {N : Type 0} → (N → Data) → Members → List (Named N) → Members

@@ -1,9 +1,9 @@
 //! Nodes of the tape of a line.
 
-ghost use Rattle.std.specs.Prelude.{◌≡◌, true, None, IfOk, option_map};
+ghost use Rattle.std.specs.Prelude.{◌≡◌, true, None, IfOk};
 ghost use Rattle.serde_json.specs.Find.{as_array, as_object};
 ghost use Rattle.serde_json.specs.View.{view, items_view, members_view};
-ghost use Rattle.sentry_json.specs.Nodes.{items_by, members_by};
+ghost use Rattle.sentry_json.specs.Nodes.{items_by, named_by};
 ghost use Rattle.sentry_json.specs.Tree.{data_at, is_tree};
 
 use crate::keys::place;
@@ -133,7 +133,7 @@ fn grow(node: &Branch<'_, '_>, alloc: Global) -> Result<Value, AllocError>
     if let Some(items) = node.items(alloc)? {
         return Ok(Value::Array(grow_items(&items, alloc)?));
     }
-    if let Some(members) = members(node, alloc)? {
+    if let Some(members) = node.members(alloc)? {
         return Ok(Value::Object(grow_members(&members, alloc)?));
     }
     leaf(node, alloc)
@@ -150,40 +150,26 @@ fn grow_items(nodes: &[Branch<'_, '_>], alloc: Global) -> Result<Vec<Value>, All
     Ok(values)
 }
 
+// Copies the members from the last to the first: of members with equal keys, the last stays.
 #[cycle(grow)]
 fn grow_members(
-    nodes: &Map<String, Branch<'_, '_>>,
+    members: &[Named<'_, Branch<'_, '_>>],
     alloc: Global,
 ) -> Result<Map<String, Value>, AllocError>
-    ensures { IfOk result (λ m. members_view m.entries ≡ members_by (λ b.
-        data_at b.at) nodes.now.entries) }
+    ensures { IfOk result (λ m. members_view m.entries ≡ named_by (λ b. data_at b.at) members.now) }
 {
     let mut values = Map::new(alloc);
-    for (key, node) in nodes.iter() {
-        let name = key.clone()?;
-        drop(values.insert(name, grow(node, alloc)?)?);
+    let mut left = members.len();
+    while left > 0 {
+        left -= 1;
+        let member = &members[left];
+        if values.contains_key(member.key) {
+            continue;
+        }
+        let name = String::from_str(alloc, member.key)?;
+        drop(values.insert(name, grow(&member.node, alloc)?)?);
     }
     Ok(values)
-}
-
-// Collects the members of an object by key; of members with equal keys, the last stays.
-fn members<'t, 'a>(
-    node: &Branch<'t, 'a>,
-    alloc: Global,
-) -> Result<Option<Map<String, Branch<'t, 'a>>>, AllocError>
-    ensures { IfOk result (λ o. option_map (λ m. members_by (λ b. data_at b.at) m.entries) o
-        ≡ as_object (data_at node.now.at)) }
-{
-    let mut members = match node.at.members() {
-        Some(members) => members,
-        None => return Ok(None),
-    };
-    let mut nodes = Map::new(alloc);
-    while let Some((key, at)) = members.next() {
-        let name = String::from_str(alloc, key)?;
-        drop(nodes.insert(name, Branch { at })?);
-    }
-    Ok(Some(nodes))
 }
 
 // Copies a node that is neither an array nor an object.

@@ -1,12 +1,13 @@
-use Rattle.std.proofs.Common.{◌≡◌, ◌≤◌, [], ◌∷◌, ◌++◌, String, Global, take, sym, ap, subst, ◌∙◌, append_assoc, arith, rules, string_bytes, string_cmp}
-use Rattle.std.proofs.lemmas.List.{take_all}
-use Rattle.std.specs.List.Sorted.{IsStrictlySortedBy}
-use Rattle.std.specs.Map.{keys_of}
+use Rattle.std.proofs.Common.{◌≡◌, ◌≤◌, length, take, drop, sym, subst, ◌∙◌, refl, arith, true, false, zero}
+use Rattle.std.specs.Prelude.{is_some}
+use Rattle.std.proofs.lemmas.List.{take_all, drop_all}
 use Rattle.serde_json.specs.Data.{Data, depth, items_depth, members_depth}
-use Rattle.sentry_json.specs.Nodes.{items_by, members_by}
+use Rattle.serde_json.specs.Find.{get_member}
+use Rattle.sentry_json.specs.Nodes.{items_by, named_by}
 use Rattle.sentry_json.specs.Tree.{data_at}
 use Rattle.sentry_json.specs.declared.branch.Branch.{Branch}
-use Rattle.sentry_json.proofs.Gathered.{grown_item, item_depth, member_depth, grown_member}
+use Rattle.sentry_json.proofs.Gathered.{grown_item, item_depth, member_depth, key_there, grown_member}
+use Rattle.sentry_json.proofs.Latest.{one_passed_over, one_counts}
 use Rattle.sentry_json.proofs.branch.+grow.Goals as goal
 
 abbrev data_of : Branch → Data
@@ -30,32 +31,41 @@ grow_items-returns t c =
     let ends : take c.loop-node.node-index xs ≡ xs = take_all c.loop-node.node-index xs (omega (arith, c.loop-node-test.false)) in
     rw ends at c.loop-node.invariant
 
+pub grow_members-loop-left-init : goal.grow_members-loop-left-init
+grow_members-loop-left-init t c = (omega arith, rw (drop_all (length c.args.members.now) c.args.members.now (omega arith), c.new-values.ensures.empty) refl)
+
+pub grow_members-loop-left-preserved-then-contains_key : goal.grow_members-loop-left-preserved-then-contains_key
+grow_members-loop-left-preserved-then-contains_key t c =
+    let l = c.loop-left in
+    let ms = c.args.members.now in
+    let m = c.index-members-left.result in
+    let later : is_some (get_member m.key.now (named_by data_of (drop l.left ms))) ≡ true =
+    sym (c.contains_key.ensures ∙ key_there m.key.now l.values.entries _ l.invariant.1) ∙ c.if-contains_key.true in
+    (omega (arith, l.invariant.0), l.invariant.1 ∙ sym (one_passed_over data_of ms l.left m c.loop-left-test.true l.invariant.0 c.index-members-left.is later))
+
 pub grow_members-grow-requires : goal.grow_members-grow-requires
 grow_members-grow-requires t c =
-    let l = c.loop-key in
-    let done = l.invariant.0 in
-    let e : String Global × Branch = (c.in-Some.key.now, c.in-Some.node.now) in
-    let left = c.next.new.self in
-    let split : c.args.nodes.now.entries ≡ done ++ e ∷ left = l.invariant.1 ∙ ap (λ es. done ++ es) c.in-Some.ensures.steps in
-    let low : depth (data_of e.1) ≤ members_depth (members_by data_of c.args.nodes.now.entries) = rw split (member_depth data_of done e left) in
+    let l = c.loop-left in
+    let ms = c.args.members.now in
+    let m = c.index-members-left.result in
+    let last : is_some (get_member m.key.now (named_by data_of (drop l.left ms))) ≡ false =
+    sym (c.contains_key.ensures ∙ key_there m.key.now l.values.entries _ l.invariant.1) ∙ c.if-contains_key.false in
+    let low : depth (data_of m.node) ≤ members_depth (named_by data_of ms) =
+    member_depth m.key.now (named_by data_of ms) (data_of m.node) (one_counts data_of ms l.left m c.loop-left-test.true l.invariant.0 c.index-members-left.is last) in
     (omega (arith, low), tt)
 
-pub grow_members-loop-key-preserved : goal.grow_members-loop-key-preserved
-grow_members-loop-key-preserved t c =
-    let l = c.loop-key in
-    let done = l.invariant.0 in
-    let e : String Global × Branch = (c.in-Some.key.now, c.in-Some.node.now) in
-    let left = c.next.new.self in
-    let split : c.args.nodes.now.entries ≡ done ++ e ∷ left = l.invariant.1 ∙ ap (λ es. done ++ es) c.in-Some.ensures.steps in
-    let sorted = subst (λ es. IsStrictlySortedBy string_cmp (keys_of es)) split c.iter-key-items.ensures.ordered in
-    let named : string_bytes c.in_ok-name.name ≡ string_bytes e.0 = c.in_ok-name.ensures.cases in (
-      done ++ e ∷ [],
-      split ∙ sym (append_assoc done (e ∷ []) left),
-      grown_member data_of done e left _ _ c.in_ok-name.name _ sorted c.in_ok-insert.ensures.entries named c.in_ok-grow.ensures l.invariant.2,
+pub grow_members-loop-left-preserved : goal.grow_members-loop-left-preserved
+grow_members-loop-left-preserved t c =
+    let l = c.loop-left in
+    let ms = c.args.members.now in
+    let m = c.index-members-left.result in
+    let last : is_some (get_member m.key.now (named_by data_of (drop l.left ms))) ≡ false =
+    sym (c.contains_key.ensures ∙ key_there m.key.now l.values.entries _ l.invariant.1) ∙ c.if-contains_key.false in (
+      omega (arith, l.invariant.0),
+      grown_member data_of ms l.left m l.values.entries _ c.in_ok-name.name _ c.loop-left-test.true l.invariant.0 c.index-members-left.is last c.in_ok-insert.ensures.entries c.in_ok-name.ensures.ok c.in_ok-grow.ensures l.invariant.1,
     )
 
 pub grow_members-returns : goal.grow_members-returns
 grow_members-returns t c =
-    let l = c.loop-key in
-    let ends : c.args.nodes.now.entries ≡ l.invariant.0 = search rules in
-    rw ends l.invariant.2
+    let done : c.loop-left.left ≡ zero = omega (arith, c.loop-left-test.false) in
+    rw done at c.loop-left.invariant.1
