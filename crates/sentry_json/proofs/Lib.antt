@@ -16,3 +16,4 @@ pub mod Numbers
 pub mod Tokens
 pub mod Beside
 pub mod Each
+pub mod Digits

@@ -1,17 +1,52 @@
 //! Integers in JSON text: digits without a point or an exponent.
 
-ghost use Rattle.std.specs.Prelude.{◌≡◌, ◌<◌, ◌==◌, option_and_then, slice_index, length, IsTrue, true, false};
+ghost use Rattle.std.specs.Prelude.{◌≡◌, ◌^◌, ◌<◌, ◌≤◌, ◌==◌, option_and_then, slice_index, length, IfSome, IsTrue, SomeIff, Some, true, false};
+ghost use Rattle.std.specs.Str.Parse.{digits_value, IsNumeral};
+ghost use Rattle.fast_float.specs.Text.{with_sign};
 ghost use Rattle.serde_json.specs.Find.{as_i64, as_u64};
 ghost use Rattle.serde_json.specs.Read.{number_from, number_of};
 ghost use Rattle.sentry_json.specs.Tree.{is_whole_number};
 
 use fast_float::Numeral;
 
+// As many digits always fit `u64`.
+const SHORT: usize = 19;
+
 fn has_minus(bytes: &[u8]) -> bool
     ensures value { result ≡ (slice_index bytes.now 0 == 45) }
     ensures len { IsTrue result → 0 < length bytes.now }
 {
     !bytes.is_empty() && bytes[0] == b'-'
+}
+
+// Whether the bytes are 1 to 19 digits.
+fn are_digits(bytes: &[u8]) -> bool
+    ensures { IsTrue result → IsNumeral 10 bytes.now × (length bytes.now ≤ 19) }
+{
+    for byte in bytes {
+        if !byte.is_ascii_digit() {
+            return false;
+        }
+    }
+    !bytes.is_empty() && bytes.len() <= SHORT
+}
+
+// Parses 1 to 19 digits; `None` for other bytes.
+fn parse_digits(bytes: &[u8]) -> Option<u64>
+    ensures { IfSome result (λ number. IsNumeral 10 bytes.now × (length bytes.now ≤ 19)
+        × (number ≡ digits_value 10 bytes.now)) }
+{
+    if bytes.is_empty() || bytes.len() > SHORT {
+        return None;
+    }
+    let mut number = 0;
+    for byte in bytes {
+        if !byte.is_ascii_digit() {
+            return None;
+        }
+        number = number * 10 + u64::from(byte - b'0');
+    }
+    Some(number)
 }
 
 fn natural(numeral: &Numeral<'_>) -> Option<u64>
@@ -29,11 +64,9 @@ fn negative(numeral: &Numeral<'_>) -> Option<i64>
     }
 }
 
-// Parses a JSON number; `None` unless it is an integer in the range of `u64`, without a sign.
-pub(crate) fn parse_unsigned(text: &str) -> Option<u64>
-    ensures { result ≡ option_and_then as_u64 (number_of text.now) }
+fn parse_any_unsigned(bytes: &[u8]) -> Option<u64>
+    ensures { result ≡ option_and_then as_u64 (number_of bytes.now) }
 {
-    let bytes = text.as_bytes();
     if has_minus(bytes) {
         None
     } else {
@@ -41,11 +74,9 @@ pub(crate) fn parse_unsigned(text: &str) -> Option<u64>
     }
 }
 
-// Parses a JSON number; `None` unless it is an integer in the range of `i64`. `-0` is a float.
-pub(crate) fn parse_signed(text: &str) -> Option<i64>
-    ensures { result ≡ option_and_then as_i64 (number_of text.now) }
+fn parse_any_signed(bytes: &[u8]) -> Option<i64>
+    ensures { result ≡ option_and_then as_i64 (number_of bytes.now) }
 {
-    let bytes = text.as_bytes();
     if has_minus(bytes) {
         negative(&Numeral::scan(&bytes[1..]))
     } else {
@@ -59,9 +90,68 @@ pub(crate) fn parse_signed(text: &str) -> Option<i64>
     }
 }
 
+// Returns a number less than 0 by its size; `None` for 0, and out of the range of `i64`.
+fn negate(size: u64) -> Option<i64>
+    ensures { SomeIff result ((0 < size) × (size ≤ 2 ^ 63)) (with_sign true size) }
+{
+    if size == 0 {
+        None
+    } else if size <= 1 << 63 {
+        Some(-((size - 1) as i64) - 1)
+    } else {
+        None
+    }
+}
+
+// Parses a minus and 1 to 19 digits; `None` for other bytes, zero, and out of the range of `i64`.
+fn parse_negative_digits(bytes: &[u8]) -> Option<i64>
+    ensures { IfSome result (λ number.
+        option_and_then as_i64 (number_of bytes.now) ≡ Some number) }
+{
+    let Some((b'-', digits)) = bytes.split_first() else {
+        return None;
+    };
+    negate(parse_digits(digits)?)
+}
+
+// Parses a JSON number; `None` unless it is an integer in the range of `u64`, without a sign.
+pub(crate) fn parse_unsigned(text: &str) -> Option<u64>
+    ensures { result ≡ option_and_then as_u64 (number_of text.now) }
+{
+    let bytes = text.as_bytes();
+    match parse_digits(bytes) {
+        Some(number) => Some(number),
+        None => parse_any_unsigned(bytes),
+    }
+}
+
+// Parses a JSON number; `None` unless it is an integer in the range of `i64`. `-0` is a float.
+pub(crate) fn parse_signed(text: &str) -> Option<i64>
+    ensures { result ≡ option_and_then as_i64 (number_of text.now) }
+{
+    let bytes = text.as_bytes();
+    if let Some(number) = parse_digits(bytes) {
+        return match i64::try_from(number) {
+            Ok(number) => Some(number),
+            Err(_) => None,
+        };
+    }
+    match parse_negative_digits(bytes) {
+        Some(number) => Some(number),
+        None => parse_any_signed(bytes),
+    }
+}
+
 // Whether a JSON number is an integer in the range of `u64` or `i64`.
 pub(crate) fn is_whole(text: &str) -> bool
     ensures { result ≡ is_whole_number text.now }
 {
-    parse_unsigned(text).is_some() || parse_signed(text).is_some()
+    let bytes = text.as_bytes();
+    if are_digits(bytes) {
+        true
+    } else if has_minus(bytes) {
+        parse_signed(text).is_some()
+    } else {
+        parse_any_unsigned(bytes).is_some()
+    }
 }

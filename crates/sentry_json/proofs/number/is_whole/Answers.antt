@@ -1,14 +1,19 @@
-use Rattle.std.proofs.Common.{◌≡◌, true, false, sym, ◌∙◌}
+use Rattle.std.proofs.Common.{refl, sym, ap, ◌∙◌}
 use Rattle.std.specs.Prelude.{is_some}
-use Rattle.sentry_json.proofs.Numbers.{whole_is}
+use Rattle.sentry_json.specs.Tree.{is_whole_number}
+use Rattle.sentry_json.proofs.Digits.{digits_whole}
+use Rattle.sentry_json.proofs.Numbers.{minus_whole, plain_whole}
 use Rattle.sentry_json.proofs.number.is_whole.Goals as goal
 
-pub returns-then-is_some : goal.returns-then-is_some
-returns-then-is_some c =
-    let some : is_some c.parse_unsigned.result ≡ true = sym c.is_some.ensures ∙ c.if-is_some.true in
-    rw (whole_is c.args.text.now, ← c.parse_unsigned.ensures, some) c.if-is_some.true
+pub returns-then-are_digits : goal.returns-then-are_digits
+returns-then-are_digits c =
+    let digits = c.if-are_digits.ensures refl in
+    sym (digits_whole c.as_bytes-bytes.result.now digits.0 digits.1) ∙ ap is_whole_number c.as_bytes-bytes.ensures.value
 
-pub returns-else-is_some : goal.returns-else-is_some
-returns-else-is_some c =
-    let none : is_some c.parse_unsigned.result ≡ false = sym c.is_some.ensures ∙ c.if-is_some.false in
-    rw (whole_is c.args.text.now, ← c.parse_unsigned.ensures, ← c.parse_signed.ensures, none) c.is_some-else-is_some.ensures
+pub returns-then-has_minus : goal.returns-then-has_minus
+returns-then-has_minus c =
+    c.is_some.ensures ∙ ap is_some c.parse_signed.ensures ∙ sym (minus_whole c.args.text.now (rw c.as_bytes-bytes.ensures.value at (sym c.if-has_minus.ensures.value)))
+
+pub returns-else-has_minus : goal.returns-else-has_minus
+returns-else-has_minus c =
+    c.is_some-else-has_minus.ensures ∙ ap is_some c.parse_any_unsigned.ensures ∙ sym (plain_whole c.as_bytes-bytes.result.now (sym c.if-has_minus.ensures.value)) ∙ ap is_whole_number c.as_bytes-bytes.ensures.value

@@ -1,17 +1,10 @@
-use Rattle.std.proofs.Common.{◌≡◌, true, false, ◌==◌, slice_index, option_and_then, sym, ap, ◌∙◌}
+use Rattle.std.proofs.Common.{option_and_then, sym, ap, ◌∙◌}
 use Rattle.serde_json.specs.Find.{as_u64}
-use Rattle.serde_json.specs.Read.{number_of, number_from}
-use Rattle.sentry_json.proofs.Numbers.{minus_u64, plain_number}
+use Rattle.serde_json.specs.Read.{number_of}
+use Rattle.sentry_json.proofs.Digits.{digits_u64}
 use Rattle.sentry_json.proofs.number.parse_unsigned.Goals as goal
 
-pub returns-then-has_minus : goal.returns-then-has_minus
-returns-then-has_minus c =
-    let s = c.as_bytes-bytes.result.now in
-    let minus : (slice_index s 0 == 45) ≡ true = sym c.if-has_minus.ensures.value in
-    sym (minus_u64 s minus) ∙ ap (λ t. option_and_then as_u64 (number_of t)) c.as_bytes-bytes.ensures.value
-
-pub returns-else-has_minus : goal.returns-else-has_minus
-returns-else-has_minus c =
-    let s = c.as_bytes-bytes.result.now in
-    let plain : (slice_index s 0 == 45) ≡ false = sym c.if-has_minus.ensures.value in
-    c.natural.ensures ∙ ap (λ p. option_and_then as_u64 (number_from false p)) c.scan.ensures.parts ∙ ap (option_and_then as_u64) (sym (plain_number s plain)) ∙ ap (λ t. option_and_then as_u64 (number_of t)) c.as_bytes-bytes.ensures.value
+pub returns-in-Some : goal.returns-in-Some
+returns-in-Some c =
+    let read = c.in-Some.ensures in
+    sym (digits_u64 c.as_bytes-bytes.result.now c.in-Some.number read.0 read.1 read.2) ∙ ap (λ t. option_and_then as_u64 (number_of t)) c.as_bytes-bytes.ensures.value
