@@ -46,7 +46,7 @@ by_ordering Less a b c x y z = x
 by_ordering Equal a b c x y z = y
 by_ordering Greater a b c x y z = z
 
-put_no_float : (k : List ℕ) (d : Data) (ms : Members) → has_float d ≡ false → members_have_float ms ≡ false → members_have_float (put k d ms) ≡ false
+pub put_no_float : (k : List ℕ) (d : Data) (ms : Members) → has_float d ≡ false → members_have_float ms ≡ false → members_have_float (put k d ms) ≡ false
 put_no_float k d no_members h m = no_or _ _ h refl
 put_no_float k d (member l e ms) h m =
     let p = or_parts _ _ m in

@@ -31,8 +31,8 @@ fn are_digits(bytes: &[u8]) -> bool
     !bytes.is_empty() && bytes.len() <= SHORT
 }
 
-// Parses 1 to 19 digits; `None` for other bytes.
-fn parse_digits(bytes: &[u8]) -> Option<u64>
+/// Parses 1 to 19 digits; `None` for other bytes.
+pub fn parse_digits(bytes: &[u8]) -> Option<u64>
     ensures { IfSome result (λ number. IsNumeral 10 bytes.now × (length bytes.now ≤ 19)
         × (number ≡ digits_value 10 bytes.now)) }
 {
