@@ -12,3 +12,4 @@ pub mod StatedLengths
 pub mod Written
 pub mod Flat
 pub mod Words
+pub mod FlatObjects

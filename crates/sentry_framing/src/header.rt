@@ -9,6 +9,7 @@ ghost use Rattle.sentry_framing.specs.HeaderView.{header_view};
 
 use crate::error::EnvelopeError;
 use crate::kind::ItemKind;
+use crate::usual::parse_usual;
 use json::Scratch;
 use sentry_json::{Branch, Line, LineError, Node, scratch};
 use sentry_members::{TreeError, read_tree};
@@ -184,7 +185,8 @@ fn fill_from_tree(alloc: Global, line: &[u8], fields: &mut ItemHeader) -> Result
 
 /// Parses an item header. Members that [`ItemHeader`] has no field for are ignored.
 ///
-/// To read many headers, create one `Scratch` and call [`read_item_header_into`].
+/// A header without white space and escapes is read without working memory. To read many others,
+/// create one `Scratch` and call [`read_item_header_into`].
 ///
 /// # Errors
 ///
@@ -199,15 +201,63 @@ pub fn read_item_header(alloc: Global, header: &[u8]) -> Result<ItemHeader, Enve
     ensures err { IfErr result (λ e. (e ≡ EnvelopeError.OutOfMemory)
         ⊎ ((e ≡ EnvelopeError.InvalidItemHeader) × (read_header item_words header.now ≡ None))) }
 {
-    let mut scratch = scratch(alloc);
     let mut fields = ItemHeader::new();
-    match read_item_header_into(alloc, header, &mut scratch, &mut fields) {
+    match read_fields(alloc, header, &mut fields) {
         Ok(()) => Ok(fields),
         Err(error) => Err(error),
     }
 }
 
-/// Parses an item header into `fields`. `scratch` is the working memory for parsing.
+// Parses an item header into `fields`, with working memory of its own where the header isn't usual.
+pub(crate) fn read_fields(
+    alloc: Global,
+    header: &[u8],
+    fields: &mut ItemHeader,
+) -> Result<(), EnvelopeError>
+    ensures ok { OnOk result (read_header item_words header.now ≡ Some (header_view fields.new)) }
+    ensures err { IfErr result (λ e. (e ≡ EnvelopeError.OutOfMemory)
+        ⊎ ((e ≡ EnvelopeError.InvalidItemHeader) × (read_header item_words header.now ≡ None))) }
+{
+    match parse_usual(header) {
+        Some(usual) => match usual.copy_into(alloc, fields) {
+            Ok(()) => Ok(()),
+            Err(_) => Err(EnvelopeError::OutOfMemory),
+        },
+        None => read_unusual(alloc, header, fields),
+    }
+}
+
+#[cold]
+#[inline(never)]
+fn read_unusual(alloc: Global, header: &[u8], fields: &mut ItemHeader) -> Result<(), EnvelopeError>
+    ensures ok { OnOk result (read_header item_words header.now ≡ Some (header_view fields.new)) }
+    ensures err { IfErr result (λ e. (e ≡ EnvelopeError.OutOfMemory)
+        ⊎ ((e ≡ EnvelopeError.InvalidItemHeader) × (read_header item_words header.now ≡ None))) }
+{
+    let mut scratch = scratch(alloc);
+    read_general(alloc, header, &mut scratch, fields)
+}
+
+// Parses any item header.
+fn read_general(
+    alloc: Global,
+    header: &[u8],
+    scratch: &mut Scratch,
+    fields: &mut ItemHeader,
+) -> Result<(), EnvelopeError>
+    ensures ok { OnOk result (read_header item_words header.now ≡ Some (header_view fields.new)) }
+    ensures err { IfErr result (λ e. (e ≡ EnvelopeError.OutOfMemory)
+        ⊎ ((e ≡ EnvelopeError.InvalidItemHeader) × (read_header item_words header.now ≡ None))) }
+{
+    match fill_from_line(alloc, header, scratch, fields) {
+        Ok(()) => Ok(()),
+        Err(TreeError::Misfit) => Err(EnvelopeError::InvalidItemHeader),
+        Err(TreeError::Memory) => Err(EnvelopeError::OutOfMemory),
+    }
+}
+
+/// Parses an item header into `fields`. `scratch` is the working memory for headers with white space
+/// or escapes.
 ///
 /// # Errors
 ///
@@ -222,9 +272,11 @@ pub fn read_item_header_into(
     ensures err { IfErr result (λ e. (e ≡ EnvelopeError.OutOfMemory)
         ⊎ ((e ≡ EnvelopeError.InvalidItemHeader) × (read_header item_words header.now ≡ None))) }
 {
-    match fill_from_line(alloc, header, scratch, fields) {
-        Ok(()) => Ok(()),
-        Err(TreeError::Misfit) => Err(EnvelopeError::InvalidItemHeader),
-        Err(TreeError::Memory) => Err(EnvelopeError::OutOfMemory),
+    match parse_usual(header) {
+        Some(usual) => match usual.copy_into(alloc, fields) {
+            Ok(()) => Ok(()),
+            Err(_) => Err(EnvelopeError::OutOfMemory),
+        },
+        None => read_general(alloc, header, scratch, fields),
     }
 }

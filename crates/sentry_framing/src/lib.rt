@@ -8,6 +8,7 @@ pub mod kind;
 pub mod laws;
 mod lines;
 mod piece;
+mod usual;
 
 pub use error::EnvelopeError;
 pub use frames::{Frames, ItemFrame};

@@ -1,0 +1,125 @@
+-- Flat objects are read as they are written.
+use Rattle.std.proofs.Common.{◌≡◌, ◌≤◌, ◌<◌, ◌^◌, ℕ, List, [], ◌∷◌, ◌++◌, length, get_or, take, drop, IsUtf8, Bool, ◌==◌, eqb-true, true, false, Some, option_map, option_and_then, refl, sym, ap, ◌∙◌, arith, append-nil, append_assoc}
+use Rattle.std.specs.List.{All, AllByRecursion}
+use Rattle.std.proofs.lemmas.List.{nil_from_length}
+use Rattle.std.specs.Str.Parse.{IsNumeral, digits_value}
+use Rattle.std.specs.Prelude.{decimal}
+use Rattle.std.proofs.lemmas.Fmt.{decimal-digits_value}
+use Rattle.std.proofs.lemmas.Str.Parse.{numerals_by_value, tells_digits}
+use Rattle.std.proofs.lemmas.List.Elements.{recursion_from_All}
+use Rattle.json.specs.Json as json
+use Rattle.json.specs.Tree as tree
+use Rattle.json.specs.Lex.{tokens}
+use Rattle.json.specs.Print.{escape, quoted}
+use Rattle.json.proofs.Printed.Strings.{escape_byte_plain}
+use Rattle.json.proofs.Printed.Tokens.{tokens-print}
+use Rattle.json.proofs.Printed.Trees.{value-json_tokens, ArePrintable-json_tokens}
+use Rattle.json.proofs.Printed.Decimals.{IsNumber-decimal}
+use Rattle.serde_json.specs.Data.{Data, unsigned, negative, float, null, boolean, number, string, array, object, Members, no_members, member, put}
+use Rattle.serde_json.specs.Read.{read, of_json, of_members, max_depth}
+use Rattle.serde_json.specs.Written.{outline, members_outline, compact_text, members_text, has_float, members_have_float}
+use Rattle.serde_json.proofs.Numbers.{number_of-decimal}
+use Rattle.serde_json.proofs.Texts.{print-outline}
+use Rattle.sentry_json.specs.Line.{tree_of}
+use Rattle.sentry_json.proofs.Lines.{tree_of_from}
+use Rattle.sentry_json.proofs.Trees.{put_no_float}
+use Rattle.sentry_framing.specs.FlatObjects.{IsPlain, IsFlat, AreFlat, put_all}
+
+-- ---- flat values
+
+flat_read : (d : Data) → IsFlat d → of_json (outline d) ≡ Some d
+flat_read null h = refl
+flat_read (boolean b) h = refl
+flat_read (number (unsigned n)) h = ap (option_map number) (number_of-decimal n h)
+flat_read (number (negative z)) h = absurd h
+flat_read (number (float x)) h = absurd h
+flat_read (string s) h = refl
+flat_read (array ds) h = absurd h
+flat_read (object ms) h = absurd h
+
+flat_number : (d : Data) → IsFlat d → tree.HasNumbers (outline d)
+flat_number null h = tt
+flat_number (boolean b) h = tt
+flat_number (number (unsigned n)) h = IsNumber-decimal n h
+flat_number (number (negative z)) h = absurd h
+flat_number (number (float x)) h = absurd h
+flat_number (string s) h = tt
+flat_number (array ds) h = absurd h
+flat_number (object ms) h = absurd h
+
+flat_depth : (d : Data) → IsFlat d → tree.depth (outline d) ≡ 0
+flat_depth null h = refl
+flat_depth (boolean b) h = refl
+flat_depth (number n) h = refl
+flat_depth (string s) h = refl
+flat_depth (array ds) h = absurd h
+flat_depth (object ms) h = absurd h
+
+flat_whole : (d : Data) → IsFlat d → has_float d ≡ false
+flat_whole null h = refl
+flat_whole (boolean b) h = refl
+flat_whole (number (unsigned n)) h = refl
+flat_whole (number (negative z)) h = absurd h
+flat_whole (number (float x)) h = absurd h
+flat_whole (string s) h = refl
+flat_whole (array ds) h = absurd h
+flat_whole (object ms) h = absurd h
+
+-- ---- flat members
+
+all_read : (ms before : Members) → AreFlat ms → of_members (members_outline ms) before ≡ Some (put_all ms before)
+all_read no_members before h = refl
+all_read (member k d ms) before h = rw (flat_read d h.0) (all_read ms (put k d before) h.1)
+
+all_numbers : (ms : Members) → AreFlat ms → tree.MembersHaveNumbers (members_outline ms)
+all_numbers no_members h = tt
+all_numbers (member k d ms) h = (flat_number d h.0, all_numbers ms h.1)
+
+all_depth : (ms : Members) → AreFlat ms → tree.members_depth (members_outline ms) ≡ 0
+all_depth no_members h = refl
+all_depth (member k d ms) h = rw (flat_depth d h.0, all_depth ms h.1) refl
+
+all_whole : (ms before : Members) → AreFlat ms → members_have_float before ≡ false → members_have_float (put_all ms before) ≡ false
+all_whole no_members before h b = b
+all_whole (member k d ms) before h b = all_whole ms (put k d before) h.1 (put_no_float k d before (flat_whole d h.0) b)
+
+-- ---- flat objects
+
+object_read : (ms : Members) → AreFlat ms → read (compact_text (object ms)) ≡ Some (object (put_all ms no_members))
+object_read ms h =
+    let j = outline (object ms) in
+    let lexed : tokens (compact_text (object ms)) ≡ tree.json_tokens j = ap tokens (sym (print-outline (object ms))) ∙ tokens-print (tree.json_tokens j) (ArePrintable-json_tokens j (all_numbers ms h)) in
+    let low : tree.depth j ≤ max_depth = omega (arith, all_depth ms h) in
+    let parsed = ap (json.value max_depth) (lexed ∙ sym (append-nil _)) ∙ value-json_tokens j max_depth [] low in
+    ap (λ o. option_and_then of_json (option_and_then (λ p. json.if_last p.0 p.1) o)) parsed ∙ ap (option_map object) (all_read ms no_members h)
+
+pub object_line : (line : List ℕ) (ms : Members) → AreFlat ms → IsUtf8 line → line ≡ compact_text (object ms) → tree_of line ≡ Some (object (put_all ms no_members))
+object_line line ms h text is = tree_of_from line (object (put_all ms no_members)) text (ap read is ∙ object_read ms h) (all_whole ms no_members h refl)
+
+-- ---- their texts
+
+plain_text : (xs : List ℕ) → AllByRecursion IsPlain xs → escape xs ≡ xs
+plain_text [] h = refl
+plain_text (x ∷ xs) h = rw (escape_byte_plain x h.0.1 h.0.2 h.0.0, plain_text xs h.1) refl
+
+pub text_split : (bytes inside front after text rest : List ℕ) (n : ℕ) → bytes ≡ 34 ∷ inside → inside ≡ front ++ after → after ≡ 34 ∷ rest → text ≡ front → front ≡ take n inside → All IsPlain (take n inside) → bytes ≡ quoted text ++ rest
+text_split bytes inside front after text rest n first parts last same cut plain =
+    let kept : escape text ≡ text = ap escape (same ∙ cut) ∙ plain_text _ (recursion_from_All IsPlain _ plain) ∙ sym (same ∙ cut) in
+    first ∙ ap (λ s. 34 ∷ s) (parts ∙ ap (λ s. front ++ s) last) ∙ rw (kept, same) (ap (λ s. 34 ∷ s) (sym (append_assoc front (34 ∷ []) rest)))
+
+pub number_split : (bytes digits rest : List ℕ) (n : ℕ) → bytes ≡ digits ++ rest → IsNumeral 10 digits → n ≡ digits_value 10 digits → digits_value 10 digits < 2 ^ 64 → (get_or digits 0 0 ≡ 48 → length digits ≡ 1) → bytes ≡ decimal n ++ rest
+number_split bytes digits rest n parts numeral is fits lead =
+    let written : decimal (digits_value 10 digits) ≡ digits = decimal-digits_value (numerals_by_value _ tells_digits) digits numeral.1 numeral.0 lead fits in
+    parts ∙ rw (is, written) refl
+
+-- the bytes of a member, and of those after it, behind a comma
+pub member_text : (bytes key rest : List ℕ) (d : Data) (ms : Members) → bytes ≡ quoted key ++ 58 ∷ (compact_text d ++ rest) → rest ≡ members_text true ms → 44 ∷ bytes ≡ members_text true (member key d ms)
+member_text bytes key rest d ms is more = ap (λ s. 44 ∷ s) (is ∙ ap (λ r. quoted key ++ 58 ∷ (compact_text d ++ r)) more)
+
+-- those behind a brace
+pub object_text : (bytes inside : List ℕ) (ms : Members) → bytes ≡ 123 ∷ inside → 44 ∷ inside ≡ members_text true ms → bytes ≡ compact_text (object ms)
+object_text bytes inside no_members is more = absurd (omega (arith, ap (λ xs. get_or xs 0 0) more))
+object_text bytes inside (member k d ms) is more = is ∙ ap (λ s. 123 ∷ s) (ap (drop 1) more)
+
+pub nothing_left : (xs : List ℕ) (empty : Bool) → empty ≡ (length xs == 0) → empty ≡ true → xs ≡ []
+nothing_left xs empty is h = nil_from_length xs (eqb-true (length xs) 0 (sym is ∙ h))
