@@ -20,7 +20,8 @@ use std::process::ExitCode;
 const USAGE: &str = "usage: beside agree SEED COUNT
        beside agree FILE
        beside speed ROUNDS PATH..
-       beside speed --once ours|theirs read|both FILE COUNT";
+       beside speed --once ours|theirs read|both FILE COUNT
+       beside speed --memory PATH..";
 
 fn number(word: &str) -> Option<u64> {
     word.parse().ok()
@@ -33,6 +34,13 @@ fn run(words: &[&str]) -> Option<Result<bool, std::io::Error>> {
         ["speed", "--once", side, part, file, count] => {
             let work = speed::Work::from_words(side, part)?;
             Some(speed::once(work, file, number(count)?).map(|()| true))
+        }
+        ["speed", "--peak", side, part, file] => {
+            let work = speed::Work::from_words(side, part)?;
+            Some(speed::peak_once(work, file).map(|()| true))
+        }
+        ["speed", "--memory", paths @ ..] if !paths.is_empty() => {
+            Some(speed::memory(paths).map(|()| true))
         }
         ["speed", rounds, paths @ ..] if !paths.is_empty() => {
             let rounds = number(rounds).filter(|rounds| *rounds > 0)?;

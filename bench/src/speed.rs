@@ -6,6 +6,7 @@ use std::fs;
 use std::hint::black_box;
 use std::io::{Error, Result};
 use std::path::{Path, PathBuf};
+use std::process::Command;
 use std::time::{Duration, Instant};
 
 /// How long a side runs in a round, at least.
@@ -29,6 +30,16 @@ impl Work {
             ("theirs", "read") => Some(Work::TheirsRead),
             ("theirs", "both") => Some(Work::TheirsBoth),
             _ => None,
+        }
+    }
+
+    /// Returns the two words of the work.
+    fn words(self) -> [&'static str; 2] {
+        match self {
+            Work::OursRead => ["ours", "read"],
+            Work::OursBoth => ["ours", "both"],
+            Work::TheirsRead => ["theirs", "read"],
+            Work::TheirsBoth => ["theirs", "both"],
         }
     }
 
@@ -163,6 +174,69 @@ pub fn once(work: Work, file: &str, count: u64) -> Result<()> {
         if !work.accepts(black_box(&bytes)) {
             return Err(Error::other("the envelope is refused"));
         }
+    }
+    Ok(())
+}
+
+/// Returns the most memory that the process held so far, in KiB.
+fn peak() -> Result<u64> {
+    let status = fs::read_to_string("/proc/self/status")?;
+    status
+        .lines()
+        .find_map(|line| line.strip_prefix("VmHWM:"))
+        .and_then(|rest| rest.trim().strip_suffix(" kB")?.parse().ok())
+        .ok_or_else(|| Error::other("/proc/self/status has no VmHWM"))
+}
+
+/// Does one work once over a file, and prints by how many KiB the process's memory grew at most.
+pub fn peak_once(work: Work, file: &str) -> Result<()> {
+    let bytes = fs::read(file)?;
+    let before = peak()?;
+    if !work.accepts(black_box(&bytes)) {
+        return Err(Error::other("the envelope is refused"));
+    }
+    println!("{}", peak()? - before);
+    Ok(())
+}
+
+/// Returns the peak of one work in a process of its own, in KiB.
+fn peak_alone(work: Work, file: &Path) -> Result<u64> {
+    let [side, part] = work.words();
+    let program = std::env::current_exe()?;
+    let out = Command::new(program)
+        .args(["speed", "--peak", side, part])
+        .arg(file)
+        .output()?;
+    String::from_utf8_lossy(&out.stdout)
+        .trim()
+        .parse()
+        .map_err(|_| Error::other(String::from_utf8_lossy(&out.stderr).into_owned()))
+}
+
+/// Prints a table of the peaks of memory over the inputs that both accept.
+pub fn memory(paths: &[&str]) -> Result<()> {
+    println!("| Input | KiB | Ours, read | Theirs | Ratio | Ours, both | Theirs | Ratio |");
+    println!("|---|---|---|---|---|---|---|---|");
+    for file in files(paths)? {
+        let peaks = [
+            Work::OursRead,
+            Work::TheirsRead,
+            Work::OursBoth,
+            Work::TheirsBoth,
+        ]
+        .map(|work| peak_alone(work, &file));
+        let [Ok(ours_read), Ok(theirs_read), Ok(ours_both), Ok(theirs_both)] = peaks else {
+            eprintln!("{}: not accepted by both", file.display());
+            continue;
+        };
+        let ratio = |ours: u64, theirs: u64| ours as f64 / theirs.max(1) as f64;
+        println!(
+            "| {} | {} | {ours_read} | {theirs_read} | {:.2} | {ours_both} | {theirs_both} | {:.2} |",
+            file.file_name().unwrap_or_default().to_string_lossy(),
+            fs::metadata(&file)?.len().div_ceil(1024),
+            ratio(ours_read, theirs_read),
+            ratio(ours_both, theirs_both)
+        );
     }
     Ok(())
 }
