@@ -24,7 +24,9 @@
  * and `out` is unchanged. The call can be repeated with more room; with the same arguments it
  * gives the same text. With any other status but SENTRY_OK `*needed` is 0 and `out` is unchanged.
  *
- * Link libsentry_c.a, and liblibc_c.a of the Rattle kit.
+ * Link libsentry_c.a, and liblibc_c.a of the Rattle kit. libsentry_c.a divides integers of 128 bits
+ * by `__udivti3`, which `cc` takes from libgcc or compiler-rt by itself. With -nostdlib, or where
+ * the linker is called directly, add -lgcc after the two archives.
  */
 #ifndef CURDMESA_H
 #define CURDMESA_H

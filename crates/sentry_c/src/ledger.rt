@@ -238,10 +238,16 @@ pub extern "C" fn sentry_ledger_flush(
     ensures nothing { result ≡ NOTHING_LEFT → HoldsNothing (held_in ledger.old) }
     ensures something { (result ≡ OK) ⊎ (result ≡ NO_ROOM) → ¬ HoldsNothing (held_in ledger.old) }
     ensures moment { result ≡ NO_MOMENT → (now_secs ≤ 253_402_300_799) × (now_nanos < 10 ^ 9) → ⊥ }
+    ensures is_moment { result ≢ NO_MOMENT → result ≢ INVALID_ARGUMENT →
+        (now_secs ≤ 253_402_300_799) × (now_nanos < 10 ^ 9) }
     ensures argument { result ≡ INVALID_ARGUMENT → length ledger.old ≢ 108 }
+    ensures long { result ≢ INVALID_ARGUMENT → length ledger.old ≡ 108 }
+    ensures memory { result ≡ OUT_OF_MEMORY → ¬ HoldsNothing (held_in ledger.old) }
     ensures unchanged { result ≢ OK → ledger.new ≡ ledger.old }
     ensures out_unchanged { result ≢ OK → out.new ≡ out.old }
     ensures no_text { result ≢ OK → result ≢ NO_ROOM → needed.new ≡ 0 }
+    ensures answers { (result ≡ OK) ⊎ ((result ≡ NO_ROOM) ⊎ ((result ≡ NOTHING_LEFT) ⊎
+        ((result ≡ NO_MOMENT) ⊎ ((result ≡ INVALID_ARGUMENT) ⊎ (result ≡ OUT_OF_MEMORY))))) }
 {
     *needed = 0;
     if ledger.len() != SUMS {
