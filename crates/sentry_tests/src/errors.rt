@@ -2,10 +2,10 @@
 //! of text shows.
 
 use crate::wanted::wanted;
-use sentry_types::protocol::v7::client_report::LossSlice;
+use sentry_types::protocol::v7::client_report::{LedgerFull, LossSlice};
 use sentry_types::protocol::v7::{
     AddRefused, AttachmentWriteError, Category, CrontabParseError, EnvelopeError, EnvelopeItem,
-    EnvelopeWriteError, ItemLoss, LedgerFull, OrganizationId, ScheduleError, TreeError,
+    EnvelopeWriteError, ItemLoss, OrganizationId, ScheduleError, TreeError,
 };
 use sentry_types::{ApiUrlError, ParseAuthError, ParseDsnError, ParseProjectIdError, Scheme};
 use std::alloc::Global;
