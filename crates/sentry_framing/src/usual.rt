@@ -47,21 +47,24 @@ fn plain_len(bytes: &[u8]) -> usize
     len
 }
 
-// Splits off a string in quotes, without escapes.
-fn split_text(bytes: &[u8]) -> Option<(&str, &[u8])>
-    ensures { IfSome result (λ x. bytes.now ≡ quoted x.0.now ++ x.1.now) }
+// Returns the text after a byte of ASCII at the front; `None` if another stands there.
+fn after_byte(text: &str, byte: u8) -> Option<&str>
+    ensures { IfSome result (λ rest. text.now ≡ byte ∷ rest.now) }
 {
-    let Some((b'"', inside)) = bytes.split_first() else {
+    if *text.as_bytes().first()? != byte {
         return None;
-    };
-    let (text, after) = inside.split_at(plain_len(inside));
-    let Some((b'"', rest)) = after.split_first() else {
-        return None;
-    };
-    match str::from_utf8(text) {
-        Ok(text) => Some((text, rest)),
-        Err(_) => None,
     }
+    let (_, rest) = text.split_at_checked(1)?;
+    Some(rest)
+}
+
+// Splits off a string in quotes, without escapes.
+fn split_text(text: &str) -> Option<(&str, &str)>
+    ensures { IfSome result (λ x. text.now ≡ quoted x.0.now ++ x.1.now) }
+{
+    let inside = after_byte(text, b'"')?;
+    let (text, after) = inside.split_at_checked(plain_len(inside.as_bytes()))?;
+    Some((text, after_byte(after, b'"')?))
 }
 
 // Counts the digits at the front.
@@ -78,11 +81,12 @@ fn digits_len(bytes: &[u8]) -> usize
     len
 }
 
-// Splits off a whole number of at most 19 digits.
-fn split_number(bytes: &[u8]) -> Option<(u64, &[u8])>
-    ensures { IfSome result (λ x. bytes.now ≡ compact_text (value_data (values.Number x.0)) ++ x.1.now) }
+// Splits off a whole number of at most 10 digits.
+fn split_number(text: &str) -> Option<(u64, &str)>
+    ensures { IfSome result (λ x. text.now ≡ compact_text (value_data (values.Number x.0)) ++ x.1.now) }
 {
-    let (digits, rest) = bytes.split_at(digits_len(bytes));
+    let (digits, rest) = text.split_at_checked(digits_len(text.as_bytes()))?;
+    let digits = digits.as_bytes();
     if digits.len() > 1 && digits[0] == b'0' {
         return None;
     }
@@ -90,46 +94,39 @@ fn split_number(bytes: &[u8]) -> Option<(u64, &[u8])>
 }
 
 // Splits off `null`.
-fn split_null(bytes: &[u8]) -> Option<&[u8]>
-    ensures { IfSome result (λ rest. bytes.now ≡ compact_text (value_data values.Null) ++ rest.now) }
+fn split_null(text: &str) -> Option<&str>
+    ensures { IfSome result (λ rest. text.now ≡ compact_text (value_data values.Null) ++ rest.now) }
 {
-    let (word, rest) = bytes.split_at_checked(4)?;
-    if word == b"null".as_slice() {
-        Some(rest)
-    } else {
-        None
-    }
+    let (word, rest) = text.split_at_checked(4)?;
+    if word == "null" { Some(rest) } else { None }
 }
 
 // Splits off a value.
-fn split_value(bytes: &[u8]) -> Option<(HeaderValue<'_>, &[u8])>
-    ensures text { IfSome result (λ x. bytes.now ≡ compact_text (value_data x.0) ++ x.1.now) }
+fn split_value(text: &str) -> Option<(HeaderValue<'_>, &str)>
+    ensures text { IfSome result (λ x. text.now ≡ compact_text (value_data x.0) ++ x.1.now) }
     ensures flat { IfSome result (λ x. IsFlat (value_data x.0)) }
 {
-    match bytes.first()? {
+    match text.as_bytes().first()? {
         b'"' => {
-            let (text, rest) = split_text(bytes)?;
+            let (text, rest) = split_text(text)?;
             Some((HeaderValue::Text(text), rest))
         }
-        b'n' => Some((HeaderValue::Null, split_null(bytes)?)),
+        b'n' => Some((HeaderValue::Null, split_null(text)?)),
         _ => {
-            let (number, rest) = split_number(bytes)?;
+            let (number, rest) = split_number(text)?;
             Some((HeaderValue::Number(number), rest))
         }
     }
 }
 
-// Splits off a member: its key, its value, and the bytes after it.
-fn split_member(bytes: &[u8]) -> Option<(&str, HeaderValue<'_>, &[u8])>
-    ensures text { IfSome result (λ x. bytes.now
+// Splits off a member: its key, its value, and the text after it.
+fn split_member(text: &str) -> Option<(&str, HeaderValue<'_>, &str)>
+    ensures text { IfSome result (λ x. text.now
         ≡ quoted x.0.now ++ (58 ∷ (compact_text (value_data x.1) ++ x.2.now))) }
     ensures flat { IfSome result (λ x. IsFlat (value_data x.1)) }
 {
-    let (key, after) = split_text(bytes)?;
-    let Some((b':', after)) = after.split_first() else {
-        return None;
-    };
-    let (value, rest) = split_value(after)?;
+    let (key, after) = split_text(text)?;
+    let (value, rest) = split_value(after_byte(after, b':')?)?;
     Some((key, value, rest))
 }
 
@@ -153,10 +150,10 @@ fn put_place<'a>(
     }
 }
 
-// Puts the values of the members in `bytes`, up to the brace that ends the bytes, into the places
-// of their keys; these are at least one member, and at most one more than `most`.
+// Puts the values of the members in `text`, up to the brace that ends the text, into the places of
+// their keys; these are at least one member, and at most one more than `most`.
 fn place_members<'a>(
-    bytes: &'a [u8],
+    text: &'a str,
     most: u8,
     keys: &[&str],
     places: &mut [Option<HeaderValue<'a>>],
@@ -164,19 +161,21 @@ fn place_members<'a>(
     requires distinct { are_distinct (map (λ key. key.now) keys.now) ≡ true }
     requires long { length places.old ≡ length keys.now }
     ensures { IsTrue result → (ms : Members)
-        × (44 ∷ bytes.now ≡ members_text true ms) × AreFlat ms × ((before : Members)
+        × (44 ∷ text.now ≡ members_text true ms) × AreFlat ms × ((before : Members)
         → map (option_map value_data) places.old ≡ map (λ key. get_member key.now before) keys.now
         → map (option_map value_data) places.new
         ≡ map (λ key. get_member key.now (put_all ms before)) keys.now) }
 {
-    let Some((key, value, rest)) = split_member(bytes) else {
+    let Some((key, value, rest)) = split_member(text) else {
         return false;
     };
     put_place(keys, places, key, value);
-    match rest.split_first() {
-        Some((b'}', after)) => after.is_empty(),
-        Some((b',', after)) if most > 0 => place_members(after, most - 1, keys, places),
-        _ => false,
+    if let Some(after) = after_byte(rest, b',') {
+        return most > 0 && place_members(after, most - 1, keys, places);
+    }
+    match after_byte(rest, b'}') {
+        Some(after) => after.is_empty(),
+        None => false,
     }
 }
 
@@ -187,12 +186,12 @@ fn place_values<'a>(header: &'a [u8], keys: &[&str], places: &mut [Option<Header
     ensures { IsTrue result → (d : Data) × (tree_of header.now ≡ Some d)
         × (map (option_map value_data) places.new ≡ map (λ key. get key.now d) keys.now) }
 {
-    match header.split_first() {
-        Some((b'{', inside)) => match str::from_utf8(header) {
-            Ok(_) => place_members(inside, MOST, keys, places),
-            Err(_) => false,
-        },
-        _ => false,
+    let Ok(text) = str::from_utf8(header) else {
+        return false;
+    };
+    match after_byte(text, b'{') {
+        Some(inside) => place_members(inside, MOST, keys, places),
+        None => false,
     }
 }
 
@@ -244,7 +243,7 @@ pub(crate) struct UsualHeader<'a> {
 }
 
 // Copies a text.
-fn copied(alloc: Global, text: Option<&str>) -> Result<Option<String>, AllocError>
+fn copy_text(alloc: Global, text: Option<&str>) -> Result<Option<String>, AllocError>
     ensures { IfOk result (λ copy.
         option_map string_bytes copy ≡ option_map (λ t. t.now) text.entry) }
 {
@@ -264,9 +263,9 @@ impl<'a> UsualHeader<'a> {
     {
         fields.kind = self.kind;
         fields.length = self.length;
-        fields.content_type = copied(alloc, self.content_type)?;
-        fields.filename = copied(alloc, self.filename)?;
-        fields.attachment_type = copied(alloc, self.attachment_type)?;
+        fields.content_type = copy_text(alloc, self.content_type)?;
+        fields.filename = copy_text(alloc, self.filename)?;
+        fields.attachment_type = copy_text(alloc, self.attachment_type)?;
         Ok(())
     }
 }

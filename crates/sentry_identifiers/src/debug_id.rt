@@ -1,7 +1,7 @@
 //! Debug identifiers.
 
 ghost use Rattle.std.specs.Prelude.{◌≡◌, Some};
-ghost use Rattle.sentry_identifiers.specs.DebugId.{id_size, appendix_of, debug_id_of, appendix_text, debug_id_text};
+ghost use Rattle.sentry_identifiers.specs.DebugId.{id_size, appendix_of, debug_id_of, appendix_text, debug_id_text, debug_parts};
 ghost use Rattle.sentry_text.specs.Number.{ReadsAs};
 
 use crate::bytes::are_bytes;
@@ -31,8 +31,6 @@ pub struct DebugId {
 pub struct ParseDebugIdError;
 
 impl DebugId {
-    ghost use Rattle.sentry_identifiers.specs.DebugId.{debug_parts};
-
     /// The identifier of these parts.
     pub fn from_parts(uuid: Uuid, appendix: u32) -> DebugId
         ensures { debug_parts result ≡ (uuid, appendix) }
@@ -94,8 +92,6 @@ fn read_parts(text: &str) -> Option<(Uuid, u32)>
 impl FromStr for DebugId {
     type Err = ParseDebugIdError;
 
-    ghost use Rattle.sentry_identifiers.specs.DebugId.{debug_parts};
-
     ghost from_str_gives = { ReadsAs debug_id_of debug_parts };
 
     /// The identifier of a text.
@@ -129,8 +125,6 @@ impl fmt::Display for Appendix {
 }
 
 impl fmt::Display for DebugId {
-    ghost use Rattle.sentry_identifiers.specs.DebugId.{debug_parts};
-
     ghost output = { λ id. Some (debug_id_text (debug_parts id).0 (debug_parts id).1) };
 
     fn fmt<W: fmt::Write>(&self, f: &mut fmt::Formatter<W>) -> fmt::Result {
@@ -143,7 +137,6 @@ impl Formed for DebugId {
 }
 
 impl Spelled for DebugId {
-    ghost use Rattle.sentry_identifiers.specs.DebugId.{debug_parts};
     ghost use Rattle.sentry_identifiers.specs.DebugIdTree.{debug_cell, debug_spelling};
 
     ghost spelling = { debug_spelling };

@@ -3,8 +3,8 @@
 ghost use Rattle.std.specs.Prelude.{◌≡◌, IfOk, Some, string_bytes};
 ghost use Rattle.hex.specs.Hex.{encode_lower};
 ghost use Rattle.rand_core.specs.Stream.{fill_bytes};
-ghost use Rattle.sentry_identifiers.specs.HexId.{ReadsHex};
-ghost use Rattle.sentry_identifiers.specs.HexIdTree.{IsOctets, hex_id_spelling};
+ghost use Rattle.sentry_identifiers.specs.HexId.{ReadsHex, span_bytes};
+ghost use Rattle.sentry_identifiers.specs.HexIdTree.{IsOctets, hex_id_spelling, span_id_cell};
 
 use crate::bytes::are_bytes;
 use crate::hex_id::read_bytes;
@@ -24,8 +24,6 @@ use std::{fmt, str};
 pub struct SpanId([u8; 8]);
 
 impl SpanId {
-    ghost use Rattle.sentry_identifiers.specs.HexId.{span_bytes};
-
     /// A random id: the next 8 bytes that the generator gives.
     pub fn random<R: Rng>(ids: &mut R) -> SpanId
         ensures { (span_bytes result, R.stream ids.new) ≡ fill_bytes 8 (R.stream ids.old) }
@@ -48,8 +46,6 @@ impl SpanId {
 }
 
 impl From<[u8; 8]> for SpanId {
-    ghost use Rattle.sentry_identifiers.specs.HexId.{span_bytes};
-
     ghost from_gives = { λ bytes id. span_bytes id ≡ bytes };
 
     fn from(bytes: [u8; 8]) -> SpanId {
@@ -59,8 +55,6 @@ impl From<[u8; 8]> for SpanId {
 
 impl FromStr for SpanId {
     type Err = FromHexError;
-
-    ghost use Rattle.sentry_identifiers.specs.HexId.{span_bytes};
 
     ghost from_str_gives = { ReadsHex 8 span_bytes };
 
@@ -78,8 +72,6 @@ impl FromStr for SpanId {
 impl TryFrom<String> for SpanId {
     type Error = FromHexError;
 
-    ghost use Rattle.sentry_identifiers.specs.HexId.{span_bytes};
-
     ghost try_from_gives = { λ text r. ReadsHex 8 span_bytes (string_bytes text) r };
 
     /// The id of 16 hex digits, in any case.
@@ -93,8 +85,6 @@ impl TryFrom<String> for SpanId {
 }
 
 impl fmt::Display for SpanId {
-    ghost use Rattle.sentry_identifiers.specs.HexId.{span_bytes};
-
     ghost output = { λ id. Some (encode_lower (span_bytes id)) };
 
     fn fmt<W: fmt::Write>(&self, f: &mut fmt::Formatter<W>) -> fmt::Result {
@@ -115,8 +105,6 @@ impl Formed for SpanId {
 }
 
 impl Spelled for SpanId {
-    ghost use Rattle.sentry_identifiers.specs.HexIdTree.{span_id_cell};
-
     ghost spelling = { hex_id_spelling 8 };
 
     ghost cell_of = { span_id_cell };
@@ -146,9 +134,6 @@ impl Spelled for SpanId {
 }
 
 impl Drawn<SpanId> for Own {
-    ghost use Rattle.sentry_identifiers.specs.HexId.{span_bytes};
-    ghost use Rattle.sentry_identifiers.specs.HexIdTree.{span_id_cell};
-
     ghost IsDrawn = { IsOctets 8 };
 
     fn random<R: Rng>(ids: &mut R) -> SpanId

@@ -3,8 +3,8 @@
 ghost use Rattle.std.specs.Prelude.{◌≡◌, IfOk, Some, string_bytes};
 ghost use Rattle.hex.specs.Hex.{encode_lower};
 ghost use Rattle.rand_core.specs.Stream.{fill_bytes};
-ghost use Rattle.sentry_identifiers.specs.HexId.{ReadsHex};
-ghost use Rattle.sentry_identifiers.specs.HexIdTree.{IsOctets, hex_id_spelling};
+ghost use Rattle.sentry_identifiers.specs.HexId.{ReadsHex, trace_bytes};
+ghost use Rattle.sentry_identifiers.specs.HexIdTree.{IsOctets, hex_id_spelling, trace_id_cell};
 
 use crate::bytes::are_bytes;
 use crate::hex_id::read_bytes;
@@ -24,8 +24,6 @@ use std::{fmt, str};
 pub struct TraceId([u8; 16]);
 
 impl TraceId {
-    ghost use Rattle.sentry_identifiers.specs.HexId.{trace_bytes};
-
     /// A random id: the next 16 bytes that the generator gives.
     pub fn random<R: Rng>(ids: &mut R) -> TraceId
         ensures { (trace_bytes result, R.stream ids.new) ≡ fill_bytes 16 (R.stream ids.old) }
@@ -48,8 +46,6 @@ impl TraceId {
 }
 
 impl From<[u8; 16]> for TraceId {
-    ghost use Rattle.sentry_identifiers.specs.HexId.{trace_bytes};
-
     ghost from_gives = { λ bytes id. trace_bytes id ≡ bytes };
 
     fn from(bytes: [u8; 16]) -> TraceId {
@@ -59,8 +55,6 @@ impl From<[u8; 16]> for TraceId {
 
 impl FromStr for TraceId {
     type Err = FromHexError;
-
-    ghost use Rattle.sentry_identifiers.specs.HexId.{trace_bytes};
 
     ghost from_str_gives = { ReadsHex 16 trace_bytes };
 
@@ -78,8 +72,6 @@ impl FromStr for TraceId {
 impl TryFrom<String> for TraceId {
     type Error = FromHexError;
 
-    ghost use Rattle.sentry_identifiers.specs.HexId.{trace_bytes};
-
     ghost try_from_gives = { λ text r. ReadsHex 16 trace_bytes (string_bytes text) r };
 
     /// The id of 32 hex digits, in any case.
@@ -93,8 +85,6 @@ impl TryFrom<String> for TraceId {
 }
 
 impl fmt::Display for TraceId {
-    ghost use Rattle.sentry_identifiers.specs.HexId.{trace_bytes};
-
     ghost output = { λ id. Some (encode_lower (trace_bytes id)) };
 
     fn fmt<W: fmt::Write>(&self, f: &mut fmt::Formatter<W>) -> fmt::Result {
@@ -115,8 +105,6 @@ impl Formed for TraceId {
 }
 
 impl Spelled for TraceId {
-    ghost use Rattle.sentry_identifiers.specs.HexIdTree.{trace_id_cell};
-
     ghost spelling = { hex_id_spelling 16 };
 
     ghost cell_of = { trace_id_cell };
@@ -146,9 +134,6 @@ impl Spelled for TraceId {
 }
 
 impl Drawn<TraceId> for Own {
-    ghost use Rattle.sentry_identifiers.specs.HexId.{trace_bytes};
-    ghost use Rattle.sentry_identifiers.specs.HexIdTree.{trace_id_cell};
-
     ghost IsDrawn = { IsOctets 16 };
 
     fn random<R: Rng>(ids: &mut R) -> TraceId
