@@ -135,7 +135,7 @@ pub extern "C" fn sentry_envelope_check(
     }
 }
 
-fn filtered<F: EnvelopeFilter>(
+fn filter_left<F: EnvelopeFilter>(
     alloc: Global,
     envelope: Envelope,
     keep_headers: bool,
@@ -170,7 +170,7 @@ fn read_left(
     ensures fault { IfErr result (λ x. x ≢ EnvelopeError.OutOfMemory → Fault profile bytes.now x) }
 {
     let envelope = read(alloc, bytes, now, seed)?;
-    match filtered(alloc, envelope, keep_headers, filter) {
+    match filter_left(alloc, envelope, keep_headers, filter) {
         Ok(left) => Ok(left),
         Err(_) => Err(EnvelopeError::OutOfMemory),
     }

@@ -64,7 +64,7 @@ impl EnvelopeFilter for ByKinds<'_> {
 }
 
 // Filters an envelope. The fields of its header stay or go.
-fn filtered<F: EnvelopeFilter>(
+fn filter_left<F: EnvelopeFilter>(
     alloc: Global,
     envelope: Envelope,
     keep: bool,
@@ -113,7 +113,7 @@ fn left_by(
     words: &str,
 ) -> Result<Value, AllocError> {
     let mut filter = ByKinds::new(alloc, words);
-    let left = said_filtered(alloc, filtered(alloc, envelope, keep, &mut filter));
+    let left = said_filtered(alloc, filter_left(alloc, envelope, keep, &mut filter));
     let ByKinds { losses, .. } = filter;
     list(alloc, [left, as_tree(losses)])
 }
@@ -197,7 +197,7 @@ fn answered_by(
         answers: answers.as_bytes(),
         calls: Vec::new(alloc),
     };
-    let left = said_filtered(alloc, filtered(alloc, envelope, keep, &mut filter));
+    let left = said_filtered(alloc, filter_left(alloc, envelope, keep, &mut filter));
     let Scribe { calls, .. } = filter;
     list(alloc, [left, as_tree(calls)])
 }

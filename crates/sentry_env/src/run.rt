@@ -29,7 +29,7 @@ struct Rewritten {
     losses: String,
 }
 
-fn filtered<F: EnvelopeFilter>(
+fn filter_left<F: EnvelopeFilter>(
     alloc: Global,
     envelope: Envelope,
     keep: bool,
@@ -69,7 +69,7 @@ fn rewrite(
         });
     }
     let mut filter = LossFilter::new(kinds);
-    let Ok(left) = filtered(alloc, envelope, keep, &mut filter) else {
+    let Ok(left) = filter_left(alloc, envelope, keep, &mut filter) else {
         return Err(AllocError);
     };
     let losses = filter.table(alloc)?;

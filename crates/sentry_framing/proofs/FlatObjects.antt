@@ -1,7 +1,7 @@
 -- Flat objects are read as they are written.
 use Rattle.std.proofs.Common.{◌≡◌, ◌≤◌, ◌<◌, ◌^◌, ℕ, List, [], ◌∷◌, ◌++◌, length, get_or, take, drop, IsUtf8, Bool, ◌==◌, eqb-true, true, false, Some, option_map, option_and_then, refl, sym, ap, ◌∙◌, arith, append-nil, append_assoc}
 use Rattle.std.specs.List.{All, AllByRecursion}
-use Rattle.std.proofs.lemmas.List.{nil_from_length}
+use Rattle.std.proofs.lemmas.List.{nil_from_length, take-append-drop}
 use Rattle.std.specs.Str.Parse.{IsNumeral, digits_value}
 use Rattle.std.specs.Prelude.{decimal}
 use Rattle.std.proofs.lemmas.Fmt.{decimal-digits_value}
@@ -102,10 +102,17 @@ plain_text : (xs : List ℕ) → AllByRecursion IsPlain xs → escape xs ≡ xs
 plain_text [] h = refl
 plain_text (x ∷ xs) h = rw (escape_byte_plain x h.0.1 h.0.2 h.0.0, plain_text xs h.1) refl
 
-pub text_split : (bytes inside front after text rest : List ℕ) (n : ℕ) → bytes ≡ 34 ∷ inside → inside ≡ front ++ after → after ≡ 34 ∷ rest → text ≡ front → front ≡ take n inside → All IsPlain (take n inside) → bytes ≡ quoted text ++ rest
-text_split bytes inside front after text rest n first parts last same cut plain =
-    let kept : escape text ≡ text = ap escape (same ∙ cut) ∙ plain_text _ (recursion_from_All IsPlain _ plain) ∙ sym (same ∙ cut) in
-    first ∙ ap (λ s. 34 ∷ s) (parts ∙ ap (λ s. front ++ s) last) ∙ rw (kept, same) (ap (λ s. 34 ∷ s) (sym (append_assoc front (34 ∷ []) rest)))
+-- a byte, and what is behind it
+pub byte_split : (text more rest : List ℕ) (first byte : ℕ) → text ≡ first ∷ more → first ≡ byte → rest ≡ drop 1 text → text ≡ byte ∷ rest
+byte_split text more rest first byte is same cut = is ∙ ap (λ b. b ∷ more) same ∙ ap (λ r. byte ∷ r) (sym (cut ∙ ap (drop 1) is))
+
+pub parted : (xs front back : List ℕ) (n : ℕ) → front ≡ take n xs → back ≡ drop n xs → xs ≡ front ++ back
+parted xs front back n is rest = sym (take-append-drop n xs) ∙ sym (ap (λ f. f ++ drop n xs) is) ∙ ap (λ r. front ++ r) (sym rest)
+
+pub text_split : (bytes inside after text rest : List ℕ) (n : ℕ) → bytes ≡ 34 ∷ inside → text ≡ take n inside → after ≡ drop n inside → after ≡ 34 ∷ rest → All IsPlain (take n inside) → bytes ≡ quoted text ++ rest
+text_split bytes inside after text rest n first same cut last plain =
+    let kept : escape text ≡ text = ap escape same ∙ plain_text _ (recursion_from_All IsPlain _ plain) ∙ sym same in
+    first ∙ ap (λ s. 34 ∷ s) (parted inside text after n same cut ∙ ap (λ s. text ++ s) last) ∙ rw kept (ap (λ s. 34 ∷ s) (sym (append_assoc text (34 ∷ []) rest)))
 
 pub number_split : (bytes digits rest : List ℕ) (n : ℕ) → bytes ≡ digits ++ rest → IsNumeral 10 digits → n ≡ digits_value 10 digits → digits_value 10 digits < 2 ^ 64 → (get_or digits 0 0 ≡ 48 → length digits ≡ 1) → bytes ≡ decimal n ++ rest
 number_split bytes digits rest n parts numeral is fits lead =

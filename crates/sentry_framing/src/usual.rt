@@ -51,7 +51,8 @@ fn plain_len(bytes: &[u8]) -> usize
 fn after_byte(text: &str, byte: u8) -> Option<&str>
     ensures { IfSome result (λ rest. text.now ≡ byte ∷ rest.now) }
 {
-    if *text.as_bytes().first()? != byte {
+    let (first, _) = text.as_bytes().split_first()?;
+    if *first != byte {
         return None;
     }
     let (_, rest) = text.split_at_checked(1)?;

@@ -93,7 +93,7 @@ impl LogAttribute {
     }
 
     // The normal form: the attribute that is read back from the written one.
-    fn formed(&self, alloc: Global) -> Result<LogAttribute, AllocError>
+    fn normal_form(&self, alloc: Global) -> Result<LogAttribute, AllocError>
         ensures { IfOk result (λ a. view a.0 ≡ attribute_form (view self.now.0)) }
     {
         match &self.0 {
@@ -138,7 +138,7 @@ impl Member for LogAttribute {
     fn remake(&self, way: Way) -> Result<LogAttribute, AllocError> {
         match way {
             Way::Same => self.clone(),
-            Way::Normal(alloc) => self.formed(alloc),
+            Way::Normal(alloc) => self.normal_form(alloc),
         }
     }
 
@@ -160,7 +160,7 @@ impl FromTree for LogAttribute {
             return Err(TreeError::Misfit);
         };
         match node.get("value") {
-            Some(value) => Ok(LogAttribute(typed(alloc, word, &value)?)),
+            Some(value) => Ok(LogAttribute(read_typed(alloc, word, &value)?)),
             None => Err(TreeError::Misfit),
         }
     }
@@ -241,7 +241,7 @@ fn give_large<S: Sink>(number: &Number, sink: &mut S) -> Result<(), AllocError>
 }
 
 // Reads a value of the type `word`; `Misfit` for an unknown type or a value of another type.
-fn typed<N: Node>(alloc: Global, word: &str, value: &N) -> Result<Value, TreeError>
+fn read_typed<N: Node>(alloc: Global, word: &str, value: &N) -> Result<Value, TreeError>
     ensures { ReadsTyped word.now (N.data_of value.now) result }
 {
     match word {
