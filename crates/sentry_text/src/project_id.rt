@@ -2,9 +2,8 @@
 
 ghost use Rattle.std.specs.Prelude.{◌≡◌, ◌↔◌, [], IfOk, IsErrOf, Some, decimal};
 ghost use Rattle.sentry_text.specs.Number.{ReadsAs, number_of};
-ghost use Rattle.sentry_text.specs.ProjectTree.{project_spelling, organization_kind, organization_spelling, organization_text_kind, organization_cell};
+ghost use Rattle.sentry_text.specs.ProjectTree.{project_spelling, organization_kind, organization_spelling, organization_text_kind};
 ghost use Rattle.sentry_members.specs.Spelling.{ReadsSpelling};
-ghost use Rattle.sentry_text.specs.ProjectId.{organization_value, project_text};
 
 use crate::number::{ParseNumberError, parse_number};
 use json::Writer;
@@ -48,6 +47,8 @@ impl From<AllocError> for ParseProjectIdError {
 }
 
 impl ProjectId {
+    ghost use Rattle.sentry_text.specs.ProjectId.{project_text};
+
     /// The id of this text, whatever it is.
     ///
     /// # Errors
@@ -98,6 +99,8 @@ impl ProjectId {
 }
 
 impl fmt::Display for ProjectId {
+    ghost use Rattle.sentry_text.specs.ProjectId.{project_text};
+
     ghost output = { λ id. Some (project_text id) };
 
     fn fmt<W: fmt::Write>(&self, f: &mut fmt::Formatter<W>) -> fmt::Result {
@@ -143,6 +146,8 @@ impl Spelled for ProjectId {
 pub struct OrganizationId(u64);
 
 impl OrganizationId {
+    ghost use Rattle.sentry_text.specs.ProjectId.{organization_value};
+
     /// The number.
     pub fn value(&self) -> u64
         ensures { result ≡ organization_value self.now }
@@ -152,6 +157,8 @@ impl OrganizationId {
 }
 
 impl From<u64> for OrganizationId {
+    ghost use Rattle.sentry_text.specs.ProjectId.{organization_value};
+
     ghost from_gives = { λ n id. organization_value id ≡ n };
 
     fn from(number: u64) -> OrganizationId {
@@ -161,6 +168,8 @@ impl From<u64> for OrganizationId {
 
 impl FromStr for OrganizationId {
     type Err = ParseNumberError;
+
+    ghost use Rattle.sentry_text.specs.ProjectId.{organization_value};
 
     ghost from_str_gives = { ReadsAs (number_of 10) organization_value };
 
@@ -175,6 +184,8 @@ impl FromStr for OrganizationId {
 }
 
 impl fmt::Display for OrganizationId {
+    ghost use Rattle.sentry_text.specs.ProjectId.{organization_value};
+
     ghost output = { λ id. Some (decimal (organization_value id)) };
 
     fn fmt<W: fmt::Write>(&self, f: &mut fmt::Formatter<W>) -> fmt::Result {
@@ -184,6 +195,8 @@ impl fmt::Display for OrganizationId {
 
 /// An organization's id stands in a tree as a number.
 impl Member for OrganizationId {
+    ghost use Rattle.sentry_text.specs.ProjectTree.{organization_cell};
+
     ghost kind = { organization_kind };
 
     ghost cell_of = { organization_cell };
@@ -222,6 +235,9 @@ impl FromTree for OrganizationId {
 pub struct OrganizationText;
 
 impl OrganizationId {
+    ghost use Rattle.sentry_text.specs.ProjectId.{organization_value};
+    ghost use Rattle.sentry_text.specs.ProjectTree.{organization_cell};
+
     // The id that a text spells.
     fn of_text(text: &str) -> Result<OrganizationId, TreeError>
         ensures { ReadsSpelling organization_spelling organization_cell text.now result }
@@ -243,6 +259,8 @@ impl OrganizationId {
 }
 
 impl Codec<OrganizationId> for OrganizationText {
+    ghost use Rattle.sentry_text.specs.ProjectTree.{organization_cell};
+
     ghost kind = { organization_text_kind };
 
     ghost cell_of = { organization_cell };
