@@ -13,3 +13,4 @@ pub mod Written
 pub mod Flat
 pub mod Words
 pub mod FlatObjects
+pub mod FlatMembers

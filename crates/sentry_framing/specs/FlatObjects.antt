@@ -1,4 +1,4 @@
--- Flat objects: members whose values are null, whole numbers and texts.
+-- Flat objects: members whose values are null, booleans, whole numbers and texts.
 use Rattle.std.specs.Prelude.{ℕ, ◌<◌, ◌≤◌, ◌≢◌, ◌^◌, ⊤}
 use Rattle.serde_json.specs.Data.{unsigned, Data, null, boolean, number, string, array, object, Members, no_members, member, put}
 
@@ -6,10 +6,10 @@ use Rattle.serde_json.specs.Data.{unsigned, Data, null, boolean, number, string,
 abbrev pub IsPlain : ℕ → Type 0
 IsPlain b = (32 ≤ b) × (b ≢ 34) × (b ≢ 92)
 
--- null, a whole number that 64 bits hold, or a text
+-- null, a boolean, a whole number that 64 bits hold, or a text
 abbrev pub IsFlat : Data → Type 0
 IsFlat null = ⊤
-IsFlat (boolean b) = ⊥
+IsFlat (boolean b) = ⊤
 IsFlat (number (unsigned n)) = n < 2 ^ 64
 IsFlat (number n) = ⊥
 IsFlat (string s) = ⊤

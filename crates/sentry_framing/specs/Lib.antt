@@ -1,9 +1,9 @@
 pub mod FlatObjects
+pub mod FlatView
 pub mod Framing
 pub mod HeaderView
 pub mod ItemHeader
 pub mod ItemWords
 pub mod Quotes
 pub mod Unread
-pub mod UsualView
 pub mod View

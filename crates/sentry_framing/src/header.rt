@@ -6,10 +6,12 @@ ghost use Rattle.sentry_framing.specs.ItemHeader.{header_of, kind_of, read_heade
 ghost use Rattle.sentry_framing.specs.ItemWords.{item_words, kind_place};
 ghost use Rattle.sentry_framing.specs.declared.kind.ItemKind.TheVariants as kinds;
 ghost use Rattle.sentry_framing.specs.HeaderView.{header_view};
+ghost use Rattle.sentry_framing.specs.FlatView.{object_data};
 
 use crate::error::EnvelopeError;
 use crate::kind::ItemKind;
-use crate::usual::parse_usual;
+use crate::flat_object::FlatObject;
+use crate::flat_node::FlatNode;
 use json::Scratch;
 use sentry_json::{Branch, Line, LineError, Node, scratch};
 use sentry_members::{TreeError, read_tree};
@@ -208,7 +210,28 @@ pub fn read_item_header(alloc: Global, header: &[u8]) -> Result<ItemHeader, Enve
     }
 }
 
-// Parses an item header into `fields`, with working memory of its own where the header isn't usual.
+// Parses an item header that is a flat object.
+fn read_object(
+    alloc: Global,
+    object: &FlatObject<'_>,
+    fields: &mut ItemHeader,
+) -> Result<(), EnvelopeError>
+    ensures ok { OnOk result (header_of item_words (object_data object.now) ≡
+        Some (header_view fields.new)) }
+    ensures err { IfErr result (λ e. (e ≡ EnvelopeError.OutOfMemory)
+        ⊎ ((e ≡ EnvelopeError.InvalidItemHeader)
+        × (header_of item_words (object_data object.now) ≡ None))) }
+{
+    let mut places = [None, None, None, None, None];
+    match fill_header(alloc, &FlatNode::Object(object), &mut places, fields) {
+        Ok(()) => Ok(()),
+        Err(TreeError::Misfit) => Err(EnvelopeError::InvalidItemHeader),
+        Err(TreeError::Memory) => Err(EnvelopeError::OutOfMemory),
+    }
+}
+
+// Parses an item header into `fields`, with working memory of its own where the header isn't flat.
+#[tactic(auto, unfolding(crate::specs::ItemHeader::read_header))]
 pub(crate) fn read_fields(
     alloc: Global,
     header: &[u8],
@@ -218,11 +241,8 @@ pub(crate) fn read_fields(
     ensures err { IfErr result (λ e. (e ≡ EnvelopeError.OutOfMemory)
         ⊎ ((e ≡ EnvelopeError.InvalidItemHeader) × (read_header item_words header.now ≡ None))) }
 {
-    match parse_usual(header) {
-        Some(usual) => match usual.copy_into(alloc, fields) {
-            Ok(()) => Ok(()),
-            Err(_) => Err(EnvelopeError::OutOfMemory),
-        },
+    match FlatObject::parse(header) {
+        Some(object) => read_object(alloc, &object, fields),
         None => read_unusual(alloc, header, fields),
     }
 }
@@ -262,6 +282,7 @@ fn read_general(
 /// # Errors
 ///
 /// The errors of [`read_item_header`]; some fields may be set.
+#[tactic(auto, unfolding(crate::specs::ItemHeader::read_header))]
 pub fn read_item_header_into(
     alloc: Global,
     header: &[u8],
@@ -272,11 +293,8 @@ pub fn read_item_header_into(
     ensures err { IfErr result (λ e. (e ≡ EnvelopeError.OutOfMemory)
         ⊎ ((e ≡ EnvelopeError.InvalidItemHeader) × (read_header item_words header.now ≡ None))) }
 {
-    match parse_usual(header) {
-        Some(usual) => match usual.copy_into(alloc, fields) {
-            Ok(()) => Ok(()),
-            Err(_) => Err(EnvelopeError::OutOfMemory),
-        },
+    match FlatObject::parse(header) {
+        Some(object) => read_object(alloc, &object, fields),
         None => read_general(alloc, header, scratch, fields),
     }
 }

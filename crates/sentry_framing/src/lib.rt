@@ -2,13 +2,14 @@
 #![tactic(auto)]
 
 pub mod error;
+pub mod flat_node;
+pub mod flat_object;
 pub mod frames;
 pub mod header;
 pub mod kind;
 pub mod laws;
 mod lines;
 mod piece;
-mod usual;
 
 pub use error::EnvelopeError;
 pub use frames::{Frames, ItemFrame};

@@ -2,7 +2,7 @@ use Rattle.std.proofs.Common.{take, subst}
 use Rattle.std.specs.List.{All}
 use Rattle.sentry_framing.specs.FlatObjects.{IsPlain}
 use Rattle.sentry_framing.proofs.FlatObjects.{text_split}
-use Rattle.sentry_framing.proofs.usual.split_text.Goals as goal
+use Rattle.sentry_framing.proofs.flat_object.split_text.Goals as goal
 
 pub returns : goal.returns
 returns c =

@@ -1,8 +1,8 @@
 use Rattle.std.proofs.Common.{◌≡◌, length, get_or, arith}
 use Rattle.sentry_json.proofs.Digits.{short_fits}
 use Rattle.sentry_framing.proofs.FlatObjects.{number_split, parted}
-use Rattle.sentry_framing.proofs.usual.split_number.Goals.{else-digits-gt1-via-then-digits-gt1+else-digits-eq48, else-digits-gt1-via-else-digits-gt1}
-use Rattle.sentry_framing.proofs.usual.split_number.Goals as goal
+use Rattle.sentry_framing.proofs.flat_object.split_number.Goals.{else-digits-gt1-via-then-digits-gt1+else-digits-eq48, else-digits-gt1-via-else-digits-gt1}
+use Rattle.sentry_framing.proofs.flat_object.split_number.Goals as goal
 
 pub returns : goal.returns
 returns c =

@@ -1,5 +1,5 @@
 use Rattle.std.proofs.Common.{◌≤◌, ◌-◌, length}
-use Rattle.sentry_framing.proofs.usual.digits_len.Given as goal
+use Rattle.sentry_framing.proofs.flat_object.digits_len.Given as goal
 
 abbrev pub invariant-loop-len : goal.invariant-loop-len
 invariant-loop-len l = l.len ≤ length l.bytes

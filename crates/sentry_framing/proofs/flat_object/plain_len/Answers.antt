@@ -1,7 +1,7 @@
 use Rattle.std.proofs.Common.{arith}
 use Rattle.std.proofs.lemmas.List.Elements.{All-more}
 use Rattle.sentry_framing.specs.FlatObjects.{IsPlain}
-use Rattle.sentry_framing.proofs.usual.plain_len.Goals as goal
+use Rattle.sentry_framing.proofs.flat_object.plain_len.Goals as goal
 
 pub loop-len-preserved : goal.loop-len-preserved
 loop-len-preserved c = (

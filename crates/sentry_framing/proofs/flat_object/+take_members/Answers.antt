@@ -1,0 +1,32 @@
+use Rattle.std.proofs.Common.{◌≡◌, ◌∷◌, [], ap, ◌∙◌}
+use Rattle.serde_json.specs.Data.{no_members, member}
+use Rattle.sentry_framing.specs.FlatObjects.{put_all}
+use Rattle.sentry_framing.specs.FlatView.{members_after, value_data}
+use Rattle.sentry_framing.proofs.FlatMembers.{after_last}
+use Rattle.sentry_framing.proofs.FlatObjects.{member_text, nothing_left}
+use Rattle.sentry_framing.proofs.flat_object.+take_members.Goals as goal
+
+pub returns-then-most-gt0 : goal.returns-then-most-gt0
+returns-then-most-gt0 t c is =
+    let s = c.in-Some in
+    let m = s.member in
+    let d = value_data m.value in
+    let more = c.take_members.ensures is in (
+      member m.key.now d more.0,
+      member_text c.args.text.now m.key.now s.rest.now d more.0 s.ensures.text (c.in-Some-after_byte.ensures ∙ more.1),
+      (s.ensures.flat, more.2),
+      λ before. more.3 before ∙ ap (put_all more.0) (ap (members_after before) c.in-Ok.ensures.ok ∙ after_last c.args.members.now.items m before),
+    )
+
+pub returns-in-Some-after_byte-2 : goal.returns-in-Some-after_byte-2
+returns-in-Some-after_byte-2 t c is =
+    let s = c.in-Some in
+    let m = s.member in
+    let last = c.in-Some-after_byte-2 in
+    let d = value_data m.value in
+    let none : last.after.now ≡ [] = nothing_left last.after.now c.is_empty.result c.is_empty.ensures is in (
+      member m.key.now d no_members,
+      member_text c.args.text.now m.key.now s.rest.now d no_members s.ensures.text (last.ensures ∙ ap (λ s. 125 ∷ s) none),
+      (s.ensures.flat, tt),
+      λ before. ap (members_after before) c.in-Ok.ensures.ok ∙ after_last c.args.members.now.items m before,
+    )
