@@ -6,9 +6,9 @@ ghost use Rattle.serde_json.specs.View.{view, members_view};
 ghost use Rattle.sentry_framing.specs.FlatView.{members_after, node_data, object_data, value_data};
 
 use crate::flat_object::{FlatMember, FlatObject, FlatValue};
+use sentry_json::Node;
 use sentry_json::keys::place;
 use sentry_json::object::Named;
-use sentry_json::Node;
 use serde_json::{Map, Value};
 use std::alloc::{AllocError, Global};
 
@@ -107,7 +107,10 @@ impl<'t, 'a> Node for FlatNode<'t, 'a> {
         Ok(None)
     }
 
-    fn members(&self, alloc: Global) -> Result<Option<Vec<Named<'_, FlatNode<'t, 'a>>>>, AllocError> {
+    fn members(
+        &self,
+        alloc: Global,
+    ) -> Result<Option<Vec<Named<'_, FlatNode<'t, 'a>>>>, AllocError> {
         let FlatNode::Object(object) = self else {
             return Ok(None);
         };
@@ -145,10 +148,7 @@ fn value_tree(value: FlatValue<'_>, alloc: Global) -> Result<Value, AllocError>
 }
 
 // Copies members; of members with equal keys, the last counts.
-fn members_tree(
-    members: &[FlatMember<'_>],
-    alloc: Global,
-) -> Result<Map<String, Value>, AllocError>
+fn members_tree(members: &[FlatMember<'_>], alloc: Global) -> Result<Map<String, Value>, AllocError>
     ensures { IfOk result (λ map. members_view map.entries ≡ members_after no_members members.now) }
 {
     let mut map = Map::new(alloc);

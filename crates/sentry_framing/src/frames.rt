@@ -7,10 +7,10 @@ ghost use Rattle.sentry_framing.specs.HeaderView.{header_view};
 ghost use Rattle.sentry_framing.specs.View.{frame_of};
 
 use crate::error::EnvelopeError;
-use crate::header::{ItemHeader, read_fields, read_item_header_into};
+use crate::header::{ItemHeader, read_fields};
+use crate::lazy_scratch::LazyScratch;
 use crate::lines::{end_line, skip_space, split_line};
 use crate::piece::piece_len;
-use json::Scratch;
 use std::alloc::Global;
 use std::marker::Model;
 
@@ -108,7 +108,7 @@ impl<'a> Frames<'a> {
     /// Returns the next frame with its parsed item header; `None` if no bytes are left.
     ///
     /// A header without white space and escapes is read without working memory. To read many
-    /// others, create one `Scratch` and call [`next_item_into`].
+    /// others, create one [`LazyScratch`] and call [`next_item_into`].
     ///
     /// # Errors
     ///
@@ -132,7 +132,7 @@ impl<'a> Frames<'a> {
         ensures memory { result ≡ Some (Err EnvelopeError.OutOfMemory) → self.new ≡ self.old }
     {
         let mut header = ItemHeader::new();
-        match next_item_by(self, alloc, None, &mut header) {
+        match next_item_into(self, alloc, &mut LazyScratch::new(alloc), &mut header) {
             None => None,
             Some(Ok(frame)) => Some(Ok((frame, header))),
             Some(Err(error)) => Some(Err(error)),
@@ -141,7 +141,7 @@ impl<'a> Frames<'a> {
 }
 
 /// Returns the next frame, and parses its item header into `header`; `None` if no bytes are left.
-/// `scratch` is the working memory for headers with white space or escapes.
+/// `scratch` is the working memory for headers that need some.
 ///
 /// # Errors
 ///
@@ -150,30 +150,7 @@ impl<'a> Frames<'a> {
 pub fn next_item_into<'a>(
     frames: &mut Frames<'a>,
     alloc: Global,
-    scratch: &mut Scratch,
-    header: &mut ItemHeader,
-) -> Option<Result<ItemFrame<'a>, EnvelopeError>>
-    ensures header_line { frames.new.header_line ≡ frames.old.header_line }
-    ensures none { IsNone result ↔ (frames.old.rest ≡ []) }
-    ensures none_left { IsNone result → frames.new.rest ≡ [] }
-    ensures frame { IfSome result (λ answer. IfOk answer (λ item.
-        IsFirstFrame (stated_length item_words) frames.old.rest (frame_of item) frames.new.rest)) }
-    ensures header { IfSome result (λ answer. IfOk answer (λ item.
-        read_header item_words item.header.now ≡ Some (header_view header.new))) }
-    ensures fault { IfSome result (λ answer. IfErr answer (λ e. e ≢ EnvelopeError.OutOfMemory
-        → IsFault (stated_length item_words) frames.old.rest e)) }
-    ensures ended { IfSome result (λ answer. IfErr answer (λ e. e ≢ EnvelopeError.OutOfMemory
-        → frames.new.rest ≡ [])) }
-    ensures memory { result ≡ Some (Err EnvelopeError.OutOfMemory) → frames.new ≡ frames.old }
-{
-    next_item_by(frames, alloc, Some(scratch), header)
-}
-
-// `None` for `scratch` makes working memory where a header needs it.
-fn next_item_by<'a>(
-    frames: &mut Frames<'a>,
-    alloc: Global,
-    scratch: Option<&mut Scratch>,
+    scratch: &mut LazyScratch,
     header: &mut ItemHeader,
 ) -> Option<Result<ItemFrame<'a>, EnvelopeError>>
     ensures header_line { frames.new.header_line ≡ frames.old.header_line }
@@ -234,28 +211,11 @@ fn split_header(body: &[u8]) -> Result<(&[u8], &[u8]), EnvelopeError>
     }
 }
 
-// Parses an item header into `fields`.
-fn read_header_by(
-    alloc: Global,
-    header: &[u8],
-    scratch: Option<&mut Scratch>,
-    fields: &mut ItemHeader,
-) -> Result<(), EnvelopeError>
-    ensures ok { OnOk result (read_header item_words header.now ≡ Some (header_view fields.new)) }
-    ensures err { IfErr result (λ e. (e ≡ EnvelopeError.OutOfMemory)
-        ⊎ ((e ≡ EnvelopeError.InvalidItemHeader) × (read_header item_words header.now ≡ None))) }
-{
-    match scratch {
-        Some(scratch) => read_item_header_into(alloc, header, scratch, fields),
-        None => read_fields(alloc, header, fields),
-    }
-}
-
 // Returns the first frame and the bytes after the frame, and parses the item header into `fields`.
 fn first_item<'a>(
     alloc: Global,
     body: &'a [u8],
-    scratch: Option<&mut Scratch>,
+    scratch: &mut LazyScratch,
     fields: &mut ItemHeader,
 ) -> Result<(ItemFrame<'a>, &'a [u8]), EnvelopeError>
     ensures frame { IfOk result (λ x.
@@ -266,7 +226,7 @@ fn first_item<'a>(
         → IsFault (stated_length item_words) body.now e) }
 {
     let (header, after) = split_header(body)?;
-    read_header_by(alloc, header, scratch, fields)?;
+    read_fields(alloc, header, scratch, fields)?;
     let left = end_line(after)?;
     let (payload, tail) = split_payload(fields.length, left)?;
     let rest = end_line(tail)?;

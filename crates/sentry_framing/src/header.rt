@@ -9,11 +9,12 @@ ghost use Rattle.sentry_framing.specs.HeaderView.{header_view};
 ghost use Rattle.sentry_framing.specs.FlatView.{object_data};
 
 use crate::error::EnvelopeError;
-use crate::kind::ItemKind;
-use crate::flat_object::FlatObject;
 use crate::flat_node::FlatNode;
+use crate::flat_object::FlatObject;
+use crate::kind::ItemKind;
+use crate::lazy_scratch::LazyScratch;
 use json::Scratch;
-use sentry_json::{Branch, Line, LineError, Node, scratch};
+use sentry_json::{Branch, Line, LineError, Node};
 use sentry_members::{TreeError, read_tree};
 use std::alloc::Global;
 
@@ -187,8 +188,7 @@ fn fill_from_tree(alloc: Global, line: &[u8], fields: &mut ItemHeader) -> Result
 
 /// Parses an item header. Members that [`ItemHeader`] has no field for are ignored.
 ///
-/// A header without white space and escapes is read without working memory. To read many others,
-/// create one `Scratch` and call [`read_item_header_into`].
+/// A header without white space and escapes is mostly read without working memory.
 ///
 /// # Errors
 ///
@@ -204,7 +204,7 @@ pub fn read_item_header(alloc: Global, header: &[u8]) -> Result<ItemHeader, Enve
         ⊎ ((e ≡ EnvelopeError.InvalidItemHeader) × (read_header item_words header.now ≡ None))) }
 {
     let mut fields = ItemHeader::new();
-    match read_fields(alloc, header, &mut fields) {
+    match read_fields(alloc, header, &mut LazyScratch::new(alloc), &mut fields) {
         Ok(()) => Ok(fields),
         Err(error) => Err(error),
     }
@@ -230,63 +230,12 @@ fn read_object(
     }
 }
 
-// Parses an item header into `fields`, with working memory of its own where the header isn't flat.
+// Parses an item header into `fields`; some may be set after an error.
 #[tactic(auto, unfolding(crate::specs::ItemHeader::read_header))]
 pub(crate) fn read_fields(
     alloc: Global,
     header: &[u8],
-    fields: &mut ItemHeader,
-) -> Result<(), EnvelopeError>
-    ensures ok { OnOk result (read_header item_words header.now ≡ Some (header_view fields.new)) }
-    ensures err { IfErr result (λ e. (e ≡ EnvelopeError.OutOfMemory)
-        ⊎ ((e ≡ EnvelopeError.InvalidItemHeader) × (read_header item_words header.now ≡ None))) }
-{
-    match FlatObject::parse(header) {
-        Some(object) => read_object(alloc, &object, fields),
-        None => read_unusual(alloc, header, fields),
-    }
-}
-
-#[cold]
-#[inline(never)]
-fn read_unusual(alloc: Global, header: &[u8], fields: &mut ItemHeader) -> Result<(), EnvelopeError>
-    ensures ok { OnOk result (read_header item_words header.now ≡ Some (header_view fields.new)) }
-    ensures err { IfErr result (λ e. (e ≡ EnvelopeError.OutOfMemory)
-        ⊎ ((e ≡ EnvelopeError.InvalidItemHeader) × (read_header item_words header.now ≡ None))) }
-{
-    let mut scratch = scratch(alloc);
-    read_general(alloc, header, &mut scratch, fields)
-}
-
-// Parses any item header.
-fn read_general(
-    alloc: Global,
-    header: &[u8],
-    scratch: &mut Scratch,
-    fields: &mut ItemHeader,
-) -> Result<(), EnvelopeError>
-    ensures ok { OnOk result (read_header item_words header.now ≡ Some (header_view fields.new)) }
-    ensures err { IfErr result (λ e. (e ≡ EnvelopeError.OutOfMemory)
-        ⊎ ((e ≡ EnvelopeError.InvalidItemHeader) × (read_header item_words header.now ≡ None))) }
-{
-    match fill_from_line(alloc, header, scratch, fields) {
-        Ok(()) => Ok(()),
-        Err(TreeError::Misfit) => Err(EnvelopeError::InvalidItemHeader),
-        Err(TreeError::Memory) => Err(EnvelopeError::OutOfMemory),
-    }
-}
-
-/// Parses an item header into `fields`. `scratch` is the working memory for headers with white space
-/// or escapes.
-///
-/// # Errors
-///
-/// The errors of [`read_item_header`]; some fields may be set.
-#[tactic(auto, unfolding(crate::specs::ItemHeader::read_header))]
-pub fn read_item_header_into(
-    alloc: Global,
-    header: &[u8],
-    scratch: &mut Scratch,
+    scratch: &mut LazyScratch,
     fields: &mut ItemHeader,
 ) -> Result<(), EnvelopeError>
     ensures ok { OnOk result (read_header item_words header.now ≡ Some (header_view fields.new)) }
@@ -296,5 +245,28 @@ pub fn read_item_header_into(
     match FlatObject::parse(header) {
         Some(object) => read_object(alloc, &object, fields),
         None => read_general(alloc, header, scratch, fields),
+    }
+}
+
+// Parses any item header.
+#[cold]
+#[inline(never)]
+fn read_general(
+    alloc: Global,
+    header: &[u8],
+    scratch: &mut LazyScratch,
+    fields: &mut ItemHeader,
+) -> Result<(), EnvelopeError>
+    ensures ok { OnOk result (read_header item_words header.now ≡ Some (header_view fields.new)) }
+    ensures err { IfErr result (λ e. (e ≡ EnvelopeError.OutOfMemory)
+        ⊎ ((e ≡ EnvelopeError.InvalidItemHeader) × (read_header item_words header.now ≡ None))) }
+{
+    let Ok(scratch) = scratch.get() else {
+        return Err(EnvelopeError::OutOfMemory);
+    };
+    match fill_from_line(alloc, header, scratch, fields) {
+        Ok(()) => Ok(()),
+        Err(TreeError::Misfit) => Err(EnvelopeError::InvalidItemHeader),
+        Err(TreeError::Memory) => Err(EnvelopeError::OutOfMemory),
     }
 }
