@@ -9,10 +9,9 @@ use crate::reader::read_with;
 use crate::write::write_envelope;
 use rand_core::Rng;
 use sentry_event::Event;
-use sentry_framing::EnvelopeError;
+use sentry_framing::{EnvelopeError, LazyScratch};
 use sentry_items::EnvelopeItem;
 use sentry_items::counted::{CountedWriter, send, send_plain};
-use sentry_json::scratch;
 use sentry_members::Member;
 use sentry_moments::Moment;
 use std::alloc::{AllocError, AllocFailed, Global};
@@ -146,7 +145,7 @@ impl Envelope {
         ensures fault { IfErr result (λ x. x ≢ EnvelopeError.OutOfMemory →
             Fault profile bytes.now x) }
     {
-        read_with(alloc, bytes, now, ids, &mut scratch(alloc))
+        read_with(alloc, bytes, now, ids, &mut LazyScratch::new(alloc))
     }
 
     /// Reads a file, and parses the envelope in the file as [`Envelope::from_slice`] does.

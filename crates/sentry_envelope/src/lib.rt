@@ -11,6 +11,7 @@ mod filtering;
 pub mod headers;
 pub mod items;
 pub mod laws;
+mod lines;
 mod losses;
 mod plain;
 mod read;

@@ -17,12 +17,12 @@ ghost use Rattle.sentry_moments.specs.Moments.{moment_cell};
 ghost use Rattle.sentry_envelope.specs.SentryProfile.{profile};
 ghost use Rattle.sentry_framing.specs.View.{frame_of};
 
+use crate::lines::read_flat_line;
 use crate::timed::read_line_at_with;
-use json::Scratch;
 use rand_core::Rng;
 use sentry_event::{Event, Transaction};
 use sentry_framing::frames::next_item_into;
-use sentry_framing::{EnvelopeError, Frames, ItemFrame, ItemHeader, ItemKind};
+use sentry_framing::{EnvelopeError, Frames, ItemFrame, ItemHeader, ItemKind, LazyScratch};
 use sentry_items::{
     Attachment, AttachmentType, EnvelopeItem, ItemContainer, Listed, ReplayRecording,
 };
@@ -37,7 +37,7 @@ pub(crate) fn read_items<R: Rng>(
     frames: &mut Frames<'_>,
     now: Moment,
     ids: &mut R,
-    scratch: &mut Scratch,
+    scratch: &mut LazyScratch,
 ) -> Result<Vec<EnvelopeItem>, EnvelopeError>
     ensures ok { IfOk result (λ items.
         ItemsStand profile (moment_cell now) frames.old.rest (map item_view items.items) []) }
@@ -64,7 +64,7 @@ fn add_item<R: Rng>(
     header: &mut ItemHeader,
     now: Moment,
     ids: &mut R,
-    scratch: &mut Scratch,
+    scratch: &mut LazyScratch,
     items: &mut Vec<EnvelopeItem>,
 ) -> Result<(), EnvelopeError>
     requires { read_header item_words (frame_of frame.now).header ≡ Some (header_view header.old) }
@@ -120,7 +120,7 @@ fn add_json_item<R: Rng>(
     header: &ItemHeader,
     now: Moment,
     ids: &mut R,
-    scratch: &mut Scratch,
+    scratch: &mut LazyScratch,
     items: &mut Vec<EnvelopeItem>,
 ) -> Result<(), EnvelopeError>
     requires read { read_header item_words (frame_of frame.now).header ≡
@@ -143,7 +143,7 @@ fn read_json_item<R: Rng>(
     header: &ItemHeader,
     now: Moment,
     ids: &mut R,
-    scratch: &mut Scratch,
+    scratch: &mut LazyScratch,
 ) -> Result<EnvelopeItem, EnvelopeError>
     requires read { read_header item_words (frame_of frame.now).header ≡
         Some (header_view header.now) }
@@ -166,10 +166,12 @@ fn read_json_item<R: Rng>(
         ItemKind::Transaction => {
             transaction(alloc, read_value_at(alloc, payload, now, ids, scratch)?)
         }
-        ItemKind::MonitorCheckIn => Ok(EnvelopeItem::MonitorCheckIn(read_value(
+        ItemKind::MonitorCheckIn => Ok(EnvelopeItem::MonitorCheckIn(read_flat_value(
             alloc, payload, scratch,
         )?)),
-        ItemKind::UserReport => Ok(EnvelopeItem::UserReport(read_value(alloc, payload, scratch)?)),
+        ItemKind::UserReport => Ok(EnvelopeItem::UserReport(read_flat_value(
+            alloc, payload, scratch,
+        )?)),
         ItemKind::Logs => {
             let logs: Listed<Log> = read_value(alloc, payload, scratch)?;
             Ok(EnvelopeItem::ItemContainer(ItemContainer::Logs(logs.items)))
@@ -190,13 +192,34 @@ fn read_json_item<R: Rng>(
 fn read_value<T: FromTree>(
     alloc: Global,
     payload: &[u8],
-    scratch: &mut Scratch,
+    scratch: &mut LazyScratch,
 ) -> Result<T, EnvelopeError>
     ensures ok { IfOk result (λ value. TextShown T.kind payload.now (T.cell_of value)) }
     ensures err { IfErr result (λ e. (e ≡ EnvelopeError.OutOfMemory)
         ⊎ ((e ≡ EnvelopeError.InvalidItemPayload) × TextRefused T.kind payload.now)) }
 {
+    let Ok(scratch) = scratch.get() else {
+        return Err(EnvelopeError::OutOfMemory);
+    };
     match read_line_with(alloc, payload, scratch) {
+        Ok(value) => Ok(value),
+        Err(TreeError::Misfit) => Err(EnvelopeError::InvalidItemPayload),
+        Err(TreeError::Memory) => Err(EnvelopeError::OutOfMemory),
+    }
+}
+
+// Reads a payload that is mostly flat.
+#[inline(never)]
+fn read_flat_value<T: FromTree>(
+    alloc: Global,
+    payload: &[u8],
+    scratch: &mut LazyScratch,
+) -> Result<T, EnvelopeError>
+    ensures ok { IfOk result (λ value. TextShown T.kind payload.now (T.cell_of value)) }
+    ensures err { IfErr result (λ e. (e ≡ EnvelopeError.OutOfMemory)
+        ⊎ ((e ≡ EnvelopeError.InvalidItemPayload) × TextRefused T.kind payload.now)) }
+{
+    match read_flat_line(alloc, payload, scratch) {
         Ok(value) => Ok(value),
         Err(TreeError::Misfit) => Err(EnvelopeError::InvalidItemPayload),
         Err(TreeError::Memory) => Err(EnvelopeError::OutOfMemory),
@@ -209,7 +232,7 @@ fn read_value_at<T: FromTreeAt, R: Rng>(
     payload: &[u8],
     now: Moment,
     ids: &mut R,
-    scratch: &mut Scratch,
+    scratch: &mut LazyScratch,
 ) -> Result<T, EnvelopeError>
     ensures ok { IfOk result (λ value.
         TextShownAt (moment_cell now) T.kind payload.now (T.cell_of value)) }
@@ -217,6 +240,9 @@ fn read_value_at<T: FromTreeAt, R: Rng>(
         ⊎ ((e ≡ EnvelopeError.InvalidItemPayload) ×
         TextRefusedAt (moment_cell now) T.kind payload.now)) }
 {
+    let Ok(scratch) = scratch.get() else {
+        return Err(EnvelopeError::OutOfMemory);
+    };
     match read_line_at_with(alloc, payload, now, ids, scratch) {
         Ok(value) => Ok(value),
         Err(TreeError::Misfit) => Err(EnvelopeError::InvalidItemPayload),

@@ -11,22 +11,20 @@ use crate::envelope::{Contents, Envelope};
 use crate::filtering::first_id;
 use crate::headers::read_header_line;
 use crate::read::read_items;
-use json::Scratch;
 use rand_core::Rng;
-use sentry_framing::{EnvelopeError, Frames};
-use sentry_json::scratch;
+use sentry_framing::{EnvelopeError, Frames, LazyScratch};
 use sentry_moments::Moment;
 use std::alloc::Global;
 
 /// A reader that keeps its working memory from one envelope to the next.
 ///
 /// Whoever reads many envelopes makes one reader: [`Envelope::from_slice`] clears 16 KiB of working
-/// memory for each envelope, and asks for more where a line is long. The reader holds on to some
-/// four bytes for each byte of the longest line it has read.
+/// memory for each envelope with a line that isn't flat, and asks for more where a line is long. The
+/// reader holds on to some four bytes for each byte of the longest line it has read.
 #[derive(Drop)]
 pub struct EnvelopeReader {
     alloc: Global,
-    scratch: Scratch,
+    scratch: LazyScratch,
 }
 
 impl EnvelopeReader {
@@ -34,7 +32,7 @@ impl EnvelopeReader {
     pub fn new(alloc: Global) -> EnvelopeReader {
         EnvelopeReader {
             alloc,
-            scratch: scratch(alloc),
+            scratch: LazyScratch::new(alloc),
         }
     }
 
@@ -69,7 +67,7 @@ pub(crate) fn read_with<R: Rng>(
     bytes: &[u8],
     now: Moment,
     ids: &mut R,
-    scratch: &mut Scratch,
+    scratch: &mut LazyScratch,
 ) -> Result<Envelope, EnvelopeError>
     ensures spelled { IfOk result (λ e.
         IsSomeAnd (structured e) (Spells profile bytes.now (moment_cell now))) }

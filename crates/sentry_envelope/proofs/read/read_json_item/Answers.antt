@@ -49,25 +49,25 @@ returns-in_err-read_value_at-in-Transaction-clause-err g c =
     let p = err_from_is_err_and c.from_residual-in_err-read_value_at-in-Transaction.result c.from_residual-in_err-read_value_at-in-Transaction.ensures.1 in
     rw (p.1, p.2) (value_refused_at (frame_of c.args.frame.now) c.args.header.now c.requires.read (moment_cell c.args.now) kinds.Transaction (payload_kind kinds.Transaction) c.in-Transaction.is (alone refl) _ c.in_err-read_value_at-in-Transaction.ensures.err)
 
-pub returns-in_ok-read_value-in-MonitorCheckIn-clause-ok : goal.returns-in_ok-read_value-in-MonitorCheckIn-clause-ok
-returns-in_ok-read_value-in-MonitorCheckIn-clause-ok g c =
-    let read = c.in_ok-read_value-in-MonitorCheckIn in
+pub returns-in_ok-read_flat_value-in-MonitorCheckIn-clause-ok : goal.returns-in_ok-read_flat_value-in-MonitorCheckIn-clause-ok
+returns-in_ok-read_flat_value-in-MonitorCheckIn-clause-ok g c =
+    let read = c.in_ok-read_flat_value-in-MonitorCheckIn in
     value_read (frame_of c.args.frame.now) c.args.header.now c.requires.read (moment_cell c.args.now) kinds.MonitorCheckIn (payload_kind kinds.MonitorCheckIn) c.in-MonitorCheckIn.is (alone refl) _ (variants.MonitorCheckIn read.field-0) read.ensures.ok refl
 
-pub returns-in_err-read_value-in-MonitorCheckIn-clause-err : goal.returns-in_err-read_value-in-MonitorCheckIn-clause-err
-returns-in_err-read_value-in-MonitorCheckIn-clause-err g c =
-    let p = err_from_is_err_and c.from_residual-in_err-read_value-in-MonitorCheckIn.result c.from_residual-in_err-read_value-in-MonitorCheckIn.ensures.1 in
-    rw (p.1, p.2) (value_refused (frame_of c.args.frame.now) c.args.header.now c.requires.read (moment_cell c.args.now) kinds.MonitorCheckIn (payload_kind kinds.MonitorCheckIn) c.in-MonitorCheckIn.is (alone refl) _ c.in_err-read_value-in-MonitorCheckIn.ensures.err)
+pub returns-in_err-read_flat_value-in-MonitorCheckIn-clause-err : goal.returns-in_err-read_flat_value-in-MonitorCheckIn-clause-err
+returns-in_err-read_flat_value-in-MonitorCheckIn-clause-err g c =
+    let p = err_from_is_err_and c.from_residual-in_err-read_flat_value-in-MonitorCheckIn.result c.from_residual-in_err-read_flat_value-in-MonitorCheckIn.ensures.1 in
+    rw (p.1, p.2) (value_refused (frame_of c.args.frame.now) c.args.header.now c.requires.read (moment_cell c.args.now) kinds.MonitorCheckIn (payload_kind kinds.MonitorCheckIn) c.in-MonitorCheckIn.is (alone refl) _ c.in_err-read_flat_value-in-MonitorCheckIn.ensures.err)
 
-pub returns-in_ok-read_value-in-UserReport-clause-ok : goal.returns-in_ok-read_value-in-UserReport-clause-ok
-returns-in_ok-read_value-in-UserReport-clause-ok g c =
-    let read = c.in_ok-read_value-in-UserReport in
+pub returns-in_ok-read_flat_value-in-UserReport-clause-ok : goal.returns-in_ok-read_flat_value-in-UserReport-clause-ok
+returns-in_ok-read_flat_value-in-UserReport-clause-ok g c =
+    let read = c.in_ok-read_flat_value-in-UserReport in
     value_read (frame_of c.args.frame.now) c.args.header.now c.requires.read (moment_cell c.args.now) kinds.UserReport (payload_kind kinds.UserReport) c.in-UserReport.is (alone refl) _ (variants.UserReport read.field-0) read.ensures.ok refl
 
-pub returns-in_err-read_value-in-UserReport-clause-err : goal.returns-in_err-read_value-in-UserReport-clause-err
-returns-in_err-read_value-in-UserReport-clause-err g c =
-    let p = err_from_is_err_and c.from_residual-in_err-read_value-in-UserReport.result c.from_residual-in_err-read_value-in-UserReport.ensures.1 in
-    rw (p.1, p.2) (value_refused (frame_of c.args.frame.now) c.args.header.now c.requires.read (moment_cell c.args.now) kinds.UserReport (payload_kind kinds.UserReport) c.in-UserReport.is (alone refl) _ c.in_err-read_value-in-UserReport.ensures.err)
+pub returns-in_err-read_flat_value-in-UserReport-clause-err : goal.returns-in_err-read_flat_value-in-UserReport-clause-err
+returns-in_err-read_flat_value-in-UserReport-clause-err g c =
+    let p = err_from_is_err_and c.from_residual-in_err-read_flat_value-in-UserReport.result c.from_residual-in_err-read_flat_value-in-UserReport.ensures.1 in
+    rw (p.1, p.2) (value_refused (frame_of c.args.frame.now) c.args.header.now c.requires.read (moment_cell c.args.now) kinds.UserReport (payload_kind kinds.UserReport) c.in-UserReport.is (alone refl) _ c.in_err-read_flat_value-in-UserReport.ensures.err)
 
 pub returns-in_ok-logs-in-Logs-clause-ok : goal.returns-in_ok-logs-in-Logs-clause-ok
 returns-in_ok-logs-in-Logs-clause-ok g c =
