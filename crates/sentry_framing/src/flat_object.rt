@@ -186,7 +186,7 @@ fn digits_len(bytes: &[u8]) -> usize
     len
 }
 
-// Splits off a whole number of at most 19 digits.
+// Splits off a whole number of at most 10 digits.
 fn split_number(text: &str) -> Option<(u64, &str)>
     ensures { IfSome result (λ x. text.now ≡ compact_text (value_data (values.Number x.0)) ++ x.1.now) }
 {

@@ -67,8 +67,8 @@ one_more ds i n lt digit h =
 power_below : (i j : ℕ) → i ≤ j → 10 ^ i ≤ 10 ^ j
 power_below i j h = pow-le-pow_right {n = 10} (omega arith) h
 
-pub room : (i n : ℕ) → i < 19 → n < 10 ^ i → n * 10 + 9 < 2 ^ 64
-room i n lt below = omega (arith, power_below i 18 (omega arith), below)
+pub room : (i n : ℕ) → i < 10 → n < 10 ^ i → n * 10 + 9 < 2 ^ 64
+room i n lt below = omega (arith, power_below i 9 (omega arith), below)
 
 pub all_done : (ds : List ℕ) (i n : ℕ) → length ds ≤ i → IsSoFar ds i n → AllDigits 10 ds × (n ≡ digits_value 10 ds)
 all_done ds i n le h =
@@ -92,12 +92,12 @@ pub minus_digits : (s ds : List ℕ) → s ≡ 45 ∷ ds → IsNumeral 10 ds →
 minus_digits s ds is h some fits = ap number_of is ∙ minus_number (45 ∷ ds) refl ∙ ap (number_from true) (scan_digits ds h.1) ∙ rw (append-nil ds, lt-ltb 0 (length ds) h.0, lt-ltb 0 (digits_value 10 ds) some, le-leb (digits_value 10 ds) (2 ^ 63) fits) refl
 
 -- digits that fit
-pub short_fits : (ds : List ℕ) → IsNumeral 10 ds → length ds ≤ 19 → digits_value 10 ds < 2 ^ 64
-short_fits ds h le = omega (arith, power_below (length ds) 19 le, digits_value-lt 10 ds h.1)
+pub short_fits : (ds : List ℕ) → IsNumeral 10 ds → length ds ≤ 10 → digits_value 10 ds < 2 ^ 64
+short_fits ds h le = omega (arith, power_below (length ds) 10 le, digits_value-lt 10 ds h.1)
 
--- ---- the readings of 1 to 19 digits
+-- ---- the readings of 1 to 10 digits
 
-module _ (ds : List ℕ) (n : ℕ) (h : IsNumeral 10 ds) (le : length ds ≤ 19) (is : n ≡ digits_value 10 ds) where
+module _ (ds : List ℕ) (n : ℕ) (h : IsNumeral 10 ds) (le : length ds ≤ 10) (is : n ≡ digits_value 10 ds) where
   pub digits_u64 : option_and_then as_u64 (number_of ds) ≡ Some n
   digits_u64 = ap (option_and_then as_u64) (digits_number ds h (short_fits ds h le)) ∙ ap Some (sym is)
 
@@ -115,5 +115,5 @@ module _ (ds : List ℕ) (n : ℕ) (h : IsNumeral 10 ds) (le : length ds ≤ 19)
   minus_i64 s e (Some z) o =
       ap (option_and_then as_i64) (minus_digits s ds e h (rw is at o.0.0) (rw is at o.0.1)) ∙ ap (λ v. Some (with_sign true v)) (sym is) ∙ ap Some (sym o.1)
 
-pub digits_whole : (ds : List ℕ) → IsNumeral 10 ds → length ds ≤ 19 → is_whole_number ds ≡ true
+pub digits_whole : (ds : List ℕ) → IsNumeral 10 ds → length ds ≤ 10 → is_whole_number ds ≡ true
 digits_whole ds h le = plain_whole ds (first_is_digit ds h) ∙ ap is_some (digits_u64 ds (digits_value 10 ds) h le refl)

@@ -9,8 +9,8 @@ ghost use Rattle.sentry_json.specs.Tree.{is_whole_number};
 
 use fast_float::Numeral;
 
-// As many digits always fit `u64`.
-const SHORT: usize = 19;
+// As many digits are parsed one at a time, and always fit `u64`; `Numeral` parses more of them faster.
+const SHORT: usize = 10;
 
 fn has_minus(bytes: &[u8]) -> bool
     ensures value { result ≡ (slice_index bytes.now 0 == 45) }
@@ -19,9 +19,9 @@ fn has_minus(bytes: &[u8]) -> bool
     !bytes.is_empty() && bytes[0] == b'-'
 }
 
-// Whether the bytes are 1 to 19 digits.
+// Whether the bytes are 1 to 10 digits.
 fn are_digits(bytes: &[u8]) -> bool
-    ensures { IsTrue result → IsNumeral 10 bytes.now × (length bytes.now ≤ 19) }
+    ensures { IsTrue result → IsNumeral 10 bytes.now × (length bytes.now ≤ 10) }
 {
     for byte in bytes {
         if !byte.is_ascii_digit() {
@@ -31,9 +31,9 @@ fn are_digits(bytes: &[u8]) -> bool
     !bytes.is_empty() && bytes.len() <= SHORT
 }
 
-/// Parses 1 to 19 digits; `None` for other bytes.
+/// Parses 1 to 10 digits; `None` for other bytes.
 pub fn parse_digits(bytes: &[u8]) -> Option<u64>
-    ensures { IfSome result (λ number. IsNumeral 10 bytes.now × (length bytes.now ≤ 19)
+    ensures { IfSome result (λ number. IsNumeral 10 bytes.now × (length bytes.now ≤ 10)
         × (number ≡ digits_value 10 bytes.now)) }
 {
     if bytes.is_empty() || bytes.len() > SHORT {
@@ -103,7 +103,7 @@ fn negate(size: u64) -> Option<i64>
     }
 }
 
-// Parses a minus and 1 to 19 digits; `None` for other bytes, zero, and out of the range of `i64`.
+// Parses a minus and 1 to 10 digits; `None` for other bytes, zero, and out of the range of `i64`.
 fn parse_negative_digits(bytes: &[u8]) -> Option<i64>
     ensures { IfSome result (λ number.
         option_and_then as_i64 (number_of bytes.now) ≡ Some number) }
