@@ -5,9 +5,9 @@ use Rattle.std.proofs.lemmas.List.{drop_all, drop_more}
 use Rattle.std.proofs.lemmas.Bool.Decides.{nat_tests}
 use Rattle.std.proofs.lemmas.Float.Parse.{scan_numeral-text_of}
 use Rattle.std.proofs.lemmas.Int.Digits.{digits_value-lt}
-use Rattle.std.proofs.lemmas.Str.Parse.{digit_from_value}
+use Rattle.std.proofs.lemmas.Str.Parse.{digit_from_value, digit_at}
 use Rattle.std.proofs.Math.Nat.{pow-suc, pow-le-pow_right}
-use Rattle.std.specs.Char.{digit_value, IsAsciiDigit}
+use Rattle.std.specs.Char.{digit_value, IsAsciiDigit, IsNotAsciiDigit}
 use Rattle.std.specs.Str.Parse.{AllDigits, IsNumeral, digits_value, digits_value_after}
 use Rattle.fast_float.specs.Text.{Parts, IsWellFormed, scan, with_sign}
 use Rattle.serde_json.specs.Data.{unsigned, negative}
@@ -74,6 +74,9 @@ pub all_done : (ds : List ℕ) (i n : ℕ) → length ds ≤ i → IsSoFar ds i 
 all_done ds i n le h =
     let none : drop i ds ≡ [] = drop_all i ds le in
     (h.are (rw none tt), ap (digits_value_after 10 n) (sym none) ∙ h.is)
+
+pub no_numeral : (ds : List ℕ) (i : ℕ) → i < length ds → IsNotAsciiDigit (get_or ds i 0) → IsNumeral 10 ds → ⊥
+no_numeral ds i lt other h = let digit = digit_at ds i h.1 lt in omega arith
 
 pub some_bytes : (n : ℕ) → false ≡ (n == 0) → 0 < n
 some_bytes zero e = absurd (true≢false (sym e))

@@ -1,6 +1,6 @@
 //! Integers in JSON text: digits without a point or an exponent.
 
-ghost use Rattle.std.specs.Prelude.{◌≡◌, ◌^◌, ◌<◌, ◌≤◌, ◌==◌, option_and_then, slice_index, length, IfSome, IsTrue, SomeIff, Some, true, false};
+ghost use Rattle.std.specs.Prelude.{◌≡◌, ◌^◌, ◌<◌, ◌≤◌, ◌==◌, ◌↔◌, option_and_then, slice_index, length, IfSome, IsTrue, SomeIff, Some, true, false};
 ghost use Rattle.std.specs.Str.Parse.{digits_value, IsNumeral};
 ghost use Rattle.fast_float.specs.Text.{with_sign};
 ghost use Rattle.serde_json.specs.Find.{as_i64, as_u64};
@@ -21,7 +21,7 @@ fn has_minus(bytes: &[u8]) -> bool
 
 // Whether the bytes are 1 to 10 digits.
 fn are_digits(bytes: &[u8]) -> bool
-    ensures { IsTrue result → IsNumeral 10 bytes.now × (length bytes.now ≤ 10) }
+    ensures { IsTrue result ↔ (IsNumeral 10 bytes.now × (length bytes.now ≤ 10)) }
 {
     for byte in bytes {
         if !byte.is_ascii_digit() {
@@ -33,8 +33,8 @@ fn are_digits(bytes: &[u8]) -> bool
 
 /// Parses 1 to 10 digits; `None` for other bytes.
 pub fn parse_digits(bytes: &[u8]) -> Option<u64>
-    ensures { IfSome result (λ number. IsNumeral 10 bytes.now × (length bytes.now ≤ 10)
-        × (number ≡ digits_value 10 bytes.now)) }
+    ensures { SomeIff result (IsNumeral 10 bytes.now × (length bytes.now ≤ 10))
+        (digits_value 10 bytes.now) }
 {
     if bytes.is_empty() || bytes.len() > SHORT {
         return None;

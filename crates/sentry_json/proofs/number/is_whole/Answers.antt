@@ -7,7 +7,7 @@ use Rattle.sentry_json.proofs.number.is_whole.Goals as goal
 
 pub returns-then-are_digits : goal.returns-then-are_digits
 returns-then-are_digits c =
-    let digits = c.if-are_digits.ensures refl in
+    let digits = c.if-are_digits.ensures.0 refl in
     sym (digits_whole c.as_bytes-bytes.result.now digits.0 digits.1) ∙ ap is_whole_number c.as_bytes-bytes.ensures.value
 
 pub returns-then-has_minus : goal.returns-then-has_minus

@@ -11,9 +11,9 @@ returns-in-Ok c =
     let read = c.in-Some.ensures in
     let fits = c.in-Ok.ensures.0 in
     let value : to_z w64 (of_z w64 c.in-Ok.number) ≡ pos c.in-Some.number = to_z-of_z (subst (SFits w64) (sym c.in-Ok.ensures.1) fits) ∙ c.in-Ok.ensures.1 in
-    ap Some value ∙ sym (digits_i64 c.as_bytes-bytes.result.now c.in-Some.number read.0 read.1 read.2 fits.sfits) ∙ ap (λ t. option_and_then as_i64 (number_of t)) c.as_bytes-bytes.ensures.value
+    ap Some value ∙ sym (digits_i64 c.as_bytes-bytes.result.now c.in-Some.number read.0.0 read.0.1 read.1 fits.sfits) ∙ ap (λ t. option_and_then as_i64 (number_of t)) c.as_bytes-bytes.ensures.value
 
 pub returns-in-Err : goal.returns-in-Err
 returns-in-Err c =
     let read = c.in-Some.ensures in
-    sym (digits_past_i64 c.as_bytes-bytes.result.now c.in-Some.number read.0 read.1 read.2 (past_i64 c.in-Some.number c.in-Err.ensures)) ∙ ap (λ t. option_and_then as_i64 (number_of t)) c.as_bytes-bytes.ensures.value
+    sym (digits_past_i64 c.as_bytes-bytes.result.now c.in-Some.number read.0.0 read.0.1 read.1 (past_i64 c.in-Some.number c.in-Err.ensures)) ∙ ap (λ t. option_and_then as_i64 (number_of t)) c.as_bytes-bytes.ensures.value
