@@ -1,6 +1,8 @@
 -- Texts of digits only.
-use Rattle.std.proofs.Common.{add-one, ◌≡◌, ℕ, zero, suc, ◌+◌, ◌-◌, ◌*◌, ◌^◌, ◌<◌, ◌≤◌, ◌==◌, true, false, cond, List, [], ◌∷◌, length, get_or, drop, slice_index, Option, Some, None, IfSome, ℤ, pos, option_and_then, refl, sym, ap, subst, ◌∙◌, arith, true≢false, append-nil, lt-ltb, le-ltb, le-leb}
-use Rattle.std.specs.Prelude.{SomeIff, is_some}
+use Rattle.std.proofs.Common.{add-one, ◌≡◌, ℕ, zero, suc, ◌+◌, ◌-◌, ◌*◌, ◌^◌, ◌<◌, ◌≤◌, ◌==◌, true, false, cond, List, [], ◌∷◌, length, get_or, drop, slice_index, Some, None, pos, neg_ℤ, ◌-ℤ◌, SFits, w64, option_and_then, refl, sym, ap, subst, ◌∙◌, arith, true≢false, append-nil, lt-ltb, le-leb}
+use Rattle.std.specs.Prelude.{is_some}
+use mir.Val.{to_z}
+use Rattle.std.proofs.lemmas.Int.{ints, to_z_pos}
 use Rattle.std.proofs.lemmas.List.{drop_all, drop_more}
 use Rattle.std.proofs.lemmas.Bool.Decides.{nat_tests}
 use Rattle.std.proofs.lemmas.Float.Parse.{scan_numeral-text_of}
@@ -98,25 +100,37 @@ minus_digits s ds is h some fits = ap number_of is ∙ minus_number (45 ∷ ds) 
 pub short_fits : (ds : List ℕ) → IsNumeral 10 ds → length ds ≤ 10 → digits_value 10 ds < 2 ^ 64
 short_fits ds h le = omega (arith, power_below (length ds) 10 le, digits_value-lt 10 ds h.1)
 
+-- ---- a size and its negative in 64 bits
+
+zero_minus : (n : ℕ) → pos 0 -ℤ pos n ≡ neg_ℤ (pos n)
+zero_minus n = omega (arith, ints)
+
+negative_fits : (n : ℕ) → n < 2 ^ 63 → SFits w64 (neg_ℤ (pos n))
+negative_fits zero lt = record { sfits = lt }
+negative_fits (suc n) lt = record { sfits = omega arith }
+
+pub minus_is : (n : ℕ) → n < 2 ^ 63 → pos 0 -ℤ to_z w64 n ≡ neg_ℤ (pos n)
+minus_is n lt = ap (λ z. pos 0 -ℤ z) (to_z_pos w64 n lt) ∙ zero_minus n
+
+pub minus_fits : (n : ℕ) → n < 2 ^ 63 → SFits w64 (pos 0 -ℤ to_z w64 n)
+minus_fits n lt = subst (SFits w64) (sym (minus_is n lt)) (negative_fits n lt)
+
 -- ---- the readings of 1 to 10 digits
 
 module _ (ds : List ℕ) (n : ℕ) (h : IsNumeral 10 ds) (le : length ds ≤ 10) (is : n ≡ digits_value 10 ds) where
   pub digits_u64 : option_and_then as_u64 (number_of ds) ≡ Some n
   digits_u64 = ap (option_and_then as_u64) (digits_number ds h (short_fits ds h le)) ∙ ap Some (sym is)
 
-  as_small : option_and_then as_i64 (number_of ds) ≡ small n
-  as_small = ap (option_and_then as_i64) (digits_number ds h (short_fits ds h le)) ∙ ap small (sym is)
+  pub below_i64 : n < 2 ^ 63
+  below_i64 = omega (arith, is, power_below (length ds) 10 le, digits_value-lt 10 ds h.1)
 
-  pub digits_i64 : n < 2 ^ 63 → option_and_then as_i64 (number_of ds) ≡ Some (pos n)
-  digits_i64 lt = as_small ∙ ap (λ b. cond b (Some (pos n)) None) (lt-ltb n (2 ^ 63) lt)
+  pub digits_i64 : option_and_then as_i64 (number_of ds) ≡ Some (pos n)
+  digits_i64 =
+      ap (option_and_then as_i64) (digits_number ds h (short_fits ds h le)) ∙ ap small (sym is) ∙ ap (λ b. cond b (Some (pos n)) None) (lt-ltb n (2 ^ 63) below_i64)
 
-  pub digits_past_i64 : 2 ^ 63 ≤ n → option_and_then as_i64 (number_of ds) ≡ None
-  digits_past_i64 past = as_small ∙ ap (λ b. cond b (Some (pos n)) None) (le-ltb n (2 ^ 63) past)
-
-  pub minus_i64 : (s : List ℕ) → s ≡ 45 ∷ ds → (r : Option ℤ) → SomeIff r ((0 < n) × (n ≤ 2 ^ 63)) (with_sign true n) → IfSome r (λ z. option_and_then as_i64 (number_of s) ≡ Some z)
-  minus_i64 s e None o = tt
-  minus_i64 s e (Some z) o =
-      ap (option_and_then as_i64) (minus_digits s ds e h (rw is at o.0.0) (rw is at o.0.1)) ∙ ap (λ v. Some (with_sign true v)) (sym is) ∙ ap Some (sym o.1)
+  pub minus_i64 : (s : List ℕ) → s ≡ 45 ∷ ds → 0 < n → option_and_then as_i64 (number_of s) ≡ Some (neg_ℤ (pos n))
+  minus_i64 s e some =
+      ap (option_and_then as_i64) (minus_digits s ds e h (rw is at some) (omega (arith, is, below_i64))) ∙ ap (λ v. Some (neg_ℤ (pos v))) (sym is)
 
 pub digits_whole : (ds : List ℕ) → IsNumeral 10 ds → length ds ≤ 10 → is_whole_number ds ≡ true
 digits_whole ds h le = plain_whole ds (first_is_digit ds h) ∙ ap is_some (digits_u64 ds (digits_value 10 ds) h le refl)

@@ -1,15 +1,14 @@
 //! Integers in JSON text: digits without a point or an exponent.
 
-ghost use Rattle.std.specs.Prelude.{◌≡◌, ◌^◌, ◌<◌, ◌≤◌, ◌==◌, ◌↔◌, option_and_then, slice_index, length, IfSome, IsTrue, SomeIff, Some, true, false};
+ghost use Rattle.std.specs.Prelude.{◌≡◌, ◌<◌, ◌≤◌, ◌==◌, ◌↔◌, option_and_then, slice_index, length, IfSome, IsTrue, SomeIff, Some, true, false};
 ghost use Rattle.std.specs.Str.Parse.{digits_value, IsNumeral};
-ghost use Rattle.fast_float.specs.Text.{with_sign};
 ghost use Rattle.serde_json.specs.Find.{as_i64, as_u64};
 ghost use Rattle.serde_json.specs.Read.{number_from, number_of};
 ghost use Rattle.sentry_json.specs.Tree.{is_whole_number};
 
 use fast_float::Numeral;
 
-// As many digits are parsed one at a time, and always fit `u64`; `Numeral` parses more of them faster.
+// As many digits are parsed one at a time, and always fit `i64`; `Numeral` parses more of them faster.
 const SHORT: usize = 10;
 
 fn has_minus(bytes: &[u8]) -> bool
@@ -90,20 +89,7 @@ fn parse_any_signed(bytes: &[u8]) -> Option<i64>
     }
 }
 
-// Returns a number less than 0 by its size; `None` for 0, and out of the range of `i64`.
-fn negate(size: u64) -> Option<i64>
-    ensures { SomeIff result ((0 < size) × (size ≤ 2 ^ 63)) (with_sign true size) }
-{
-    if size == 0 {
-        None
-    } else if size <= 1 << 63 {
-        Some(-((size - 1) as i64) - 1)
-    } else {
-        None
-    }
-}
-
-// Parses a minus and 1 to 10 digits; `None` for other bytes, zero, and out of the range of `i64`.
+// Parses a minus and 1 to 10 digits; `None` for other bytes, and for zero: `-0` is a float.
 fn parse_negative_digits(bytes: &[u8]) -> Option<i64>
     ensures { IfSome result (λ number.
         option_and_then as_i64 (number_of bytes.now) ≡ Some number) }
@@ -111,7 +97,10 @@ fn parse_negative_digits(bytes: &[u8]) -> Option<i64>
     let Some((b'-', digits)) = bytes.split_first() else {
         return None;
     };
-    negate(parse_digits(digits)?)
+    match parse_digits(digits)? {
+        0 => None,
+        size => Some(-(size as i64)),
+    }
 }
 
 // Parses a JSON number; `None` unless it is an integer in the range of `u64`, without a sign.
@@ -131,10 +120,7 @@ pub(crate) fn parse_signed(text: &str) -> Option<i64>
 {
     let bytes = text.as_bytes();
     if let Some(number) = parse_digits(bytes) {
-        return match i64::try_from(number) {
-            Ok(number) => Some(number),
-            Err(_) => None,
-        };
+        return Some(number as i64);
     }
     match parse_negative_digits(bytes) {
         Some(number) => Some(number),
