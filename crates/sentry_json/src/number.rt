@@ -8,7 +8,8 @@ ghost use Rattle.sentry_json.specs.Tree.{is_whole_number};
 
 use fast_float::Numeral;
 
-// As many digits are parsed one at a time, and always fit `i64`; `Numeral` parses more of them faster.
+// As many digits are parsed one at a time, and always fit `i64`. `Numeral` parses eight at a time,
+// which is faster for more.
 const SHORT: usize = 10;
 
 fn has_minus(bytes: &[u8]) -> bool
