@@ -223,10 +223,7 @@ impl OrganizationId {
     fn of_text(text: &str) -> Result<OrganizationId, TreeError>
         ensures { ReadsSpelling organization_spelling organization_cell text.now result }
     {
-        match text.parse() {
-            Ok(id) => Ok(id),
-            Err(_) => Err(TreeError::Misfit),
-        }
+        text.parse().map_err(|_| TreeError::Misfit)
     }
 
     // The text of the id, in `room`.
