@@ -8,8 +8,9 @@ use Rattle.uuid.specs.Text.{lower, parsed_simple, parsed_hyphenated, hyphenated_
 use Rattle.uuid.proofs.TextLemmas.{hyphenated_ascii}
 use Rattle.sentry_tables.specs.Cell.{Cell, octets, choice}
 use Rattle.sentry_tables.specs.Lawful.{IsLawful, IsNormal, RefusesNull}
+use Rattle.sentry_tables.specs.Laws.{HasLaws}
 use Rattle.sentry_members.specs.Spelling.{SpellingLaws}
-use Rattle.sentry_members.proofs.Spellings.{read_as_laws, spelled_laws, spelled_refuses_null}
+use Rattle.sentry_members.proofs.Spellings.{read_as_laws, spelled_laws, spelled_has_laws, spelled_refuses_null}
 use Rattle.sentry_identifiers.specs.DebugId.{IsAppendix, debug_id_of, debug_id_text, appendix_text}
 use Rattle.sentry_identifiers.specs.DebugIdTree.{debug_cell, IsDebugCell, debug_text, debug_spelling, debug_kind}
 use Rattle.sentry_identifiers.proofs.UuidLaws.{Bytes, gives_simple, gives_hyphenated}
@@ -75,6 +76,9 @@ debug_laws = read_as_laws _ debug_text IsDebugCell (value_laws debug_id_of to_te
 
 pub debug_lawful : IsLawful debug_kind
 debug_lawful = spelled_laws debug_spelling debug_laws
+
+pub debug_has_laws : HasLaws debug_kind
+debug_has_laws = spelled_has_laws debug_spelling debug_laws
 
 pub debug_refuses_null : RefusesNull debug_kind
 debug_refuses_null = spelled_refuses_null debug_spelling

@@ -6,5 +6,4 @@ pub mod CodeIdTrees
 pub mod DebugIdTrees
 pub mod UuidLaws
 pub mod UuidTexts
-pub mod UuidsWritten
 pub mod Lengths

@@ -1,5 +1,5 @@
 -- UUIDs as texts read back.
-use Rattle.std.proofs.Common.{◌≡◌, ◌==◌, ◌&&◌, ◌+◌, ◌*◌, ◌<◌, ℕ, List, [], ◌∷◌, length, nat_lt, Bool, true, false, if◌then◌else◌, get_or, slice_index, take, drop, eqb-true, Option, Some, None, option_map, inl, refl, sym, ap, subst, arith, IsUtf8}
+use Rattle.std.proofs.Common.{◌≡◌, ◌==◌, ◌&&◌, ◌+◌, ◌*◌, ◌<◌, ℕ, List, [], ◌∷◌, length, nat_lt, Bool, true, false, if◌then◌else◌, get_or, slice_index, take, drop, eqb-true, Option, Some, None, inl, refl, sym, subst, arith}
 use Rattle.std.specs.Prelude.{All}
 use Rattle.std.specs.List.{list_all}
 use Rattle.std.proofs.lemmas.Bool.{and_parts}
@@ -16,6 +16,7 @@ use Rattle.sentry_tables.specs.Kind.{draw}
 use Rattle.sentry_tables.specs.Lawful.{ScalarLaws, RefusesNull, IsNormal, RuleLaws}
 use Rattle.sentry_members.specs.Spelling.{spelled}
 use Rattle.sentry_members.proofs.Spellings.{WordLaws, read_as_laws, spelled_laws, spelled_refuses_null}
+use Rattle.sentry_text.proofs.ValueTexts.{value_laws}
 use Rattle.sentry_identifiers.specs.Uuids.{IsUuid, IsRandomUuid, uuid_of, uuid_spelling, uuid_kind, hyphenated, simple}
 
 -- ---- what a text is read as has sixteen bytes
@@ -76,62 +77,47 @@ gives_bytes s =
 
 -- ---- the laws of a written form
 
--- what is stored is the bytes of an id
-of_bytes : (P : Cell → Type 0) → ((b : List ℕ) → Bytes b → P (octets b)) → (c : Cell) → IsUuid c → P c
-of_bytes P f (octets b) h = f b h
-of_bytes P f _ h = absurd h
+of_octets : (c : Cell) → IsUuid c → (b : List ℕ) × Bytes b × (octets b ≡ c)
+of_octets (octets b) h = (b, h, refl)
+of_octets _ h = absurd h
 
--- and so is what is read
-parsed_as : (P : Cell → Type 0) → (o : Option (List ℕ)) (c : Cell) → ((b : List ℕ) → o ≡ Some b → P (octets b)) → option_map octets o ≡ Some c → P c
-parsed_as P None c f e = absurd (cc)
-parsed_as P (Some b) c f e = subst P (same_Some (octets b) c e) (f b refl)
-
--- A form whose texts parse to their bytes, and are ASCII.
-pub record IsForm (to_text : Cell → List ℕ) : Type 0 where
-  pub parses : (b : List ℕ) → Bytes b → Some b ≡ parsed (to_text (octets b))
-  pub ascii : (b : List ℕ) → IsAscii (to_text (octets b))
-
-module _ (to_text : Cell → List ℕ) (form : IsForm to_text) where
-  back : (b : List ℕ) → Bytes b → uuid_of (to_text (octets b)) ≡ Some (octets b)
-  back b h = ap (option_map octets) (sym (form.parses b h))
-
-  pub uuid_back : (c : Cell) → IsUuid c → uuid_of (to_text c) ≡ Some c
-  uuid_back c p = of_bytes (λ c. uuid_of (to_text c) ≡ Some c) back c p
-
-  id_laws : WordLaws uuid_of to_text IsUuid
-  id_laws = record {
-    reads = uuid_back;
-    stored = λ s c utf8 e. parsed_as IsUuid (parsed s) c (gives_bytes s) e;
-    utf8 = of_bytes (λ c. IsUtf8 (to_text c)) (λ b h. IsUtf8-from_ascii (to_text (octets b)) (form.ascii b));
-  }
-
-  form_laws : ScalarLaws (spelled (uuid_spelling to_text))
-  form_laws = spelled_laws (uuid_spelling to_text) (read_as_laws uuid_of to_text IsUuid id_laws)
+-- of one whose texts parse to their bytes, and are ASCII
+form_laws : (to_text : Cell → List ℕ) → ((b : List ℕ) → Bytes b → Some b ≡ parsed (to_text (octets b))) → ((b : List ℕ) → IsAscii (to_text (octets b)))
+    → WordLaws uuid_of to_text IsUuid
+form_laws to_text parses ascii =
+    value_laws parsed (λ b. to_text (octets b)) Bytes octets to_text IsUuid (record {
+      value = of_octets;
+      stored = λ b h. h;
+      text = λ b h. refl;
+      back = λ b h. sym (parses b h);
+      held = gives_bytes;
+      utf8 = λ b h. IsUtf8-from_ascii (to_text (octets b)) (ascii b);
+    })
 
 -- ---- with hyphens, and without
 
-hyphenated_form : IsForm hyphenated
-hyphenated_form = record { parses = λ b h. parses_hyphenated lower b (inl refl) h.0 h.1; ascii = λ b. hyphenated_ascii lower b (inl refl) }
+hyphenated_form : WordLaws uuid_of hyphenated IsUuid
+hyphenated_form = form_laws hyphenated (λ b h. parses_hyphenated lower b (inl refl) h.0 h.1) (λ b. hyphenated_ascii lower b (inl refl))
 
-simple_form : IsForm simple
-simple_form = record { parses = λ b h. parses_simple lower b (inl refl) h.0 h.1; ascii = λ b. simple_ascii lower b (inl refl) }
+simple_form : WordLaws uuid_of simple IsUuid
+simple_form = form_laws simple (λ b h. parses_simple lower b (inl refl) h.0 h.1) (λ b. simple_ascii lower b (inl refl))
 
 pub hyphenated_laws : ScalarLaws (spelled (uuid_spelling hyphenated))
-hyphenated_laws = form_laws hyphenated hyphenated_form
+hyphenated_laws = spelled_laws (uuid_spelling hyphenated) (read_as_laws uuid_of hyphenated IsUuid hyphenated_form)
 
 pub simple_laws : ScalarLaws (spelled (uuid_spelling simple))
-simple_laws = form_laws simple simple_form
-
-pub uuid_refuses_null : (to_text : Cell → List ℕ) → RefusesNull (uuid_kind to_text)
-uuid_refuses_null to_text = spelled_refuses_null (uuid_spelling to_text)
+simple_laws = spelled_laws (uuid_spelling simple) (read_as_laws uuid_of simple IsUuid simple_form)
 
 pub hyphenated_back : (id : Cell) → IsUuid id → uuid_of (hyphenated id) ≡ Some id
-hyphenated_back = uuid_back hyphenated hyphenated_form
+hyphenated_back = hyphenated_form.reads
 
 pub simple_back : (id : Cell) → IsUuid id → uuid_of (simple id) ≡ Some id
-simple_back = uuid_back simple simple_form
+simple_back = simple_form.reads
 
 -- ---- what may be drawn
+
+uuid_refuses_null : (to_text : Cell → List ℕ) → RefusesNull (uuid_kind to_text)
+uuid_refuses_null to_text = spelled_refuses_null (uuid_spelling to_text)
 
 pub uuid_normal : (to_text : Cell → List ℕ) (id : Cell) → IsUuid id → IsNormal (uuid_kind to_text) id
 uuid_normal to_text id h = (h, tt, tt, refl)

@@ -1,5 +1,6 @@
 -- What texts show as UUIDs.
-use Rattle.std.proofs.Common.{◌≡◌, ℕ, List, Option, Some, None, option_map, Ok, Err, refl, ap}
+use Rattle.std.proofs.Common.{◌≡◌, ℕ, List, Some, option_map, Ok, Err, ap}
+use Rattle.std.proofs.NetLemmas.Options.{map_some}
 use Rattle.serde_json.specs.Data.{Data}
 use Rattle.serde_json.specs.Find.{as_str}
 use Rattle.uuid.specs.Text.{parsed}
@@ -13,9 +14,5 @@ module _ (to_text : Cell → List ℕ) where
   pub uuid_shown : (text b : List ℕ) (d : Data) → as_str d ≡ Some text → parsed text ≡ Some b → Shown (uuid_kind to_text) d (octets b)
   uuid_shown text b d is reads = text_read (uuid_spelling to_text) octets text d (Ok b) is (ap (option_map octets) reads)
 
-  no_bytes : (o : Option (List ℕ)) (c : Cell) → ((b : List ℕ) → o ≡ Some b → ⊥) → option_map octets o ≡ Some c → ⊥
-  no_bytes None c none e = absurd cc
-  no_bytes (Some b) c none e = none b refl
-
   pub not_uuid : (text : List ℕ) (d : Data) → as_str d ≡ Some text → ((b : List ℕ) → parsed text ≡ Some b → ⊥) → Refused (uuid_kind to_text) d
-  not_uuid text d is none = text_read (uuid_spelling to_text) octets text d (Err Misfit) is (λ c. no_bytes (parsed text) c none)
+  not_uuid text d is none = text_read (uuid_spelling to_text) octets text d (Err Misfit) is (λ c e. map_some octets (parsed text) c e (λ b same _. none b same))

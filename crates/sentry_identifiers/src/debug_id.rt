@@ -2,6 +2,7 @@
 
 ghost use Rattle.std.specs.Prelude.{◌≡◌, Some};
 ghost use Rattle.sentry_identifiers.specs.DebugId.{id_size, appendix_of, debug_id_of, appendix_text, debug_id_text, debug_parts};
+ghost use Rattle.sentry_identifiers.specs.DebugIdTree.{debug_cell, debug_spelling};
 ghost use Rattle.sentry_text.specs.Number.{ReadsAs};
 
 use crate::bytes::are_bytes;
@@ -137,17 +138,12 @@ impl Formed for DebugId {
 }
 
 impl Spelled for DebugId {
-    ghost use Rattle.sentry_identifiers.specs.DebugIdTree.{debug_cell, debug_spelling};
-
     ghost spelling = { debug_spelling };
 
     ghost cell_of = { λ id. debug_cell (debug_parts id) };
 
     fn of_text(_alloc: Global, text: &str) -> Result<DebugId, TreeError> {
-        match text.parse::<DebugId>() {
-            Ok(id) => Ok(id),
-            Err(_) => Err(TreeError::Misfit),
-        }
+        text.parse().map_err(|_| TreeError::Misfit)
     }
 
     #[tactic(auto, using(crate::proofs::Lengths::debug_id_fits))]

@@ -59,6 +59,7 @@ pub fn debug_ids()
 {}
 
 /// Code identifiers.
+#[tactic(auto, using(crate::proofs::CodeIds::kept_are_digits, crate::proofs::CodeIds::digits_are_kept))]
 pub fn code_ids()
     ensures digits { (text : List ℕ) → IsTrue (are_code_digits (code_digits text)) }
     ensures read_back { (digits : List ℕ) → IsTrue (are_code_digits digits) →
@@ -74,6 +75,7 @@ pub fn hex_id_trees()
 {}
 
 /// Debug identifiers in trees; each is its own normal form.
+#[tactic(auto, using(crate::proofs::DebugIdTrees::debug_has_laws, crate::proofs::DebugIdTrees::debug_refuses_null, crate::proofs::DebugIdTrees::debug_normal))]
 pub fn debug_id_trees()
     ensures laws { HasLaws debug_kind }
     ensures no_null { RefusesNull debug_kind }
@@ -81,6 +83,7 @@ pub fn debug_id_trees()
 {}
 
 /// Code identifiers in trees; each is its own normal form.
+#[tactic(auto, using(crate::proofs::CodeIdTrees::code_has_laws, crate::proofs::CodeIdTrees::code_refuses_null, crate::proofs::CodeIdTrees::code_normal))]
 pub fn code_id_trees()
     ensures laws { HasLaws code_kind }
     ensures no_null { RefusesNull code_kind }

@@ -111,10 +111,7 @@ impl Spelled for SpanId {
 
     #[tactic(auto, using(crate::proofs::HexIdTrees::id_spelled, crate::proofs::HexIdTrees::none_spelled))]
     fn of_text(_alloc: Global, text: &str) -> Result<SpanId, TreeError> {
-        match text.parse() {
-            Ok(id) => Ok(id),
-            Err(_) => Err(TreeError::Misfit),
-        }
+        text.parse().map_err(|_| TreeError::Misfit)
     }
 
     #[tactic(auto, using(crate::proofs::Lengths::hex_id_fits))]

@@ -33,14 +33,12 @@ impl Codec<Uuid> for Hyphenated {
 
     #[tactic(auto, unfolding(sentry_members::specs::Written::written))]
     fn to_tree(value: &Uuid, alloc: Global) -> Result<Value, AllocError> {
-        let mut buffer = [0; 36];
-        Value::try_from_str(alloc, value.hyphenated().encode_lower(&mut buffer))
+        Value::try_from_str(alloc, value.hyphenated().encode_lower(&mut [0; 36]))
     }
 
-    #[tactic(auto, using(crate::proofs::UuidsWritten::hyphenated_wrote))]
+    #[tactic(auto, using(sentry_members::proofs::Spellings::spelling_wrote))]
     fn write(value: &Uuid, out: &mut Writer) -> Result<(), AllocError> {
-        let mut buffer = [0; 36];
-        out.string(value.hyphenated().encode_lower(&mut buffer))
+        out.string(value.hyphenated().encode_lower(&mut [0; 36]))
     }
 
     #[tactic(auto, using(sentry_members::proofs::Ways::unchanged))]
@@ -65,14 +63,12 @@ impl Codec<Uuid> for Simple {
 
     #[tactic(auto, unfolding(sentry_members::specs::Written::written))]
     fn to_tree(value: &Uuid, alloc: Global) -> Result<Value, AllocError> {
-        let mut buffer = [0; 32];
-        Value::try_from_str(alloc, value.simple().encode_lower(&mut buffer))
+        Value::try_from_str(alloc, value.simple().encode_lower(&mut [0; 32]))
     }
 
-    #[tactic(auto, using(crate::proofs::UuidsWritten::simple_wrote))]
+    #[tactic(auto, using(sentry_members::proofs::Spellings::spelling_wrote))]
     fn write(value: &Uuid, out: &mut Writer) -> Result<(), AllocError> {
-        let mut buffer = [0; 32];
-        out.string(value.simple().encode_lower(&mut buffer))
+        out.string(value.simple().encode_lower(&mut [0; 32]))
     }
 
     #[tactic(auto, using(sentry_members::proofs::Ways::unchanged))]

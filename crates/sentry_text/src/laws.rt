@@ -108,6 +108,7 @@ pub fn ordered_errors()
 {}
 
 /// Each text has its words, and no others.
+#[tactic(auto, using(crate::proofs::CrontabSplits::some_words, crate::proofs::CrontabSplits::same_words))]
 pub fn words()
     ensures some { (text : List ℕ) → IsUtf8 text → (words : List (List ℕ)) × SplitsInto text words }
     ensures same { (text : List ℕ) (a b : List (List ℕ)) → SplitsInto text a → SplitsInto text b →
@@ -121,12 +122,14 @@ pub fn addresses()
 {}
 
 /// IP addresses.
+#[tactic(auto, using(crate::proofs::Ips::ip_of_iff, crate::proofs::Ips::written_ip))]
 pub fn ips()
     ensures texts { (text : List ℕ) (ip : IpAddr) → ip_of text ≡ Some ip ↔ IsIpText text ip }
     ensures read_back { (ip : IpAddr) → IsStoredIp ip → ip_of (ip_text ip) ≡ Some ip }
 {}
 
 /// IP addresses of users.
+#[tactic(auto, using(crate::proofs::Ips::ip_address_of_iff, crate::proofs::Ips::written_ip_address))]
 pub fn ip_addresses()
     ensures texts { (text : List ℕ) (a : IpAddress) → ip_address_of text ≡ Some a ↔
         IsIpAddress text a }
@@ -219,6 +222,7 @@ pub fn special_urls_are_readable()
 {}
 
 /// Two readable URLs are equal exactly where their parts are the same.
+#[tactic(auto, using(crate::proofs::UrlTrees::urls_decide))]
 pub fn equal_urls()
     ensures { (a b : Parts) → UrlReadsBack a → UrlReadsBack b → ⟦<Url as PartialEq>⟧.eq a b ≡ true ↔
         (a ≡ b) }

@@ -2,7 +2,9 @@
 
 ghost use Rattle.std.specs.Prelude.{◌≡◌, ◌↔◌, [], IfOk, IsErrOf, Some, decimal};
 ghost use Rattle.sentry_text.specs.Number.{ReadsAs, number_of};
-ghost use Rattle.sentry_text.specs.ProjectTree.{project_spelling, organization_kind, organization_spelling, organization_text_kind};
+ghost use Rattle.sentry_text.specs.ProjectId.{project_text, organization_value};
+ghost use Rattle.sentry_text.specs.ProjectTree.{project_cell, project_spelling, organization_cell, organization_kind, organization_spelling, organization_text_kind};
+ghost use Rattle.sentry_text.specs.declared.project_id.ParseProjectIdError.TheVariants.{Memory};
 ghost use Rattle.sentry_members.specs.Spelling.{ReadsSpelling};
 
 use crate::number::{ParseNumberError, parse_number};
@@ -37,8 +39,6 @@ pub enum ParseProjectIdError {
 }
 
 impl From<AllocError> for ParseProjectIdError {
-    ghost use Rattle.sentry_text.specs.declared.project_id.ParseProjectIdError.TheVariants.{Memory};
-
     ghost from_gives = { λ _ e. e ≡ Memory };
 
     fn from(_error: AllocError) -> ParseProjectIdError {
@@ -47,8 +47,6 @@ impl From<AllocError> for ParseProjectIdError {
 }
 
 impl ProjectId {
-    ghost use Rattle.sentry_text.specs.ProjectId.{project_text};
-
     /// The id of this text, whatever it is.
     ///
     /// # Errors
@@ -99,8 +97,6 @@ impl ProjectId {
 }
 
 impl fmt::Display for ProjectId {
-    ghost use Rattle.sentry_text.specs.ProjectId.{project_text};
-
     ghost output = { λ id. Some (project_text id) };
 
     fn fmt<W: fmt::Write>(&self, f: &mut fmt::Formatter<W>) -> fmt::Result {
@@ -114,8 +110,6 @@ impl Formed for ProjectId {
 }
 
 impl Spelled for ProjectId {
-    ghost use Rattle.sentry_text.specs.ProjectTree.{project_cell};
-
     ghost spelling = { project_spelling };
 
     ghost cell_of = { project_cell };
@@ -146,8 +140,6 @@ impl Spelled for ProjectId {
 pub struct OrganizationId(u64);
 
 impl OrganizationId {
-    ghost use Rattle.sentry_text.specs.ProjectId.{organization_value};
-
     /// The number.
     pub fn value(&self) -> u64
         ensures { result ≡ organization_value self.now }
@@ -157,8 +149,6 @@ impl OrganizationId {
 }
 
 impl From<u64> for OrganizationId {
-    ghost use Rattle.sentry_text.specs.ProjectId.{organization_value};
-
     ghost from_gives = { λ n id. organization_value id ≡ n };
 
     fn from(number: u64) -> OrganizationId {
@@ -168,8 +158,6 @@ impl From<u64> for OrganizationId {
 
 impl FromStr for OrganizationId {
     type Err = ParseNumberError;
-
-    ghost use Rattle.sentry_text.specs.ProjectId.{organization_value};
 
     ghost from_str_gives = { ReadsAs (number_of 10) organization_value };
 
@@ -184,8 +172,6 @@ impl FromStr for OrganizationId {
 }
 
 impl fmt::Display for OrganizationId {
-    ghost use Rattle.sentry_text.specs.ProjectId.{organization_value};
-
     ghost output = { λ id. Some (decimal (organization_value id)) };
 
     fn fmt<W: fmt::Write>(&self, f: &mut fmt::Formatter<W>) -> fmt::Result {
@@ -195,8 +181,6 @@ impl fmt::Display for OrganizationId {
 
 /// An organization's id stands in a tree as a number.
 impl Member for OrganizationId {
-    ghost use Rattle.sentry_text.specs.ProjectTree.{organization_cell};
-
     ghost kind = { organization_kind };
 
     ghost cell_of = { organization_cell };
@@ -235,17 +219,11 @@ impl FromTree for OrganizationId {
 pub struct OrganizationText;
 
 impl OrganizationId {
-    ghost use Rattle.sentry_text.specs.ProjectId.{organization_value};
-    ghost use Rattle.sentry_text.specs.ProjectTree.{organization_cell};
-
     // The id that a text spells.
     fn of_text(text: &str) -> Result<OrganizationId, TreeError>
         ensures { ReadsSpelling organization_spelling organization_cell text.now result }
     {
-        match text.parse() {
-            Ok(id) => Ok(id),
-            Err(_) => Err(TreeError::Misfit),
-        }
+        text.parse().map_err(|_| TreeError::Misfit)
     }
 
     // The text of the id, in `room`.
@@ -259,8 +237,6 @@ impl OrganizationId {
 }
 
 impl Codec<OrganizationId> for OrganizationText {
-    ghost use Rattle.sentry_text.specs.ProjectTree.{organization_cell};
-
     ghost kind = { organization_text_kind };
 
     ghost cell_of = { organization_cell };
