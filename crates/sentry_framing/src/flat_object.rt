@@ -1,16 +1,17 @@
 //! Flat objects: JSON objects without white space and escapes, whose values are null, booleans,
 //! whole numbers and strings. They need no tape.
 
-ghost use Rattle.std.specs.Prelude.{◌≡◌, ◌++◌, ◌∷◌, ◌≤◌, Some, ℕ, IfSome, IsTrue, true, take, length, All};
+ghost use Rattle.std.specs.Prelude.{◌≡◌, ◌++◌, ◌∷◌, ◌≤◌, Some, ℕ, IfSome, IsTrue, true, length, All};
 ghost use Rattle.serde_json.specs.Data.{Members, boolean};
 ghost use Rattle.serde_json.specs.Written.{compact_text, members_text};
 ghost use Rattle.json.specs.Print.{quoted};
 ghost use Rattle.sentry_json.specs.Line.{tree_of};
-ghost use Rattle.sentry_framing.specs.FlatObjects.{AreFlat, IsFlat, IsPlain, put_all};
+ghost use Rattle.sentry_framing.specs.FlatObjects.{AreFlat, IsFlat, IsSimple, put_all};
 ghost use Rattle.sentry_framing.specs.FlatView.{members_after, object_data, value_data};
 ghost use Rattle.sentry_framing.specs.declared.flat_object.FlatValue.TheVariants as values;
 
 use arrayvec::ArrayVec;
+use memchr::memchr;
 use sentry_json::number::parse_digits;
 use std::str;
 
@@ -61,6 +62,9 @@ impl<'a> FlatObject<'a> {
             return None;
         };
         let inside = after_byte(text, b'{')?;
+        if !are_simple(inside.as_bytes()) {
+            return None;
+        }
         let mut members = ArrayVec::new();
         if inside == "}" {
             return Some(FlatObject { members });
@@ -73,9 +77,30 @@ impl<'a> FlatObject<'a> {
     }
 }
 
+// Tells whether the byte stands for itself in a string, unless it is a quote. The bytes that open a
+// nested object or array are left out too, so that a line with one inside is refused at once.
+#[inline]
+fn is_simple(byte: u8) -> bool
+    ensures { IsTrue result → IsSimple byte }
+{
+    byte >= 0x20 && byte != b'\\' && byte != b'{' && byte != b'['
+}
+
+// Tests every byte without an early exit, so that it is compiled to vector instructions.
+fn are_simple(bytes: &[u8]) -> bool
+    ensures { IsTrue result → All IsSimple bytes.now }
+{
+    let mut simple = true;
+    for byte in bytes {
+        simple &= is_simple(*byte);
+    }
+    simple
+}
+
 // Appends the members in `text`, up to the brace that ends the text; these are at least one, and at
 // most one more than `most`.
 fn take_members<'a>(text: &'a str, most: usize, members: &mut ArrayVec<FlatMember<'a>, 8>) -> bool
+    requires { All IsSimple text.now }
     ensures { IsTrue result → (ms : Members)
         × (44 ∷ text.now ≡ members_text true ms) × AreFlat ms × ((before : Members)
         → members_after before members.new.items
@@ -98,6 +123,7 @@ fn take_members<'a>(text: &'a str, most: usize, members: &mut ArrayVec<FlatMembe
 
 // Splits off a member.
 fn split_member(text: &str) -> Option<(FlatMember<'_>, &str)>
+    requires { All IsSimple text.now }
     ensures text { IfSome result (λ x. text.now
         ≡ quoted x.0.key.now ++ (58 ∷ (compact_text (value_data x.0.value) ++ x.1.now))) }
     ensures flat { IfSome result (λ x. IsFlat (value_data x.0.value)) }
@@ -109,6 +135,7 @@ fn split_member(text: &str) -> Option<(FlatMember<'_>, &str)>
 
 // Splits off a value.
 fn split_value(text: &str) -> Option<(FlatValue<'_>, &str)>
+    requires { All IsSimple text.now }
     ensures text { IfSome result (λ x. text.now ≡ compact_text (value_data x.0) ++ x.1.now) }
     ensures flat { IfSome result (λ x. IsFlat (value_data x.0)) }
 {
@@ -147,28 +174,13 @@ fn after_word<'a>(text: &'a str, word: &str) -> Option<&'a str>
     if front == word { Some(rest) } else { None }
 }
 
-// Counts the bytes at the front that stand for themselves in a string.
-fn plain_len(bytes: &[u8]) -> usize
-    ensures within { result ≤ length bytes.now }
-    ensures plain { All IsPlain (take result bytes.now) }
-{
-    let mut len = 0;
-    while len < bytes.len() {
-        let byte = bytes[len];
-        if byte < 0x20 || byte == b'"' || byte == b'\\' {
-            break;
-        }
-        len += 1;
-    }
-    len
-}
-
-// Splits off a string in quotes, without escapes.
+// Splits off a string in quotes.
 fn split_text(text: &str) -> Option<(&str, &str)>
+    requires { All IsSimple text.now }
     ensures { IfSome result (λ x. text.now ≡ quoted x.0.now ++ x.1.now) }
 {
     let inside = after_byte(text, b'"')?;
-    let (text, after) = inside.split_at_checked(plain_len(inside.as_bytes()))?;
+    let (text, after) = inside.split_at_checked(memchr(b'"', inside.as_bytes())?)?;
     Some((text, after_byte(after, b'"')?))
 }
 
