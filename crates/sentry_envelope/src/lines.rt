@@ -20,8 +20,10 @@ pub(crate) fn read_flat_line<T: FromTree>(
 ) -> Result<T, TreeError>
     ensures { ReadsText T.kind T.cell_of line.now result }
 {
-    match FlatObject::parse(line) {
-        Some(object) => T::from_node(alloc, &FlatNode::Object(&object)),
-        None => read_line_with(alloc, line, scratch.get()?),
+    let mut object = FlatObject::new();
+    if object.read(line) {
+        T::from_node(alloc, &FlatNode::Object(&object))
+    } else {
+        read_line_with(alloc, line, scratch.get()?)
     }
 }

@@ -1,5 +1,5 @@
 -- Flat objects are read as they are written.
-use Rattle.std.proofs.Common.{◌≡◌, ◌≤◌, ◌<◌, ◌^◌, ◌+◌, ℕ, zero, suc, List, [], ◌∷◌, ◌++◌, length, get_or, take, drop, IsUtf8, Bool, ◌==◌, eqb-true, true, false, Some, option_map, option_and_then, refl, sym, ap, ◌∙◌, arith, append-nil, append_assoc}
+use Rattle.std.proofs.Common.{◌≡◌, ◌≤◌, ◌<◌, ◌^◌, ℕ, zero, suc, List, [], ◌∷◌, ◌++◌, length, get_or, take, drop, IsUtf8, Bool, ◌==◌, eqb-true, true, false, Some, option_map, option_and_then, refl, sym, ap, ◌∙◌, arith, append-nil, append_assoc}
 use Rattle.std.specs.List.{All}
 use Rattle.std.proofs.lemmas.List.{nil_from_length, take-append-drop, drop_at}
 use Rattle.std.specs.Str.Parse.{IsNumeral, digits_value}

@@ -2,7 +2,7 @@
 //! whole numbers and strings. They need no tape.
 
 ghost use Rattle.std.specs.Prelude.{◌≡◌, ◌++◌, ◌∷◌, ◌≤◌, Some, ℕ, IfSome, IsTrue, true, length, All};
-ghost use Rattle.serde_json.specs.Data.{Members, boolean};
+ghost use Rattle.serde_json.specs.Data.{Members, boolean, no_members, object};
 ghost use Rattle.serde_json.specs.Written.{compact_text, members_text};
 ghost use Rattle.json.specs.Print.{quoted};
 ghost use Rattle.sentry_json.specs.Line.{tree_of};
@@ -54,26 +54,34 @@ pub struct FlatObject<'a> {
 }
 
 impl<'a> FlatObject<'a> {
-    /// Parses a line that is a flat object of at most eight members; `None` for other lines.
-    pub fn parse(line: &'a [u8]) -> Option<FlatObject<'a>>
-        ensures { IfSome result (λ object. tree_of line.now ≡ Some (object_data object)) }
+    /// Creates an object without members.
+    pub fn new() -> FlatObject<'a>
+        ensures { object_data result ≡ object no_members }
     {
+        FlatObject {
+            members: ArrayVec::new(),
+        }
+    }
+
+    /// Reads a line that is a flat object of at most eight members, in place of the members before,
+    /// and tells whether it is one. An object has some 300 bytes: it is filled where it stands, since
+    /// returning it would copy them.
+    ///
+    /// After `false` some members may be set.
+    pub fn read(&mut self, line: &'a [u8]) -> bool
+        ensures { IsTrue result → tree_of line.now ≡ Some (object_data self.new) }
+    {
+        self.members.clear();
         let Ok(text) = str::from_utf8(line) else {
-            return None;
+            return false;
         };
-        let inside = after_byte(text, b'{')?;
+        let Some(inside) = after_byte(text, b'{') else {
+            return false;
+        };
         if !are_simple(inside.as_bytes()) {
-            return None;
+            return false;
         }
-        let mut members = ArrayVec::new();
-        if inside == "}" {
-            return Some(FlatObject { members });
-        }
-        if take_members(inside, MOST, &mut members) {
-            Some(FlatObject { members })
-        } else {
-            None
-        }
+        inside == "}" || take_members(inside, MOST, &mut self.members)
     }
 }
 
