@@ -7,7 +7,7 @@ use Rattle.std.specs.Prelude.{decimal}
 use Rattle.std.proofs.lemmas.Fmt.{decimal-digits_value}
 use Rattle.std.proofs.lemmas.Str.Parse.{numerals_by_value, tells_digits}
 use Rattle.std.proofs.lemmas.List.Elements.{All-head, All-tail, All-rest, All-same, All-drop}
-use Rattle.memchr.specs.Find.{Nowhere, NoneBefore, Passes, is_byte}
+use Rattle.memchr.specs.Find.{Nowhere, Passes, is_byte}
 use Rattle.json.specs.Json as json
 use Rattle.json.specs.Tree as tree
 use Rattle.json.specs.Lex.{tokens}
@@ -120,9 +120,9 @@ byte_split text more rest first byte is same cut = is ∙ ap (λ b. b ∷ more) 
 pub parted : (xs front back : List ℕ) (n : ℕ) → front ≡ take n xs → back ≡ drop n xs → xs ≡ front ++ back
 parted xs front back n is rest = sym (take-append-drop n xs) ∙ sym (ap (λ f. f ++ drop n xs) is) ∙ ap (λ r. front ++ r) (sym rest)
 
-pub text_split : (bytes inside after text rest : List ℕ) (n : ℕ) → bytes ≡ 34 ∷ inside → text ≡ take n inside → after ≡ drop n inside → after ≡ 34 ∷ rest → All IsSimple bytes → NoneBefore (Passes (is_byte 34) inside) 0 (length inside) n → bytes ≡ quoted text ++ rest
-text_split bytes inside after text rest n first same cut last simple none =
-    let kept : escape text ≡ text = ap escape same ∙ plain_text inside n (All-rest IsSimple 34 inside bytes first simple) (omega (arith, none.high)) none.before ∙ sym same in
+pub text_split : (bytes inside after text rest : List ℕ) (n : ℕ) → bytes ≡ 34 ∷ inside → text ≡ take n inside → after ≡ drop n inside → after ≡ 34 ∷ rest → All IsSimple bytes → n ≤ length inside → Nowhere (Passes (is_byte 34) inside) 0 n → bytes ≡ quoted text ++ rest
+text_split bytes inside after text rest n first same cut last simple within none =
+    let kept : escape text ≡ text = ap escape same ∙ plain_text inside n (All-rest IsSimple 34 inside bytes first simple) within none ∙ sym same in
     first ∙ ap (λ s. 34 ∷ s) (parted inside text after n same cut ∙ ap (λ s. text ++ s) last) ∙ rw kept (ap (λ s. 34 ∷ s) (sym (append_assoc text (34 ∷ []) rest)))
 
 pub number_split : (bytes digits rest : List ℕ) (n : ℕ) → bytes ≡ digits ++ rest → IsNumeral 10 digits → n ≡ digits_value 10 digits → digits_value 10 digits < 2 ^ 64 → (get_or digits 0 0 ≡ 48 → length digits ≡ 1) → bytes ≡ decimal n ++ rest

@@ -5,6 +5,7 @@ ghost use Rattle.std.specs.Prelude.{◌≡◌, ◌++◌, ◌∷◌, ◌≤◌, S
 ghost use Rattle.serde_json.specs.Data.{Members, boolean, no_members, object};
 ghost use Rattle.serde_json.specs.Written.{compact_text, members_text};
 ghost use Rattle.json.specs.Print.{quoted};
+ghost use Rattle.memchr.specs.Find.{Nowhere, Passes, is_byte};
 ghost use Rattle.sentry_json.specs.Line.{tree_of};
 ghost use Rattle.sentry_framing.specs.FlatObjects.{AreFlat, IsFlat, IsSimple, put_all};
 ghost use Rattle.sentry_framing.specs.FlatView.{members_after, object_data, value_data};
@@ -136,7 +137,7 @@ fn split_member(text: &str) -> Option<(FlatMember<'_>, &str)>
         ≡ quoted x.0.key.now ++ (58 ∷ (compact_text (value_data x.0.value) ++ x.1.now))) }
     ensures flat { IfSome result (λ x. IsFlat (value_data x.0.value)) }
 {
-    let (key, after) = split_text(text)?;
+    let (key, after) = split_key(text)?;
     let (value, rest) = split_value(after_byte(after, b':')?)?;
     Some((FlatMember { key, value }, rest))
 }
@@ -180,6 +181,28 @@ fn after_word<'a>(text: &'a str, word: &str) -> Option<&'a str>
 {
     let (front, rest) = text.split_at_checked(word.len())?;
     if front == word { Some(rest) } else { None }
+}
+
+// Counts the bytes before the first quote, one by one: keys are too short for `memchr` to be faster.
+fn key_len(bytes: &[u8]) -> usize
+    ensures within { result ≤ length bytes.now }
+    ensures none { Nowhere (Passes (is_byte 34) bytes.now) 0 result }
+{
+    let mut len = 0;
+    while len < bytes.len() && bytes[len] != b'"' {
+        len += 1;
+    }
+    len
+}
+
+// Splits off a key in quotes.
+fn split_key(text: &str) -> Option<(&str, &str)>
+    requires { All IsSimple text.now }
+    ensures { IfSome result (λ x. text.now ≡ quoted x.0.now ++ x.1.now) }
+{
+    let inside = after_byte(text, b'"')?;
+    let (key, after) = inside.split_at_checked(key_len(inside.as_bytes()))?;
+    Some((key, after_byte(after, b'"')?))
 }
 
 // Splits off a string in quotes.
