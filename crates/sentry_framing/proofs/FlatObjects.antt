@@ -1,12 +1,13 @@
 -- Flat objects are read as they are written.
-use Rattle.std.proofs.Common.{◌≡◌, ◌≤◌, ◌<◌, ◌^◌, ℕ, List, [], ◌∷◌, ◌++◌, length, get_or, take, drop, IsUtf8, Bool, ◌==◌, eqb-true, true, false, Some, option_map, option_and_then, refl, sym, ap, ◌∙◌, arith, append-nil, append_assoc}
-use Rattle.std.specs.List.{All, AllByRecursion}
-use Rattle.std.proofs.lemmas.List.{nil_from_length, take-append-drop}
+use Rattle.std.proofs.Common.{◌≡◌, ◌≤◌, ◌<◌, ◌^◌, ℕ, zero, suc, List, [], ◌∷◌, ◌++◌, length, get_or, take, drop, IsUtf8, Bool, ◌==◌, eqb-true, true, false, Some, option_map, option_and_then, refl, sym, ap, ◌∙◌, arith, append-nil, append_assoc}
+use Rattle.std.specs.List.{All}
+use Rattle.std.proofs.lemmas.List.{nil_from_length, take-append-drop, drop_at}
 use Rattle.std.specs.Str.Parse.{IsNumeral, digits_value}
 use Rattle.std.specs.Prelude.{decimal}
 use Rattle.std.proofs.lemmas.Fmt.{decimal-digits_value}
 use Rattle.std.proofs.lemmas.Str.Parse.{numerals_by_value, tells_digits}
-use Rattle.std.proofs.lemmas.List.Elements.{recursion_from_All}
+use Rattle.std.proofs.lemmas.List.Elements.{All-head, All-tail, All-rest, All-same, All-drop}
+use Rattle.memchr.specs.Find.{Nowhere, Passes, is_byte}
 use Rattle.json.specs.Json as json
 use Rattle.json.specs.Tree as tree
 use Rattle.json.specs.Lex.{tokens}
@@ -23,7 +24,7 @@ use Rattle.serde_json.proofs.Texts.{print-outline}
 use Rattle.sentry_json.specs.Line.{tree_of}
 use Rattle.sentry_json.proofs.Lines.{tree_of_from}
 use Rattle.sentry_json.proofs.Trees.{put_no_float}
-use Rattle.sentry_framing.specs.FlatObjects.{IsPlain, IsFlat, AreFlat, put_all}
+use Rattle.sentry_framing.specs.FlatObjects.{IsSimple, IsFlat, AreFlat, put_all}
 
 -- ---- flat values
 
@@ -98,9 +99,19 @@ object_line line ms h text is = tree_of_from line (object (put_all ms no_members
 
 -- ---- their texts
 
-plain_text : (xs : List ℕ) → AllByRecursion IsPlain xs → escape xs ≡ xs
-plain_text [] h = refl
-plain_text (x ∷ xs) h = rw (escape_byte_plain x h.0.1 h.0.2 h.0.0, plain_text xs h.1) refl
+-- bytes without a quote among simple ones
+plain_text : (xs : List ℕ) (n : ℕ) → All IsSimple xs → n ≤ length xs → Nowhere (Passes (is_byte 34) xs) 0 n → escape (take n xs) ≡ take n xs
+plain_text xs zero h le none = refl
+plain_text [] (suc n) h le none = refl
+plain_text (x ∷ xs) (suc n) h le none =
+    let here = All-head IsSimple x xs h in
+    rw (escape_byte_plain x (λ e. none 0 (omega arith) (omega arith) (ap (λ b. b == 34) e)) here.1 here.0, plain_text xs n (All-tail IsSimple x xs h) (omega arith) (λ k low high is. none (suc k) (omega arith) (omega arith) is)) refl
+
+pub simple_behind : (xs front back : List ℕ) → xs ≡ front ++ back → All IsSimple xs → All IsSimple back
+simple_behind xs front back is h = All-same IsSimple back (drop (length front) xs) (sym (ap (drop (length front)) is ∙ drop_at front back (length front) refl)) (All-drop IsSimple (length front) xs h)
+
+pub simple_member : (xs key value rest : List ℕ) → xs ≡ quoted key ++ 58 ∷ (value ++ rest) → All IsSimple xs → All IsSimple rest
+simple_member xs key value rest is h = simple_behind (value ++ rest) value rest refl (All-tail IsSimple 58 (value ++ rest) (simple_behind xs (quoted key) (58 ∷ (value ++ rest)) is h))
 
 -- a byte, and what is behind it
 pub byte_split : (text more rest : List ℕ) (first byte : ℕ) → text ≡ first ∷ more → first ≡ byte → rest ≡ drop 1 text → text ≡ byte ∷ rest
@@ -109,9 +120,9 @@ byte_split text more rest first byte is same cut = is ∙ ap (λ b. b ∷ more) 
 pub parted : (xs front back : List ℕ) (n : ℕ) → front ≡ take n xs → back ≡ drop n xs → xs ≡ front ++ back
 parted xs front back n is rest = sym (take-append-drop n xs) ∙ sym (ap (λ f. f ++ drop n xs) is) ∙ ap (λ r. front ++ r) (sym rest)
 
-pub text_split : (bytes inside after text rest : List ℕ) (n : ℕ) → bytes ≡ 34 ∷ inside → text ≡ take n inside → after ≡ drop n inside → after ≡ 34 ∷ rest → All IsPlain (take n inside) → bytes ≡ quoted text ++ rest
-text_split bytes inside after text rest n first same cut last plain =
-    let kept : escape text ≡ text = ap escape same ∙ plain_text _ (recursion_from_All IsPlain _ plain) ∙ sym same in
+pub text_split : (bytes inside after text rest : List ℕ) (n : ℕ) → bytes ≡ 34 ∷ inside → text ≡ take n inside → after ≡ drop n inside → after ≡ 34 ∷ rest → All IsSimple bytes → n ≤ length inside → Nowhere (Passes (is_byte 34) inside) 0 n → bytes ≡ quoted text ++ rest
+text_split bytes inside after text rest n first same cut last simple within none =
+    let kept : escape text ≡ text = ap escape same ∙ plain_text inside n (All-rest IsSimple 34 inside bytes first simple) within none ∙ sym same in
     first ∙ ap (λ s. 34 ∷ s) (parted inside text after n same cut ∙ ap (λ s. text ++ s) last) ∙ rw kept (ap (λ s. 34 ∷ s) (sym (append_assoc text (34 ∷ []) rest)))
 
 pub number_split : (bytes digits rest : List ℕ) (n : ℕ) → bytes ≡ digits ++ rest → IsNumeral 10 digits → n ≡ digits_value 10 digits → digits_value 10 digits < 2 ^ 64 → (get_or digits 0 0 ≡ 48 → length digits ≡ 1) → bytes ≡ decimal n ++ rest

@@ -2,9 +2,9 @@
 use Rattle.std.specs.Prelude.{ℕ, ◌<◌, ◌≤◌, ◌≢◌, ◌^◌, ⊤}
 use Rattle.serde_json.specs.Data.{unsigned, Data, null, boolean, number, string, array, object, Members, no_members, member, put}
 
--- the byte stands for itself in a string
-abbrev pub IsPlain : ℕ → Type 0
-IsPlain b = (32 ≤ b) × (b ≢ 34) × (b ≢ 92)
+-- the byte stands for itself in a string, unless it is the quote: it is no control byte and no backslash
+abbrev pub IsSimple : ℕ → Type 0
+IsSimple b = (32 ≤ b) × (b ≢ 92)
 
 -- null, a boolean, a whole number that 64 bits hold, or a text
 abbrev pub IsFlat : Data → Type 0

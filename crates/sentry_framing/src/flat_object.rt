@@ -1,16 +1,18 @@
 //! Flat objects: JSON objects without white space and escapes, whose values are null, booleans,
 //! whole numbers and strings. They need no tape.
 
-ghost use Rattle.std.specs.Prelude.{◌≡◌, ◌++◌, ◌∷◌, ◌≤◌, Some, ℕ, IfSome, IsTrue, true, take, length, All};
-ghost use Rattle.serde_json.specs.Data.{Members, boolean};
+ghost use Rattle.std.specs.Prelude.{◌≡◌, ◌++◌, ◌∷◌, ◌≤◌, Some, ℕ, IfSome, IsTrue, true, length, All};
+ghost use Rattle.serde_json.specs.Data.{Members, boolean, no_members, object};
 ghost use Rattle.serde_json.specs.Written.{compact_text, members_text};
 ghost use Rattle.json.specs.Print.{quoted};
+ghost use Rattle.memchr.specs.Find.{Nowhere, Passes, is_byte};
 ghost use Rattle.sentry_json.specs.Line.{tree_of};
-ghost use Rattle.sentry_framing.specs.FlatObjects.{AreFlat, IsFlat, IsPlain, put_all};
+ghost use Rattle.sentry_framing.specs.FlatObjects.{AreFlat, IsFlat, IsSimple, put_all};
 ghost use Rattle.sentry_framing.specs.FlatView.{members_after, object_data, value_data};
 ghost use Rattle.sentry_framing.specs.declared.flat_object.FlatValue.TheVariants as values;
 
 use arrayvec::ArrayVec;
+use memchr::memchr;
 use sentry_json::number::parse_digits;
 use std::str;
 
@@ -53,29 +55,61 @@ pub struct FlatObject<'a> {
 }
 
 impl<'a> FlatObject<'a> {
-    /// Parses a line that is a flat object of at most eight members; `None` for other lines.
-    pub fn parse(line: &'a [u8]) -> Option<FlatObject<'a>>
-        ensures { IfSome result (λ object. tree_of line.now ≡ Some (object_data object)) }
+    /// Creates an object without members.
+    pub fn new() -> FlatObject<'a>
+        ensures { object_data result ≡ object no_members }
     {
-        let Ok(text) = str::from_utf8(line) else {
-            return None;
-        };
-        let inside = after_byte(text, b'{')?;
-        let mut members = ArrayVec::new();
-        if inside == "}" {
-            return Some(FlatObject { members });
-        }
-        if take_members(inside, MOST, &mut members) {
-            Some(FlatObject { members })
-        } else {
-            None
+        FlatObject {
+            members: ArrayVec::new(),
         }
     }
+
+    /// Reads a line that is a flat object of at most eight members, in place of the members before,
+    /// and tells whether it is one. An object has some 300 bytes: it is filled where it stands, since
+    /// returning it would copy them.
+    ///
+    /// After `false` some members may be set.
+    pub fn read(&mut self, line: &'a [u8]) -> bool
+        ensures { IsTrue result → tree_of line.now ≡ Some (object_data self.new) }
+    {
+        self.members.clear();
+        let Ok(text) = str::from_utf8(line) else {
+            return false;
+        };
+        let Some(inside) = after_byte(text, b'{') else {
+            return false;
+        };
+        if !are_simple(inside.as_bytes()) {
+            return false;
+        }
+        inside == "}" || take_members(inside, MOST, &mut self.members)
+    }
+}
+
+// Tells whether the byte stands for itself in a string, unless it is a quote. The bytes that open a
+// nested object or array are left out too, so that a line with one inside is refused at once.
+#[inline]
+fn is_simple(byte: u8) -> bool
+    ensures { IsTrue result → IsSimple byte }
+{
+    byte >= 0x20 && byte != b'\\' && byte != b'{' && byte != b'['
+}
+
+// Tests every byte without an early exit, so that it is compiled to vector instructions.
+fn are_simple(bytes: &[u8]) -> bool
+    ensures { IsTrue result → All IsSimple bytes.now }
+{
+    let mut simple = true;
+    for byte in bytes {
+        simple &= is_simple(*byte);
+    }
+    simple
 }
 
 // Appends the members in `text`, up to the brace that ends the text; these are at least one, and at
 // most one more than `most`.
 fn take_members<'a>(text: &'a str, most: usize, members: &mut ArrayVec<FlatMember<'a>, 8>) -> bool
+    requires { All IsSimple text.now }
     ensures { IsTrue result → (ms : Members)
         × (44 ∷ text.now ≡ members_text true ms) × AreFlat ms × ((before : Members)
         → members_after before members.new.items
@@ -98,17 +132,19 @@ fn take_members<'a>(text: &'a str, most: usize, members: &mut ArrayVec<FlatMembe
 
 // Splits off a member.
 fn split_member(text: &str) -> Option<(FlatMember<'_>, &str)>
+    requires { All IsSimple text.now }
     ensures text { IfSome result (λ x. text.now
         ≡ quoted x.0.key.now ++ (58 ∷ (compact_text (value_data x.0.value) ++ x.1.now))) }
     ensures flat { IfSome result (λ x. IsFlat (value_data x.0.value)) }
 {
-    let (key, after) = split_text(text)?;
+    let (key, after) = split_key(text)?;
     let (value, rest) = split_value(after_byte(after, b':')?)?;
     Some((FlatMember { key, value }, rest))
 }
 
 // Splits off a value.
 fn split_value(text: &str) -> Option<(FlatValue<'_>, &str)>
+    requires { All IsSimple text.now }
     ensures text { IfSome result (λ x. text.now ≡ compact_text (value_data x.0) ++ x.1.now) }
     ensures flat { IfSome result (λ x. IsFlat (value_data x.0)) }
 {
@@ -147,28 +183,35 @@ fn after_word<'a>(text: &'a str, word: &str) -> Option<&'a str>
     if front == word { Some(rest) } else { None }
 }
 
-// Counts the bytes at the front that stand for themselves in a string.
-fn plain_len(bytes: &[u8]) -> usize
+// Counts the bytes before the first quote, one by one: keys are too short for `memchr` to be faster.
+fn key_len(bytes: &[u8]) -> usize
     ensures within { result ≤ length bytes.now }
-    ensures plain { All IsPlain (take result bytes.now) }
+    ensures none { Nowhere (Passes (is_byte 34) bytes.now) 0 result }
 {
     let mut len = 0;
-    while len < bytes.len() {
-        let byte = bytes[len];
-        if byte < 0x20 || byte == b'"' || byte == b'\\' {
-            break;
-        }
+    while len < bytes.len() && bytes[len] != b'"' {
         len += 1;
     }
     len
 }
 
-// Splits off a string in quotes, without escapes.
-fn split_text(text: &str) -> Option<(&str, &str)>
+// Splits off a key in quotes.
+fn split_key(text: &str) -> Option<(&str, &str)>
+    requires { All IsSimple text.now }
     ensures { IfSome result (λ x. text.now ≡ quoted x.0.now ++ x.1.now) }
 {
     let inside = after_byte(text, b'"')?;
-    let (text, after) = inside.split_at_checked(plain_len(inside.as_bytes()))?;
+    let (key, after) = inside.split_at_checked(key_len(inside.as_bytes()))?;
+    Some((key, after_byte(after, b'"')?))
+}
+
+// Splits off a string in quotes.
+fn split_text(text: &str) -> Option<(&str, &str)>
+    requires { All IsSimple text.now }
+    ensures { IfSome result (λ x. text.now ≡ quoted x.0.now ++ x.1.now) }
+{
+    let inside = after_byte(text, b'"')?;
+    let (text, after) = inside.split_at_checked(memchr(b'"', inside.as_bytes())?)?;
     Some((text, after_byte(after, b'"')?))
 }
 

@@ -242,9 +242,11 @@ pub(crate) fn read_fields(
     ensures err { IfErr result (λ e. (e ≡ EnvelopeError.OutOfMemory)
         ⊎ ((e ≡ EnvelopeError.InvalidItemHeader) × (read_header item_words header.now ≡ None))) }
 {
-    match FlatObject::parse(header) {
-        Some(object) => read_object(alloc, &object, fields),
-        None => read_general(alloc, header, scratch, fields),
+    let mut object = FlatObject::new();
+    if object.read(header) {
+        read_object(alloc, &object, fields)
+    } else {
+        read_general(alloc, header, scratch, fields)
     }
 }
 

@@ -21,18 +21,18 @@ impl LazyScratch {
     /// Returns the working memory. `AllocError` if it isn't made yet and an allocation fails.
     pub fn get(&mut self) -> Result<&mut Scratch, AllocError> {
         if self.made.is_none() {
-            self.made = Some(boxed(self.alloc)?);
+            self.made = Some(make_scratch(self.alloc)?);
         }
         match &mut self.made {
             Some(scratch) => Ok(scratch.as_mut()),
-            None => Err(AllocError),
+            None => unreachable!(),
         }
     }
 }
 
 #[cold]
 #[inline(never)]
-fn boxed(alloc: Global) -> Result<Box<Scratch>, AllocError> {
+fn make_scratch(alloc: Global) -> Result<Box<Scratch>, AllocError> {
     match Box::new(alloc, scratch(alloc)) {
         Ok(scratch) => Ok(scratch),
         Err(_) => Err(AllocError),

@@ -75,6 +75,7 @@ impl<'t, N: Node> Reader<'t, N> {
 
     /// Returns the value of `read`, or `stand_in` if `read` is an error; the first error is
     /// remembered.
+    #[inline(always)]
     pub fn keep<X: Drop>(&mut self, read: Result<X, TreeError>, stand_in: X) -> X
         ensures { Keeps read result self.old self.new }
     {
@@ -92,6 +93,7 @@ impl<'t, N: Node> Reader<'t, N> {
 
     /// Reads a required member with the codec `F`; `Misfit` if absent.
     #[tactic(auto, using(crate::proofs::Reading::field_kept))]
+    #[inline(always)]
     pub fn required_as<F: ReadCodec<X>, X: Drop>(&mut self, key: &str, stand_in: X) -> X
         ensures { ReadsField N.data_of key.now must F.kind (F.cell_of result) self.old self.new }
     {
@@ -100,6 +102,7 @@ impl<'t, N: Node> Reader<'t, N> {
     }
 
     /// Reads a required member; `Misfit` if absent.
+    #[inline(always)]
     pub fn required<X: FromTree>(&mut self, key: &str, stand_in: X) -> X
         ensures { ReadsField N.data_of key.now must X.kind (X.cell_of result) self.old self.new }
     {
@@ -108,6 +111,7 @@ impl<'t, N: Node> Reader<'t, N> {
 
     /// Reads an optional member with the codec `F`; `None` if absent or null.
     #[tactic(auto, using(crate::proofs::Reading::field_kept))]
+    #[inline(always)]
     pub fn optional_as<F: ReadCodec<X>, X: Drop>(&mut self, key: &str) -> Option<X>
         ensures { ReadsField N.data_of key.now may F.kind
             (option_cell F.cell_of result) self.old self.new }
@@ -117,6 +121,7 @@ impl<'t, N: Node> Reader<'t, N> {
     }
 
     /// Reads an optional member; `None` if absent or null.
+    #[inline(always)]
     pub fn optional<X: FromTree>(&mut self, key: &str) -> Option<X>
         ensures { ReadsField N.data_of key.now may X.kind
             (option_cell X.cell_of result) self.old self.new }
@@ -126,6 +131,7 @@ impl<'t, N: Node> Reader<'t, N> {
 
     /// Reads an optional member that is written as null when `None`; `None` if absent or null.
     #[tactic(auto, using(crate::proofs::Reading::field_or_null))]
+    #[inline(always)]
     pub fn optional_or_null<X: FromTree>(&mut self, key: &str) -> Option<X>
         ensures { ReadsField N.data_of key.now may_null X.kind
             (option_cell X.cell_of result) self.old self.new }
@@ -135,6 +141,7 @@ impl<'t, N: Node> Reader<'t, N> {
 
     /// Reads an optional member that rejects null, with the codec `F`; `None` if absent.
     #[tactic(auto, using(crate::proofs::Reading::field_kept))]
+    #[inline(always)]
     pub fn optional_strict_as<F: ReadCodec<X>, X: Drop>(&mut self, key: &str) -> Option<X>
         ensures { ReadsField N.data_of key.now may_strict F.kind
             (option_cell F.cell_of result) self.old self.new }
@@ -145,6 +152,7 @@ impl<'t, N: Node> Reader<'t, N> {
 
     /// Reads a member; defaults to `default`.
     #[tactic(auto, using(crate::proofs::Reading::default_kept, crate::proofs::Reading::field_ready, crate::proofs::RowLemmas::default_absent))]
+    #[inline(always)]
     pub fn or<X: FromTree>(&mut self, key: &str, default: X) -> X
         ensures { ReadsField N.data_of key.now (default_rule (X.cell_of default)) X.kind
             (X.cell_of result) self.old self.new }
@@ -158,6 +166,7 @@ impl<'t, N: Node> Reader<'t, N> {
 
     /// Reads a member that is always written; defaults to `default`.
     #[tactic(auto, using(crate::proofs::Reading::field_always))]
+    #[inline(always)]
     pub fn written_or<X: FromTree>(&mut self, key: &str, default: X) -> X
         ensures { ReadsField N.data_of key.now (always (X.cell_of default)) X.kind
             (X.cell_of result) self.old self.new }
@@ -167,6 +176,7 @@ impl<'t, N: Node> Reader<'t, N> {
 
     /// Reads a member with the codec `F`; defaults to the default of `F`.
     #[tactic(auto, using(crate::proofs::Reading::field_kept))]
+    #[inline(always)]
     pub fn made_as<F: MadeCodec<X>, X: Drop>(&mut self, key: &str, stand_in: X) -> X
         ensures { ReadsField N.data_of key.now (default_rule F.usual) F.kind
             (F.cell_of result) self.old self.new }
@@ -176,6 +186,7 @@ impl<'t, N: Node> Reader<'t, N> {
     }
 
     /// Reads a required string; `Misfit` if absent.
+    #[inline(always)]
     pub fn text(&mut self, key: &str) -> String
         ensures { ReadsField N.data_of key.now must text_kind (text_cell result) self.old self.new }
     {
@@ -184,6 +195,7 @@ impl<'t, N: Node> Reader<'t, N> {
 
     /// Reads a string; defaults to `default`.
     #[tactic(auto, using(crate::proofs::Reading::field_kept))]
+    #[inline(always)]
     pub fn text_or(&mut self, key: &str, default: &str) -> String
         ensures { ReadsField N.data_of key.now (default_rule (text default.now)) text_kind
             (text_cell result) self.old self.new }
@@ -193,6 +205,7 @@ impl<'t, N: Node> Reader<'t, N> {
     }
 
     /// Reads a required string as a [`CowStr`]; `Misfit` if absent.
+    #[inline(always)]
     pub fn cow<'a>(&mut self, key: &str) -> CowStr<'a>
         ensures { ReadsField N.data_of key.now must text_kind (cow_cell result) self.old self.new }
     {
@@ -200,6 +213,7 @@ impl<'t, N: Node> Reader<'t, N> {
     }
 
     /// Reads a string as a [`CowStr`]; defaults to `default`, which is borrowed.
+    #[inline(always)]
     pub fn cow_or<'a>(&mut self, key: &str, default: &'a str) -> CowStr<'a>
         ensures { ReadsField N.data_of key.now (default_rule (text default.now)) text_kind
             (cow_cell result) self.old self.new }
@@ -211,6 +225,7 @@ impl<'t, N: Node> Reader<'t, N> {
     ///
     /// The stand-in of a failure is drawn from `ids` too.
     #[tactic(auto, using(crate::proofs::Reading::field_ready, crate::proofs::Reading::field_kept))]
+    #[inline(always)]
     pub fn drawn_as<F: Drawn<X>, X: Drop, R: Rng>(&mut self, key: &str, ids: &mut R) -> X
         ensures { ReadsField N.data_of key.now (draw F.IsDrawn) F.kind
             (F.cell_of result) self.old self.new }
@@ -225,6 +240,7 @@ impl<'t, N: Node> Reader<'t, N> {
     }
 
     /// Reads a list; defaults to empty.
+    #[inline(always)]
     pub fn list<X: FromTree>(&mut self, key: &str) -> Vec<X>
         ensures { ReadsField N.data_of key.now (default_rule empty_list) (list_kind X.kind)
             (list_cell X.cell_of result.items) self.old self.new }
@@ -233,6 +249,7 @@ impl<'t, N: Node> Reader<'t, N> {
     }
 
     /// Reads a list that is always written; defaults to empty.
+    #[inline(always)]
     pub fn written_list<X: FromTree>(&mut self, key: &str) -> Vec<X>
         ensures { ReadsField N.data_of key.now (always empty_list) (list_kind X.kind)
             (list_cell X.cell_of result.items) self.old self.new }
@@ -241,6 +258,7 @@ impl<'t, N: Node> Reader<'t, N> {
     }
 
     /// Reads a map; defaults to empty.
+    #[inline(always)]
     pub fn map<X: FromTree>(&mut self, key: &str) -> Map<String, X>
         ensures { ReadsField N.data_of key.now (default_rule empty_map) (map_kind X.kind)
             (map_cell X.cell_of result.entries) self.old self.new }
@@ -249,6 +267,7 @@ impl<'t, N: Node> Reader<'t, N> {
     }
 
     /// Reads a list under the key `values`, or a bare array; defaults to empty.
+    #[inline(always)]
     pub fn values<X: FromTree>(&mut self, key: &str) -> Values<X>
         ensures { ReadsField N.data_of key.now (default_rule empty_list) (values_kind X.kind)
             (list_cell X.cell_of result.values.items) self.old self.new }
@@ -263,6 +282,7 @@ impl<'t, N: Node> Reader<'t, N> {
     ///
     /// `names` are the keys that the members may not have: those of the table's rows, and `type` in
     /// a type with a tag.
+    #[inline(always)]
     pub fn others(&mut self, names: &[&str]) -> Map<String, Value>
         ensures { ReadsOthers N.data_of (map_list (λ name.
             name.now) names.now) (members_view result.entries) self.old self.new }

@@ -19,6 +19,7 @@ use std::alloc::{AllocError, Global};
 
 // Reads a required member; `Misfit` if absent.
 #[tactic(auto, using(crate::proofs::RowLemmas::must_missing, crate::proofs::RowLemmas::must_read))]
+#[inline(always)]
 pub(crate) fn required_as<F: ReadCodec<T>, T, N: Node>(
     alloc: Global,
     object: &Object<'_, N>,
@@ -34,6 +35,7 @@ pub(crate) fn required_as<F: ReadCodec<T>, T, N: Node>(
 
 // Reads an optional member; `None` if absent or null.
 #[tactic(auto, using(crate::proofs::RowLemmas::may_absent, crate::proofs::RowLemmas::may_is_null, crate::proofs::RowLemmas::may_shown, crate::proofs::RowLemmas::may_fails))]
+#[inline(always)]
 pub(crate) fn optional_as<F: ReadCodec<T>, T, N: Node>(
     alloc: Global,
     object: &Object<'_, N>,
@@ -51,6 +53,7 @@ pub(crate) fn optional_as<F: ReadCodec<T>, T, N: Node>(
 
 // Reads an optional member that rejects null; `None` if absent.
 #[tactic(auto, using(crate::proofs::RowLemmas::may_strict_absent, crate::proofs::RowLemmas::may_strict_shown, crate::proofs::RowLemmas::may_strict_fails))]
+#[inline(always)]
 pub(crate) fn optional_strict_as<F: ReadCodec<T>, T, N: Node>(
     alloc: Global,
     object: &Object<'_, N>,
@@ -67,6 +70,7 @@ pub(crate) fn optional_strict_as<F: ReadCodec<T>, T, N: Node>(
 
 // Reads a string; `default` if absent.
 #[tactic(auto, using(crate::proofs::RowLemmas::default_absent, crate::proofs::RowLemmas::default_read))]
+#[inline(always)]
 pub(crate) fn text_or<N: Node>(
     alloc: Global,
     object: &Object<'_, N>,
@@ -95,6 +99,7 @@ pub trait MadeCodec<T>: ReadCodec<T> + DefaultedCodec<T> {
 
 // Reads a member; the default of the codec `F` if absent.
 #[tactic(auto, using(crate::proofs::RowLemmas::default_absent, crate::proofs::RowLemmas::default_read))]
+#[inline(always)]
 pub(crate) fn made_as<F: MadeCodec<T>, T, N: Node>(
     alloc: Global,
     object: &Object<'_, N>,
@@ -111,6 +116,7 @@ pub(crate) fn made_as<F: MadeCodec<T>, T, N: Node>(
 
 // Reads the members whose keys are none of `names`.
 #[tactic(auto, using(sentry_writing::proofs::Others::members_left))]
+#[inline(always)]
 pub(crate) fn others<N: Node>(
     alloc: Global,
     object: &Object<'_, N>,

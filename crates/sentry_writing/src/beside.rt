@@ -57,6 +57,7 @@ impl<'t> Tag<'t> {
 impl<'t> Others for Tag<'t> {
     ghost left = { λ t. tag_left t.word };
 
+    #[inline]
     fn hand_before<S: Sink>(&mut self, key: &str, sink: &mut S) {
         let Some(word) = self.word else {
             return;
@@ -71,6 +72,7 @@ impl<'t> Others for Tag<'t> {
         }
     }
 
+    #[inline]
     fn hand_rest<S: Sink>(self, sink: &mut S) {
         match self.word {
             Some(word) => sink.word("type", word),
@@ -156,25 +158,31 @@ impl<'s, L: Others, S: Sink> Sink for Beside<'s, L, S> {
 
     ghost Tests = { λ a b P Q. ⊤ };
 
+    #[inline]
     fn member<F: Codec<T>, T>(&mut self, key: &str, value: &T) {
         self.others.hand_before(key, &mut *self.sink);
         self.sink.member::<F, T>(key, value)
     }
 
+    #[inline]
     fn null(&mut self, key: &str) {
         self.others.hand_before(key, &mut *self.sink);
         self.sink.null(key)
     }
 
+    #[inline]
     fn word(&mut self, key: &str, text: &str) {
         self.others.hand_before(key, &mut *self.sink);
         self.sink.word(key, text)
     }
 
+    #[inline]
     fn left_out<F: Codec<T>, T>(&mut self, _value: &T) {}
 
+    #[inline]
     fn left_out_text(&mut self, _text: &str) {}
 
+    #[inline]
     fn absent(&mut self) {}
 
     ghost nothing = { λ s.

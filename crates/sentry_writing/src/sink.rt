@@ -57,6 +57,7 @@ pub trait Sink {
 
     /// Adds a required member, with the codec `F`.
     #[tactic(auto, unfolding(crate::specs::Given::row_given, crate::specs::Given::GivesRow))]
+    #[inline(always)]
     final fn required_as<F: Codec<T>, T>(&mut self, key: &str, value: &T)
         ensures { GivesRow Adds Tests key.now must F.kind (F.cell_of value.now) self.old self.new }
     {
@@ -64,6 +65,7 @@ pub trait Sink {
     }
 
     /// Adds a required member.
+    #[inline(always)]
     final fn required<T: Member>(&mut self, key: &str, value: &T)
         ensures { GivesRow Adds Tests key.now must T.kind (T.cell_of value.now) self.old self.new }
     {
@@ -72,6 +74,7 @@ pub trait Sink {
 
     /// Adds an optional member that is omitted when `None`, with the codec `F`.
     #[tactic(auto, unfolding(crate::specs::Given::row_given, crate::specs::Given::GivesRow))]
+    #[inline(always)]
     final fn optional_as<F: Codec<T>, T>(&mut self, key: &str, value: &Option<T>)
         ensures { GivesRow Adds Tests key.now may F.kind
             (option_cell F.cell_of value.now) self.old self.new }
@@ -83,6 +86,7 @@ pub trait Sink {
     }
 
     /// Adds an optional member that is omitted when `None`.
+    #[inline(always)]
     final fn optional<T: Member>(&mut self, key: &str, value: &Option<T>)
         ensures { GivesRow Adds Tests key.now may T.kind
             (option_cell T.cell_of value.now) self.old self.new }
@@ -92,6 +96,7 @@ pub trait Sink {
 
     /// Adds an optional member that is written as null when `None`.
     #[tactic(auto, unfolding(crate::specs::Given::row_given, crate::specs::Given::GivesRow))]
+    #[inline(always)]
     final fn optional_or_null<T: Member>(&mut self, key: &str, value: &Option<T>)
         ensures { GivesRow Adds Tests key.now may_null T.kind
             (option_cell T.cell_of value.now) self.old self.new }
@@ -105,6 +110,7 @@ pub trait Sink {
     /// Adds an optional member that is omitted when `None` and rejects null when read, with the
     /// codec `F`.
     #[tactic(auto, unfolding(crate::specs::Given::row_given, crate::specs::Given::GivesRow))]
+    #[inline(always)]
     final fn optional_strict_as<F: Codec<T>, T>(&mut self, key: &str, value: &Option<T>)
         ensures { GivesRow Adds Tests key.now may_strict F.kind
             (option_cell F.cell_of value.now) self.old self.new }
@@ -117,6 +123,7 @@ pub trait Sink {
 
     /// Adds a member that has a default when read and is always written.
     #[tactic(auto, unfolding(crate::specs::Given::row_given, crate::specs::Given::GivesRow))]
+    #[inline(always)]
     final fn always<T: Member>(&mut self, key: &str, value: &T)
         ensures { (e : Cell) →
             GivesRow Adds Tests key.now (always e) T.kind (T.cell_of value.now) self.old self.new }
@@ -127,6 +134,7 @@ pub trait Sink {
     /// Adds a timestamp that defaults to the moment of reading and is always written, with the
     /// codec `F`.
     #[tactic(auto, unfolding(crate::specs::Given::row_given, crate::specs::Given::GivesRow))]
+    #[inline(always)]
     final fn at_once_as<F: Codec<T>, T>(&mut self, key: &str, value: &T)
         ensures { GivesRow Adds Tests key.now at_once F.kind
             (F.cell_of value.now) self.old self.new }
@@ -136,6 +144,7 @@ pub trait Sink {
 
     /// Adds a member that is drawn if absent when read, and is always written, with the codec `F`.
     #[tactic(auto, unfolding(crate::specs::Given::row_given, crate::specs::Given::GivesRow))]
+    #[inline(always)]
     final fn drawn_as<F: Drawn<T>, T>(&mut self, key: &str, value: &T)
         ensures { GivesRow Adds Tests key.now (draw F.IsDrawn) F.kind
             (F.cell_of value.now) self.old self.new }
@@ -145,6 +154,7 @@ pub trait Sink {
 
     /// Adds a list that is omitted when empty.
     #[tactic(auto, unfolding(crate::specs::Given::row_given, crate::specs::Given::GivesRow))]
+    #[inline(always)]
     final fn list<T: Member>(&mut self, key: &str, list: &Vec<T>)
         ensures { GivesRow Adds Tests key.now (default empty_list) (list_kind T.kind)
             (list_cell T.cell_of list.now.items) self.old self.new }
@@ -158,6 +168,7 @@ pub trait Sink {
 
     /// Adds a list that defaults to empty when read and is always written.
     #[tactic(auto, unfolding(crate::specs::Given::row_given, crate::specs::Given::GivesRow))]
+    #[inline(always)]
     final fn written_list<T: Member>(&mut self, key: &str, list: &Vec<T>)
         ensures { GivesRow Adds Tests key.now (always empty_list) (list_kind T.kind)
             (list_cell T.cell_of list.now.items) self.old self.new }
@@ -167,6 +178,7 @@ pub trait Sink {
 
     /// Adds a map that is omitted when empty.
     #[tactic(auto, unfolding(crate::specs::Given::row_given, crate::specs::Given::GivesRow))]
+    #[inline(always)]
     final fn map<T: Member>(&mut self, key: &str, map: &Map<String, T>)
         ensures { GivesRow Adds Tests key.now (default empty_map) (map_kind T.kind)
             (map_cell T.cell_of map.now.entries) self.old self.new }
@@ -180,6 +192,7 @@ pub trait Sink {
 
     /// Adds a list under the key `values`, omitted when empty.
     #[tactic(auto, unfolding(crate::specs::Given::row_given, crate::specs::Given::GivesRow))]
+    #[inline(always)]
     final fn values<T: Member>(&mut self, key: &str, list: &Values<T>)
         ensures { GivesRow Adds Tests key.now (default empty_list) (values_kind T.kind)
             (list_cell T.cell_of list.now.values.items) self.old self.new }
@@ -193,6 +206,7 @@ pub trait Sink {
 
     /// Adds a string that is omitted when it equals the default `usual`.
     #[tactic(auto, unfolding(crate::specs::Given::row_given, crate::specs::Given::GivesRow, sentry_members::specs::Written::written))]
+    #[inline(always)]
     final fn text_unless<T: AsStr>(&mut self, key: &str, value: &T, usual: &str)
         ensures { GivesRow Adds Tests key.now (default (text_of usual.now)) text_kind
             (text_of (T.text value.now)) self.old self.new }
@@ -207,6 +221,7 @@ pub trait Sink {
 
     /// Adds a member that is omitted when its value is written the same as the default `usual`.
     #[tactic(auto, unfolding(crate::specs::Given::row_given, crate::specs::Given::GivesRow))]
+    #[inline(always)]
     final fn unless<T: Usual>(&mut self, key: &str, value: &T, usual: &T)
         ensures { GivesRow Adds Tests key.now (default (T.cell_of usual.now)) T.kind
             (T.cell_of value.now) self.old self.new }
@@ -221,6 +236,7 @@ pub trait Sink {
     /// Adds a member that is omitted when its value is written the same as the default of the codec
     /// `F`.
     #[tactic(auto, unfolding(crate::specs::Given::row_given, crate::specs::Given::GivesRow))]
+    #[inline(always)]
     final fn unless_usual_as<F: DefaultedCodec<T>, T>(&mut self, key: &str, value: &T)
         ensures { GivesRow Adds Tests key.now (default F.usual) F.kind
             (F.cell_of value.now) self.old self.new }
@@ -233,6 +249,7 @@ pub trait Sink {
     }
 
     /// Adds a member that is omitted when its value is written the same as the default of its type.
+    #[inline(always)]
     final fn unless_usual<T: Defaulted>(&mut self, key: &str, value: &T)
         ensures { GivesRow Adds Tests key.now (default T.usual) T.kind
             (T.cell_of value.now) self.old self.new }

@@ -33,6 +33,7 @@ impl<'w> Sink for TextRows<'w> {
     ghost Tests = { λ a b P Q. ⊤ };
 
     #[tactic(auto, using(crate::proofs::Failing::wrote_while, crate::proofs::Failing::after_failure))]
+    #[inline(always)]
     fn member<F: Codec<T>, T>(&mut self, key: &str, value: &T) {
         if self.failed.is_some() {
             return;
@@ -41,6 +42,7 @@ impl<'w> Sink for TextRows<'w> {
     }
 
     #[tactic(auto, using(crate::proofs::Failing::wrote_while, crate::proofs::Failing::after_failure))]
+    #[inline(always)]
     fn null(&mut self, key: &str) {
         if self.failed.is_some() {
             return;
@@ -49,6 +51,7 @@ impl<'w> Sink for TextRows<'w> {
     }
 
     #[tactic(auto, using(crate::proofs::Failing::wrote_while, crate::proofs::Failing::after_failure))]
+    #[inline(always)]
     fn word(&mut self, key: &str, text: &str) {
         if self.failed.is_some() {
             return;
@@ -57,12 +60,15 @@ impl<'w> Sink for TextRows<'w> {
     }
 
     #[tactic(auto, using(crate::specs::Failing::nothing_while, sentry_members::specs::Continued::no_members_wrote))]
+    #[inline(always)]
     fn left_out<F: Codec<T>, T>(&mut self, _value: &T) {}
 
     #[tactic(auto, using(crate::specs::Failing::nothing_while, sentry_members::specs::Continued::no_members_wrote))]
+    #[inline(always)]
     fn left_out_text(&mut self, _text: &str) {}
 
     #[tactic(auto, using(crate::specs::Failing::nothing_while, sentry_members::specs::Continued::no_members_wrote))]
+    #[inline(always)]
     fn absent(&mut self) {}
 
     ghost nothing = { λ s. (refl, nothing_while s.failed (no_members_wrote s.out.now)) };
@@ -74,6 +80,7 @@ impl<'w> Sink for TextRows<'w> {
     ) };
 }
 
+#[inline(always)]
 pub(crate) fn write_member<F: Codec<T>, T>(
     out: &mut Writer,
     key: &str,
@@ -87,6 +94,7 @@ pub(crate) fn write_member<F: Codec<T>, T>(
     F::write(value, out)
 }
 
+#[inline(always)]
 fn write_null(out: &mut Writer, key: &str) -> Result<(), AllocError>
     ensures { OnOk result (WritesMembers (member key.now null no_members) out.old out.new) }
 {
@@ -94,6 +102,7 @@ fn write_null(out: &mut Writer, key: &str) -> Result<(), AllocError>
     out.null()
 }
 
+#[inline(always)]
 fn write_word(out: &mut Writer, key: &str, text: &str) -> Result<(), AllocError>
     ensures { OnOk result
         (WritesMembers (member key.now (string text.now) no_members) out.old out.new) }

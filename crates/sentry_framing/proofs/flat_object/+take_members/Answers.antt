@@ -1,10 +1,20 @@
-use Rattle.std.proofs.Common.{◌≡◌, ◌∷◌, [], ap, ◌∙◌}
+use Rattle.std.proofs.Common.{◌≡◌, ◌∷◌, [], ap, ◌∙◌, arith}
+use Rattle.std.proofs.lemmas.List.Elements.{All-rest}
 use Rattle.serde_json.specs.Data.{no_members, member}
-use Rattle.sentry_framing.specs.FlatObjects.{put_all}
+use Rattle.serde_json.specs.Written.{compact_text}
+use Rattle.sentry_framing.specs.FlatObjects.{IsSimple, put_all}
 use Rattle.sentry_framing.specs.FlatView.{members_after, value_data}
 use Rattle.sentry_framing.proofs.FlatMembers.{after_last}
-use Rattle.sentry_framing.proofs.FlatObjects.{member_text, nothing_left}
+use Rattle.sentry_framing.proofs.FlatObjects.{member_text, nothing_left, simple_member}
 use Rattle.sentry_framing.proofs.flat_object.+take_members.Goals as goal
+
+pub take_members-requires : goal.take_members-requires
+take_members-requires t c =
+    let s = c.in-Some in
+    let m = s.member in (
+      omega (arith, c.if-most-gt0.true),
+      All-rest IsSimple 44 c.in-Some-after_byte.after.now s.rest.now c.in-Some-after_byte.ensures (simple_member c.args.text.now m.key.now (compact_text (value_data m.value)) s.rest.now s.ensures.text c.requires.1.1),
+    )
 
 pub returns-then-most-gt0 : goal.returns-then-most-gt0
 returns-then-most-gt0 t c is =

@@ -1,0 +1,10 @@
+use Rattle.std.proofs.lemmas.List.Elements.{All-rest}
+use Rattle.json.specs.Print.{quoted}
+use Rattle.sentry_framing.specs.FlatObjects.{IsSimple}
+use Rattle.sentry_framing.proofs.FlatObjects.{simple_behind}
+use Rattle.sentry_framing.proofs.flat_object.split_member.Goals as goal
+
+pub split_value-requires : goal.split_value-requires
+split_value-requires c =
+    let k = c.in_ok-key in
+    All-rest IsSimple 58 c.in_ok-after_byte.field-0.now k.after.now c.in_ok-after_byte.ensures (simple_behind c.args.text.now (quoted k.key.now) k.after.now k.ensures c.requires)
