@@ -25,6 +25,8 @@ use std::borrow::CowStr;
 ///
 /// Each call reads the member at a key by the rule of its row. The first failure is remembered and
 /// returned by [`end`](Reader::end); a call that fails returns a stand-in value.
+///
+/// The calls are inlined where a type reads its rows, so that keys are compared with literals.
 #[derive(Drop)]
 pub struct Reader<'t, N> {
     /// Allocator of the values.

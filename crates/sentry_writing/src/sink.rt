@@ -20,6 +20,9 @@ use std::convert::AsStr;
 /// A receiver of the members of one object, which are given in key order.
 ///
 /// A sink that fails remembers the failure and takes no further members.
+///
+/// The calls for rows are inlined where a type gives its rows: each key is a literal there, so that
+/// its test for escapes is decided, and its text stored, at compile time.
 pub trait Sink {
     // from the first state to the second, these members were taken
     ghost Adds: { Self → Self → Members → Type 0 };
