@@ -4,9 +4,10 @@ use crate::asked::said_of;
 use crate::auths::{of_header, of_pairs, of_query};
 use crate::bytes::{decoded, of_bytes};
 use crate::dsns::of_dsn;
+use crate::envelopes::of_reader;
 use crate::equal::of_two_trees;
 use crate::ledger::of_history;
-use crate::made::{of_other_unit, of_parts};
+use crate::made::{of_custom, of_new, of_other_unit, of_parts};
 use crate::numbers::of_numbers;
 use crate::said::{text, unknown};
 use crate::texts::of_text;
@@ -39,6 +40,7 @@ fn of_list(alloc: Global, name: &str, items: &[Value]) -> Result<Value, AllocErr
     }
     match name {
         "Auth::from_pairs" => of_pairs(alloc, pairs_of(alloc, items)?.as_slice()),
+        "EnvelopeReader" => of_reader(alloc, items),
         _ => of_numbers(alloc, name, items),
     }
 }
@@ -48,7 +50,9 @@ fn of_string(alloc: Global, name: &str, given: &str) -> Result<Value, AllocError
         return Ok(answer);
     }
     match name {
-        "Metric with the unit Other" => of_other_unit(alloc, given),
+        "AttachmentType::Custom" => of_custom(alloc, given),
+        "Unit::Other" => of_other_unit(alloc, given),
+        "new" => of_new(alloc, given),
         "Dsn" => of_dsn(alloc, given),
         "Auth" => of_header(alloc, given),
         "Auth::from_querystring" => of_query(alloc, given.as_bytes()),

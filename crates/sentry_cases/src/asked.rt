@@ -5,7 +5,7 @@
 //! them once for all types, or to `drop`.
 
 use crate::said::refused;
-use sentry_types::protocol::v7::Value;
+use sentry_types::protocol::v7::{Member, Value};
 use std::alloc::{AllocError, Global};
 use std::fmt::Display;
 
@@ -39,6 +39,13 @@ pub fn said_of<T: Drop, E: Display + Drop, F: FnOnce(&T) -> Result<Value, AllocE
         Ok(value) => say(&value),
         Err(error) => refused(alloc, &error),
     }
+}
+
+/// The tree that a value writes.
+pub fn said_own<T: Member>(alloc: Global, value: T) -> Result<Value, AllocError> {
+    let told = value.to_tree(alloc);
+    drop(value);
+    told
 }
 
 /// What a call makes of a value that was made, or why none was.

@@ -1,5 +1,6 @@
 //! Answers to bytes.
 
+use crate::built::of_built;
 use crate::envelopes::{of_envelope, of_frames, of_losses, of_raw, of_rewritten};
 use crate::filters::{of_answers, of_filter};
 use crate::form::of_tape;
@@ -42,6 +43,9 @@ pub fn of_bytes(alloc: Global, name: &str, bytes: &[u8]) -> Result<Option<Value>
     }
     if let Some(words) = name.strip_prefix("asked ") {
         return Ok(Some(of_answers(alloc, words, bytes)?));
+    }
+    if let Some(words) = name.strip_prefix("built ") {
+        return Ok(Some(of_built(alloc, words, bytes)?));
     }
     Ok(Some(match name {
         "tape" => of_tape(alloc, bytes)?,

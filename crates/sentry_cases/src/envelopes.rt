@@ -5,7 +5,8 @@ use crate::bytes::said_bytes;
 use crate::said::{as_tree, list, maybe, refused, text};
 use rand_pcg::Pcg32;
 use sentry_types::protocol::v7::{
-    CountedWriter, Envelope, EnvelopeError, Frames, ItemFrame, ItemLoss, LossSource, Moment, Value,
+    CountedWriter, Envelope, EnvelopeError, EnvelopeReader, Frames, ItemFrame, ItemLoss,
+    LossSource, Moment, Value,
 };
 use std::alloc::{AllocError, Global};
 
@@ -85,6 +86,27 @@ pub fn of_rewritten(alloc: Global, bytes: &[u8]) -> Result<Value, AllocError> {
         read(alloc, bytes),
         |envelope: &Envelope| said_envelope(alloc, envelope),
     )
+}
+
+/// What is written of the envelopes that texts spell, one after the other, by one reader and with
+/// one generator of ids.
+pub fn of_reader(alloc: Global, texts: &[Value]) -> Result<Value, AllocError> {
+    let Some(now) = Moment::new(0, 0) else {
+        return text(alloc, "no moment");
+    };
+    let (mut reader, mut ids) = (EnvelopeReader::new(alloc), Pcg32::new(42, 54));
+    let mut told = Vec::new(alloc);
+    for given in texts {
+        let bytes = given.as_str().unwrap_or("").as_bytes();
+        let made = reader.read(bytes, now, &mut ids);
+        let said = said_of(
+            alloc,
+            made,
+            |envelope: &Envelope| said_envelope(alloc, envelope),
+        );
+        told.push(said?)?;
+    }
+    Ok(Value::from(told))
 }
 
 // What is written of a raw envelope, whether it is plain, how many items it shows, and what is lost

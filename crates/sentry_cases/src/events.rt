@@ -1,9 +1,9 @@
 //! Events, spans and transactions that lines of JSON show.
 
-use crate::asked::said_of;
+use crate::asked::{said_of, taken};
 use crate::envelopes::said_envelope;
 use crate::form::{by_tree_at, cloned_at};
-use crate::said::{list, refused, shown, text};
+use crate::said::{list, shown, text};
 use sentry_types::protocol::v7::{
     Envelope, EnvelopeItem, Event, FromTreeAt, Member, Span, Transaction, TreeError, Value,
 };
@@ -53,22 +53,21 @@ fn said_transaction(alloc: Global, transaction: Transaction<'static>) -> Result<
 
 // The text of the envelope of the event that a line shows.
 fn envelope_of_event(alloc: Global, line: &[u8]) -> Result<Value, AllocError> {
-    match by_tree_at(alloc, line) {
-        Ok(event) => said_event(alloc, event),
-        Err(error) => refused(alloc, &error),
-    }
+    taken(alloc, by_tree_at(alloc, line), |event: Event<'_>| {
+        said_event(alloc, event)
+    })
 }
 
 // The text of the envelope of the transaction that a line shows.
 fn envelope_of_transaction(alloc: Global, line: &[u8]) -> Result<Value, AllocError> {
-    match by_tree_at(alloc, line) {
-        Ok(transaction) => said_transaction(alloc, transaction),
-        Err(error) => refused(alloc, &error),
-    }
+    let read = by_tree_at(alloc, line);
+    taken(alloc, read, |transaction: Transaction<'_>| {
+        said_transaction(alloc, transaction)
+    })
 }
 
-// Lends a text to an event, for each of its texts that may be lent.
-fn lend<'a>(event: &mut Event<'a>, lent: &'a str) {
+// An event with a text lent, for each of its texts that may be lent.
+fn lend<'a>(mut event: Event<'a>, lent: &'a str) -> Event<'a> {
     event.platform = CowStr::Borrowed(lent);
     event.server_name = Some(CowStr::Borrowed(lent));
     event.release = Some(CowStr::Borrowed(lent));
@@ -77,6 +76,7 @@ fn lend<'a>(event: &mut Event<'a>, lent: &'a str) {
     if let Some(first) = event.fingerprint.first_mut() {
         *first = CowStr::Borrowed(lent);
     }
+    event
 }
 
 // What a value that borrows nothing writes, if it was made.
@@ -88,33 +88,27 @@ fn said_owned<T: Member, B: Drop>(alloc: Global, owned: Result<T, B>) -> Result<
 }
 
 // What the event that a line shows writes once it borrows nothing.
-fn owned_event(alloc: Global, line: &[u8], lent: &str) -> Result<Value, AllocError> {
-    match by_tree_at::<Event<'_>>(alloc, line) {
-        Ok(mut event) => {
-            lend(&mut event, lent);
-            said_owned(alloc, event.into_owned(alloc))
-        }
-        Err(error) => refused(alloc, &error),
-    }
+fn owned_event(alloc: Global, line: &[u8], lent: &'static str) -> Result<Value, AllocError> {
+    taken(alloc, by_tree_at(alloc, line), |event: Event<'_>| {
+        said_owned(alloc, lend(event, lent).into_owned(alloc))
+    })
 }
 
-// Lends a text to a transaction, for each of its texts that may be lent.
-fn lend_to<'a>(transaction: &mut Transaction<'a>, lent: &'a str) {
+// A transaction with a text lent, for each of its texts that may be lent.
+fn lend_to<'a>(mut transaction: Transaction<'a>, lent: &'a str) -> Transaction<'a> {
     transaction.platform = CowStr::Borrowed(lent);
     transaction.server_name = Some(CowStr::Borrowed(lent));
     transaction.release = Some(CowStr::Borrowed(lent));
     transaction.environment = Some(CowStr::Borrowed(lent));
+    transaction
 }
 
 // What the transaction that a line shows writes once it borrows nothing.
-fn owned_transaction(alloc: Global, line: &[u8], lent: &str) -> Result<Value, AllocError> {
-    match by_tree_at::<Transaction<'_>>(alloc, line) {
-        Ok(mut transaction) => {
-            lend_to(&mut transaction, lent);
-            said_owned(alloc, transaction.into_owned(alloc))
-        }
-        Err(error) => refused(alloc, &error),
-    }
+fn owned_transaction(alloc: Global, line: &[u8], lent: &'static str) -> Result<Value, AllocError> {
+    let read = by_tree_at(alloc, line);
+    taken(alloc, read, |transaction: Transaction<'_>| {
+        said_owned(alloc, lend_to(transaction, lent).into_owned(alloc))
+    })
 }
 
 /// What is written of the event, or the span or the transaction, that a line shows, or what a call

@@ -13,9 +13,13 @@ use sentry_types::protocol::v7::{
 use std::alloc::{AllocError, Global};
 use std::fmt::Debug;
 
-// What a value writes: the tree in a list, where the value's text, its clone and its normal form
-// agree with it.
-fn written<F: Codec<T>, T: Drop>(alloc: Global, value: &T, clone: &T) -> Result<Value, AllocError> {
+/// What a value writes: the tree in a list, where the value's text, its clone and its normal form
+/// agree with it.
+pub fn written<F: Codec<T>, T: Drop>(
+    alloc: Global,
+    value: &T,
+    clone: &T,
+) -> Result<Value, AllocError> {
     let tree = F::to_tree(value, alloc)?;
     let line = tree.to_string(alloc)?;
     let mut out = Writer::new(Vec::new(alloc));
@@ -243,11 +247,11 @@ fn members_of<T: TreeMember>(alloc: Global, line: &[u8]) -> Result<Values<T>, Tr
 /// The `Debug` text of a value that was read.
 pub fn debugged<T: Debug + Drop>(
     alloc: Global,
-    read: &Result<T, TreeError>,
+    read: Result<T, TreeError>,
 ) -> Result<Value, AllocError> {
     match read {
-        Ok(value) => debug(alloc, value),
-        Err(error) => refused(alloc, error),
+        Ok(value) => debug(alloc, &value),
+        Err(error) => refused(alloc, &error),
     }
 }
 

@@ -88,6 +88,12 @@ fn of_code(alloc: Global, given: &str) -> Result<Value, AllocError> {
     )
 }
 
+// The id of a project that is any text.
+fn of_new_project(alloc: Global, given: &str) -> Result<Value, AllocError> {
+    let made = ProjectId::new(alloc, given);
+    said_of(alloc, made, |id: &ProjectId| text(alloc, id.value()))
+}
+
 /// What the text of an id is read as.
 pub fn of_id(alloc: Global, name: &str, given: &str) -> Result<Option<Value>, AllocError> {
     Ok(Some(match name {
@@ -95,6 +101,7 @@ pub fn of_id(alloc: Global, name: &str, given: &str) -> Result<Option<Value>, Al
         "TraceId" => of_trace(alloc, given)?,
         "DebugId" => of_debug(alloc, given)?,
         "ProjectId" => of_project(alloc, given)?,
+        "ProjectId::new" => of_new_project(alloc, given)?,
         "OrganizationId" => of_organization(alloc, given)?,
         "CodeId" => of_code(alloc, given)?,
         _ => return Ok(None),

@@ -1,0 +1,71 @@
+//! Fields of headers of envelopes, as their getters give them.
+
+use crate::asked::said_of;
+use crate::form::by_tree;
+use crate::said::{list, maybe, shown};
+use sentry_types::protocol::v7::{DynamicSamplingContext, EnvelopeHeaders, Member, Value};
+use std::alloc::{AllocError, Global};
+use std::fmt::Display;
+
+// What a field prints, or null.
+fn printed<T: Display + Drop>(alloc: Global, found: Option<T>) -> Result<Value, AllocError> {
+    match found {
+        Some(found) => shown(alloc, &found),
+        None => Ok(Value::Null),
+    }
+}
+
+// The tree of a field, or null.
+fn tree_of<T: Member>(alloc: Global, found: Option<&T>) -> Result<Value, AllocError> {
+    match found {
+        Some(found) => found.to_tree(alloc),
+        None => Ok(Value::Null),
+    }
+}
+
+fn said_header(alloc: Global, header: &EnvelopeHeaders) -> Result<Value, AllocError> {
+    let fields = [
+        printed(alloc, header.event_id().copied()),
+        tree_of(alloc, header.dsn()),
+        tree_of(alloc, header.sdk()),
+        printed(alloc, header.sent_at()),
+        tree_of(alloc, header.trace()),
+    ];
+    list(alloc, fields)
+}
+
+fn said_sampling(alloc: Global, trace: &DynamicSamplingContext) -> Result<Value, AllocError> {
+    let fields = [
+        printed(alloc, trace.trace_id()),
+        maybe(alloc, trace.public_key()),
+        printed(alloc, trace.sample_rate()),
+        printed(alloc, trace.sample_rand()),
+        printed(alloc, trace.sampled()),
+        maybe(alloc, trace.release()),
+        maybe(alloc, trace.environment()),
+        maybe(alloc, trace.transaction()),
+        printed(alloc, trace.org_id()),
+    ];
+    list(alloc, fields)
+}
+
+/// The fields of the header, or of the sampling context, that a line shows.
+pub fn of_fields(alloc: Global, name: &str, line: &[u8]) -> Result<Option<Value>, AllocError> {
+    Ok(Some(match name {
+        "EnvelopeHeaders" => {
+            let read = by_tree::<EnvelopeHeaders>(alloc, line);
+            said_of(
+                alloc,
+                read,
+                |header: &EnvelopeHeaders| said_header(alloc, header),
+            )?
+        }
+        "DynamicSamplingContext" => {
+            let read = by_tree::<DynamicSamplingContext>(alloc, line);
+            said_of(alloc, read, |trace: &DynamicSamplingContext| {
+                said_sampling(alloc, trace)
+            })?
+        }
+        _ => return Ok(None),
+    }))
+}
