@@ -73,9 +73,11 @@ fn of_value(alloc: Global, name: &str, given: &Value) -> Result<Value, AllocErro
 }
 
 fn of_json(alloc: Global, name: &str, given: &str) -> Result<Value, AllocError> {
-    said_of(alloc, read_tree(alloc, given.as_bytes()), |tree: &Value| {
-        of_value(alloc, name, tree)
-    })
+    said_of(
+        alloc,
+        read_tree(alloc, given.as_bytes()),
+        |alloc: Global, tree: &Value| { of_value(alloc, name, tree) },
+    )
 }
 
 // The answer for bytes that are given in hex.

@@ -2,8 +2,8 @@
 
 use crate::asked::said_of;
 use crate::said::{as_tree, list, maybe, shown, text};
+use sentry_types::Auth;
 use sentry_types::protocol::v7::{Member, Moment, Value};
-use sentry_types::{Auth, ParseAuthError};
 use std::alloc::{AllocError, Global};
 
 fn said_time(alloc: Global, found: Option<Moment>) -> Result<Value, AllocError> {
@@ -18,7 +18,7 @@ fn said_auth(alloc: Global, auth: &Auth) -> Result<Value, AllocError> {
     list(
         alloc,
         [
-            said_of(alloc, auth.clone(), |copy: &Auth| shown(alloc, copy)),
+            said_of(alloc, auth.clone(), shown),
             said_time(alloc, auth.timestamp()),
             maybe(alloc, auth.client_agent()),
             as_tree(auth.version()),
@@ -30,18 +30,14 @@ fn said_auth(alloc: Global, auth: &Auth) -> Result<Value, AllocError> {
     )
 }
 
-fn of_auth(alloc: Global, answer: Result<Auth, ParseAuthError>) -> Result<Value, AllocError> {
-    said_of(alloc, answer, |auth: &Auth| said_auth(alloc, auth))
-}
-
 pub fn of_header(alloc: Global, given: &str) -> Result<Value, AllocError> {
-    of_auth(alloc, Auth::from_str(alloc, given))
+    said_of(alloc, Auth::from_str(alloc, given), said_auth)
 }
 
 pub fn of_query(alloc: Global, given: &[u8]) -> Result<Value, AllocError> {
-    of_auth(alloc, Auth::from_querystring(alloc, given))
+    said_of(alloc, Auth::from_querystring(alloc, given), said_auth)
 }
 
 pub fn of_pairs(alloc: Global, given: &[(&str, &str)]) -> Result<Value, AllocError> {
-    of_auth(alloc, Auth::from_pairs(alloc, given))
+    said_of(alloc, Auth::from_pairs(alloc, given), said_auth)
 }

@@ -78,19 +78,20 @@ fn said_items(alloc: Global, envelope: &Envelope) -> Result<Value, AllocError> {
     said_words(alloc, envelope.items().clone()?)
 }
 
+// How many items an envelope is taken apart into.
+fn said_count(_alloc: Global, envelope: Envelope) -> Result<Value, AllocError> {
+    as_tree(envelope.into_items().count() as u64)
+}
+
 // The text of an envelope and the words of its items, those of its normal form, whether it is its
 // clone, and how many items its clone is taken apart into.
 fn said_whole(alloc: Global, envelope: &Envelope) -> Result<Value, AllocError> {
     let fields = [
         said_envelope(alloc, envelope),
         said_items(alloc, envelope),
-        said_of(alloc, envelope.normalized(), |normal: &Envelope| {
-            said_items(alloc, normal)
-        }),
+        said_of(alloc, envelope.normalized(), said_items),
         as_tree(is_same(envelope.clone(), envelope)),
-        taken(alloc, envelope.clone(), |copy: Envelope| {
-            as_tree(copy.into_items().count() as u64)
-        }),
+        taken(alloc, envelope.clone(), said_count),
     ];
     list(alloc, fields)
 }
@@ -106,7 +107,9 @@ fn said_built(alloc: Global, mut envelope: Envelope, words: &str) -> Result<Valu
 /// back. The first word tells which envelope they are added to.
 pub fn of_built(alloc: Global, words: &str, bytes: &[u8]) -> Result<Value, AllocError> {
     let (first, words) = words.split_once(' ').unwrap_or((words, ""));
-    taken(alloc, begun(alloc, first, bytes), |envelope: Envelope| {
-        said_built(alloc, envelope, words)
-    })
+    taken(
+        alloc,
+        begun(alloc, first, bytes),
+        |alloc: Global, envelope: Envelope| { said_built(alloc, envelope, words) },
+    )
 }

@@ -72,20 +72,12 @@ fn said_steady(alloc: Global, envelope: &Envelope) -> Result<Value, AllocError> 
 
 /// What is written of the envelope that bytes spell.
 pub fn of_envelope(alloc: Global, bytes: &[u8]) -> Result<Value, AllocError> {
-    said_of(
-        alloc,
-        read(alloc, bytes),
-        |envelope: &Envelope| said_steady(alloc, envelope),
-    )
+    said_of(alloc, read(alloc, bytes), said_steady)
 }
 
 /// What is written of the envelope that bytes spell, whether or not its text can be read.
 pub fn of_rewritten(alloc: Global, bytes: &[u8]) -> Result<Value, AllocError> {
-    said_of(
-        alloc,
-        read(alloc, bytes),
-        |envelope: &Envelope| said_envelope(alloc, envelope),
-    )
+    said_of(alloc, read(alloc, bytes), said_envelope)
 }
 
 /// What is written of the envelopes that texts spell, one after the other, by one reader and with
@@ -99,11 +91,7 @@ pub fn of_reader(alloc: Global, texts: &[Value]) -> Result<Value, AllocError> {
     for given in texts {
         let bytes = given.as_str().unwrap_or("").as_bytes();
         let made = reader.read(bytes, now, &mut ids);
-        let said = said_of(
-            alloc,
-            made,
-            |envelope: &Envelope| said_envelope(alloc, envelope),
-        );
+        let said = said_of(alloc, made, said_envelope);
         told.push(said?)?;
     }
     Ok(Value::from(told))
@@ -113,11 +101,7 @@ pub fn of_reader(alloc: Global, texts: &[Value]) -> Result<Value, AllocError> {
 // with them.
 fn said_raw(alloc: Global, envelope: &Envelope) -> Result<Value, AllocError> {
     let fields = [
-        said_of(
-            alloc,
-            envelope.clone(),
-            |copy: &Envelope| said_envelope(alloc, copy),
-        ),
+        said_of(alloc, envelope.clone(), said_envelope),
         as_tree(envelope.is_plain()),
         as_tree(envelope.items().count() as u64),
         said_losses(alloc, envelope),
@@ -128,7 +112,7 @@ fn said_raw(alloc: Global, envelope: &Envelope) -> Result<Value, AllocError> {
 /// What is said of the raw envelope of bytes.
 pub fn of_raw(alloc: Global, bytes: &[u8]) -> Result<Value, AllocError> {
     let made = Envelope::from_bytes_raw(bytes.to_vec(alloc)?);
-    said_of(alloc, made, |envelope: &Envelope| said_raw(alloc, envelope))
+    said_of(alloc, made, said_raw)
 }
 
 /// The header and the payload of a frame, or why there is none.
@@ -186,9 +170,5 @@ pub fn said_losses<S: LossSource>(alloc: Global, source: &S) -> Result<Value, Al
 
 /// The losses of the envelope that bytes spell.
 pub fn of_losses(alloc: Global, bytes: &[u8]) -> Result<Value, AllocError> {
-    said_of(
-        alloc,
-        read(alloc, bytes),
-        |envelope: &Envelope| said_losses(alloc, envelope),
-    )
+    said_of(alloc, read(alloc, bytes), said_losses)
 }

@@ -13,21 +13,12 @@ use std::fmt::Display;
 
 // What the value that a line shows prints.
 fn printed<T: FromTreeAt + Display>(alloc: Global, line: &[u8]) -> Result<Value, AllocError> {
-    said_of(
-        alloc,
-        by_tree_at::<T>(alloc, line),
-        |value: &T| shown(alloc, value),
-    )
+    said_of(alloc, by_tree_at::<T>(alloc, line), shown)
 }
 
 // The text of the envelope of an item.
 fn said_item(alloc: Global, item: EnvelopeItem) -> Result<Value, AllocError> {
-    let made = Envelope::from_item(alloc, item);
-    said_of(
-        alloc,
-        made,
-        |envelope: &Envelope| said_envelope(alloc, envelope),
-    )
+    said_of(alloc, Envelope::from_item(alloc, item), said_envelope)
 }
 
 // The text of the envelope of an item that was boxed, if it was.
@@ -51,33 +42,7 @@ fn said_transaction(alloc: Global, transaction: Transaction<'static>) -> Result<
     said_boxed(alloc, EnvelopeItem::transaction(alloc, transaction))
 }
 
-// The text of the envelope of the event that a line shows.
-fn envelope_of_event(alloc: Global, line: &[u8]) -> Result<Value, AllocError> {
-    taken(alloc, by_tree_at(alloc, line), |event: Event<'_>| {
-        said_event(alloc, event)
-    })
-}
-
-// The text of the envelope of the transaction that a line shows.
-fn envelope_of_transaction(alloc: Global, line: &[u8]) -> Result<Value, AllocError> {
-    let read = by_tree_at(alloc, line);
-    taken(alloc, read, |transaction: Transaction<'_>| {
-        said_transaction(alloc, transaction)
-    })
-}
-
-// An event with a text lent, for each of its texts that may be lent.
-fn lend<'a>(mut event: Event<'a>, lent: &'a str) -> Event<'a> {
-    event.platform = CowStr::Borrowed(lent);
-    event.server_name = Some(CowStr::Borrowed(lent));
-    event.release = Some(CowStr::Borrowed(lent));
-    event.dist = Some(CowStr::Borrowed(lent));
-    event.environment = Some(CowStr::Borrowed(lent));
-    if let Some(first) = event.fingerprint.first_mut() {
-        *first = CowStr::Borrowed(lent);
-    }
-    event
-}
+const LENT: &str = "lent";
 
 // What a value that borrows nothing writes, if it was made.
 fn said_owned<T: Member, B: Drop>(alloc: Global, owned: Result<T, B>) -> Result<Value, AllocError> {
@@ -87,28 +52,30 @@ fn said_owned<T: Member, B: Drop>(alloc: Global, owned: Result<T, B>) -> Result<
     }
 }
 
-// What the event that a line shows writes once it borrows nothing.
-fn owned_event(alloc: Global, line: &[u8], lent: &'static str) -> Result<Value, AllocError> {
-    taken(alloc, by_tree_at(alloc, line), |event: Event<'_>| {
-        said_owned(alloc, lend(event, lent).into_owned(alloc))
-    })
+// What an event writes once it borrows nothing, to which a text was lent for each of its texts that
+// may be.
+fn owned_event(alloc: Global, mut event: Event<'static>) -> Result<Value, AllocError> {
+    event.platform = CowStr::Borrowed(LENT);
+    event.server_name = Some(CowStr::Borrowed(LENT));
+    event.release = Some(CowStr::Borrowed(LENT));
+    event.dist = Some(CowStr::Borrowed(LENT));
+    event.environment = Some(CowStr::Borrowed(LENT));
+    if let Some(first) = event.fingerprint.first_mut() {
+        *first = CowStr::Borrowed(LENT);
+    }
+    said_owned(alloc, event.into_owned(alloc))
 }
 
-// A transaction with a text lent, for each of its texts that may be lent.
-fn lend_to<'a>(mut transaction: Transaction<'a>, lent: &'a str) -> Transaction<'a> {
-    transaction.platform = CowStr::Borrowed(lent);
-    transaction.server_name = Some(CowStr::Borrowed(lent));
-    transaction.release = Some(CowStr::Borrowed(lent));
-    transaction.environment = Some(CowStr::Borrowed(lent));
-    transaction
-}
-
-// What the transaction that a line shows writes once it borrows nothing.
-fn owned_transaction(alloc: Global, line: &[u8], lent: &'static str) -> Result<Value, AllocError> {
-    let read = by_tree_at(alloc, line);
-    taken(alloc, read, |transaction: Transaction<'_>| {
-        said_owned(alloc, lend_to(transaction, lent).into_owned(alloc))
-    })
+// The same of a transaction.
+fn owned_transaction(
+    alloc: Global,
+    mut transaction: Transaction<'static>,
+) -> Result<Value, AllocError> {
+    transaction.platform = CowStr::Borrowed(LENT);
+    transaction.server_name = Some(CowStr::Borrowed(LENT));
+    transaction.release = Some(CowStr::Borrowed(LENT));
+    transaction.environment = Some(CowStr::Borrowed(LENT));
+    said_owned(alloc, transaction.into_owned(alloc))
 }
 
 /// What is written of the event, or the span or the transaction, that a line shows, or what a call
@@ -121,10 +88,10 @@ pub fn of_event(alloc: Global, name: &str, line: &[u8]) -> Result<Option<Value>,
         "Event::fmt" => printed::<Event<'static>>(alloc, line)?,
         "Span::fmt" => printed::<Span>(alloc, line)?,
         "Transaction::fmt" => printed::<Transaction<'static>>(alloc, line)?,
-        "EnvelopeItem::event" => envelope_of_event(alloc, line)?,
-        "EnvelopeItem::transaction" => envelope_of_transaction(alloc, line)?,
-        "Event::into_owned" => owned_event(alloc, line, "lent")?,
-        "Transaction::into_owned" => owned_transaction(alloc, line, "lent")?,
+        "EnvelopeItem::event" => taken(alloc, by_tree_at(alloc, line), said_event)?,
+        "EnvelopeItem::transaction" => taken(alloc, by_tree_at(alloc, line), said_transaction)?,
+        "Event::into_owned" => taken(alloc, by_tree_at(alloc, line), owned_event)?,
+        "Transaction::into_owned" => taken(alloc, by_tree_at(alloc, line), owned_transaction)?,
         _ => return Ok(None),
     }))
 }

@@ -126,9 +126,11 @@ pub fn of_filter(alloc: Global, words: &str, bytes: &[u8]) -> Result<Value, Allo
         Some(words) => (true, words),
         None => (false, words),
     };
-    taken(alloc, read(alloc, bytes), |envelope: Envelope| {
-        left_by(alloc, envelope, keep, words)
-    })
+    taken(
+        alloc,
+        read(alloc, bytes),
+        |alloc: Global, envelope: Envelope| { left_by(alloc, envelope, keep, words) },
+    )
 }
 
 /// Answers by a list of `y` and `n`, and notes each call.
@@ -208,7 +210,11 @@ fn answered_by(
 /// `-k`.
 pub fn of_answers(alloc: Global, words: &str, bytes: &[u8]) -> Result<Value, AllocError> {
     let (first, answers) = words.split_once(' ').unwrap_or(("", words));
-    taken(alloc, begun(alloc, first, bytes), |envelope: Envelope| {
-        answered_by(alloc, envelope, first == "-k", answers)
-    })
+    taken(
+        alloc,
+        begun(alloc, first, bytes),
+        |alloc: Global, envelope: Envelope| {
+            answered_by(alloc, envelope, first == "-k", answers)
+        },
+    )
 }

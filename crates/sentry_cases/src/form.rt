@@ -1,6 +1,5 @@
 //! Values that lines of JSON show, and what is written of them.
 
-use crate::asked::holds;
 use crate::said::{debug, list, refused, text};
 use rand_pcg::Pcg32;
 use sentry_json::{Line, LineError, scratch};
@@ -64,12 +63,10 @@ pub fn answered_by<T: Member, C: FnOnce(&T) -> Result<T, AllocError>>(
 
 // Whether two trees have one text.
 fn are_alike(alloc: Global, one: &Value, other: &Value) -> bool {
-    holds(one.to_string(alloc), |text: &String| {
-        holds(
-            other.to_string(alloc),
-            |found: &String| found.as_str() == text.as_str(),
-        )
-    })
+    match (one.to_string(alloc), other.to_string(alloc)) {
+        (Ok(one), Ok(other)) => one.as_str() == other.as_str(),
+        _ => false,
+    }
 }
 
 // What the tree of values answers, if the tape answers the same.

@@ -52,20 +52,8 @@ fn said_sampling(alloc: Global, trace: &DynamicSamplingContext) -> Result<Value,
 /// The fields of the header, or of the sampling context, that a line shows.
 pub fn of_fields(alloc: Global, name: &str, line: &[u8]) -> Result<Option<Value>, AllocError> {
     Ok(Some(match name {
-        "EnvelopeHeaders" => {
-            let read = by_tree::<EnvelopeHeaders>(alloc, line);
-            said_of(
-                alloc,
-                read,
-                |header: &EnvelopeHeaders| said_header(alloc, header),
-            )?
-        }
-        "DynamicSamplingContext" => {
-            let read = by_tree::<DynamicSamplingContext>(alloc, line);
-            said_of(alloc, read, |trace: &DynamicSamplingContext| {
-                said_sampling(alloc, trace)
-            })?
-        }
+        "EnvelopeHeaders" => said_of(alloc, by_tree(alloc, line), said_header)?,
+        "DynamicSamplingContext" => said_of(alloc, by_tree(alloc, line), said_sampling)?,
         _ => return Ok(None),
     }))
 }

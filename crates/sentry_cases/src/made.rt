@@ -5,7 +5,7 @@ use crate::bytes::said_bytes;
 use crate::envelopes::said_losses;
 use crate::events::said_event;
 use crate::form::{ids, now, written};
-use crate::said::{as_tree, debug, list, refused, text, unknown};
+use crate::said::{as_tree, debug, list, refused, text, tree, unknown};
 use sentry_members::text_of;
 use sentry_types::IndexedEnum;
 use sentry_types::protocol::v7::{
@@ -37,9 +37,7 @@ fn said_attachment(alloc: Global, attachment: &Attachment) -> Result<Value, Allo
         said_bytes(alloc, &out),
         debug(alloc, attachment),
         as_tree(attachment.is_plain()),
-        said_of(alloc, attachment.normalized(), |normal: &Attachment| {
-            said_normal(alloc, normal)
-        }),
+        said_of(alloc, attachment.normalized(), said_normal),
     ];
     list(alloc, fields)
 }
@@ -79,14 +77,8 @@ fn attachment_of(
 }
 
 // What is said of the clone of an attachment.
-fn said_clone(alloc: Global, made: Result<Attachment, AllocError>) -> Result<Value, AllocError> {
-    said_of(alloc, made, |attachment: &Attachment| {
-        said_of(
-            alloc,
-            attachment.clone(),
-            |copy: &Attachment| said_attachment(alloc, copy),
-        )
-    })
+fn said_clone(alloc: Global, attachment: &Attachment) -> Result<Value, AllocError> {
+    said_of(alloc, attachment.clone(), said_attachment)
 }
 
 // Members of any type as attributes.
@@ -115,7 +107,7 @@ fn log_of(timestamp: Moment, body: String, attributes: Map<String, LogAttribute>
 
 // What a log writes, and what is lost with it.
 fn said_log(alloc: Global, log: &Log) -> Result<Value, AllocError> {
-    let written = said_of(alloc, log.clone(), |copy: &Log| {
+    let written = said_of(alloc, log.clone(), |alloc: Global, copy: &Log| {
         written::<Own, Log>(alloc, log, copy)
     });
     list(alloc, [written, said_losses(alloc, log)])
@@ -226,9 +218,10 @@ pub fn of_parts(alloc: Global, name: &str, parts: &[Value]) -> Result<Option<Val
             ],
         ) => {
             let (buffer, filename) = (buffer.as_str(), filename.as_str());
-            said_clone(
+            said_of(
                 alloc,
                 attachment_of(alloc, buffer, content_type, filename, ty),
+                said_clone,
             )?
         }
         ("Log", [Value::String(body), Value::Object(members)]) => {
@@ -244,7 +237,8 @@ pub fn of_parts(alloc: Global, name: &str, parts: &[Value]) -> Result<Option<Val
             of_other_member(alloc, key.as_str())?
         }
         ("Context with other members", [Value::String(name), Value::Object(members)]) => {
-            of_context(alloc, name.as_str(), members)?
+            let made = context_of(alloc, name.as_str(), members.copy()?);
+            said_of(alloc, made, said_context)?
         }
         ("Report::new", items) => of_report(alloc, items)?,
         _ => return Ok(None),
@@ -281,12 +275,9 @@ fn context_of(alloc: Global, name: &str, other: Map<String, Value>) -> Result<Co
     }
 }
 
-// The tree of a context of this type with other members, and whether it is plain.
-fn of_context(alloc: Global, name: &str, other: &Map<String, Value>) -> Result<Value, AllocError> {
-    let made = context_of(alloc, name, other.copy()?);
-    said_of(alloc, made, |context: &Context| {
-        list(alloc, [context.to_tree(alloc), as_tree(context.is_plain())])
-    })
+// The tree of a context, and whether it is plain.
+fn said_context(alloc: Global, context: &Context) -> Result<Value, AllocError> {
+    list(alloc, [context.to_tree(alloc), as_tree(context.is_plain())])
 }
 
 // A user with other members.
@@ -298,10 +289,15 @@ fn user_of(alloc: Global, other: Map<String, Value>) -> User {
 
 // The text that a user writes, its tree, and whether it is plain.
 fn said_user(alloc: Global, user: &User) -> Result<Value, AllocError> {
-    let line = said_of(alloc, text_of(alloc, user), |line: &Vec<u8>| {
-        said_bytes(alloc, line)
-    });
-    list(alloc, [line, user.to_tree(alloc), as_tree(user.is_plain())])
+    let line = text_of(alloc, user)?;
+    list(
+        alloc,
+        [
+            said_bytes(alloc, &line),
+            user.to_tree(alloc),
+            as_tree(user.is_plain()),
+        ],
+    )
 }
 
 // What is said of a user with an id and other members, which may have keys of fields.
@@ -335,7 +331,7 @@ fn said_beside<T: Member + PartialEq>(
 pub fn of_custom(alloc: Global, given: &str) -> Result<Value, AllocError> {
     let custom = AttachmentType::Custom(String::from_str(alloc, given)?);
     let named = AttachmentType::from_text(alloc, given);
-    said_of(alloc, named, |named: &AttachmentType| {
+    said_of(alloc, named, |alloc: Global, named: &AttachmentType| {
         said_beside(alloc, &custom, named)
     })
 }
@@ -360,12 +356,8 @@ pub fn of_new(alloc: Global, name: &str) -> Result<Value, AllocError> {
         return text(alloc, "no moment");
     };
     match name {
-        "Breadcrumb" => said_of(alloc, Breadcrumb::new(alloc, now), |new: &Breadcrumb| {
-            new.to_tree(alloc)
-        }),
-        "Event" => said_of(alloc, new_event(alloc), |new: &Event<'_>| {
-            new.to_tree(alloc)
-        }),
+        "Breadcrumb" => said_of(alloc, Breadcrumb::new(alloc, now), tree),
+        "Event" => said_of(alloc, new_event(alloc), tree),
         "Span" => said_own(alloc, Span::new(alloc, now, &mut ids())),
         "TraceContext" => said_own(alloc, TraceContext::new(alloc, &mut ids())),
         "Transaction" => said_own(alloc, ended(alloc, now)),

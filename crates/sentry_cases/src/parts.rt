@@ -24,11 +24,7 @@ fn of_trace(alloc: Global, name: &str, line: &[u8]) -> Result<Option<Value>, All
         "Frame" => cloned(alloc, line, Frame::clone)?,
         "TemplateInfo" => cloned(alloc, line, TemplateInfo::clone)?,
         "Stacktrace" => cloned(alloc, line, Stacktrace::clone)?,
-        "Stacktrace::from_frames_reversed" => {
-            taken(alloc, by_tree(alloc, line), |frames: Vec<Frame>| {
-                of_reversed(alloc, frames)
-            })?
-        }
+        "Stacktrace::from_frames_reversed" => taken(alloc, by_tree(alloc, line), of_reversed)?,
         "ThreadId" => cloned(alloc, line, ThreadId::clone)?,
         "Thread" => cloned(alloc, line, Thread::clone)?,
         "Values<Thread>" => cloned(alloc, line, Values::<Thread>::clone)?,

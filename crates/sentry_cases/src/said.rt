@@ -1,6 +1,6 @@
 //! Answers, as trees of JSON: a list of what was read, or the text of a refusal after `!`.
 
-use sentry_types::protocol::v7::Value;
+use sentry_types::protocol::v7::{Member, Value};
 use std::alloc::{AllocError, Global};
 use std::fmt::{Debug, Display};
 use std::str::FromStr;
@@ -25,6 +25,11 @@ pub fn owned(made: Result<String, AllocError>) -> Result<Value, AllocError> {
 /// A number, a truth value, a text or a list, as a tree.
 pub fn as_tree<T: Into<Value>>(value: T) -> Result<Value, AllocError> {
     Ok(value.into())
+}
+
+/// The tree that a value writes.
+pub fn tree<T: Member>(alloc: Global, value: &T) -> Result<Value, AllocError> {
+    value.to_tree(alloc)
 }
 
 /// The `Debug` text of a value.

@@ -99,7 +99,7 @@ impl Losses {
 }
 
 /// The texts of the reports that are due at these seconds.
-fn reported(alloc: Global, losses: &mut Losses, seconds: &[u64]) -> Result<String, Fail> {
+fn reported(alloc: Global, losses: &mut Losses, seconds: &[u64]) -> Result<Vec<u8>, Fail> {
     let mut texts = Vec::new(alloc);
     for secs in seconds {
         let now = Moment::new(*secs, 0).ok_or("moment")?;
@@ -107,7 +107,7 @@ fn reported(alloc: Global, losses: &mut Losses, seconds: &[u64]) -> Result<Strin
             texts.extend_from_slice(&text_of(alloc, &report)?)?;
         }
     }
-    Ok(String::from_utf8(texts).map_err(|_| "text")?)
+    Ok(texts)
 }
 
 const REPORT: &str =
@@ -123,7 +123,9 @@ fn a_client_reports_what_it_drops(rt: HostRuntime) -> Result<(), Fail> {
     let envelope = read(alloc, EVENT_AND_ATTACHMENT)?;
     let left = told(losses.without_attachments(alloc, envelope));
     let texts = reported(alloc, &mut losses, &[59, 60, 61, 120])?;
-    let sent = texts.as_str() == REPORT && losses.ledger.is_empty() && losses.due == 180;
+    let sent = texts.as_slice() == REPORT.as_bytes()
+        && losses.ledger.is_empty()
+        && losses.due == 180;
     wanted(left == Some((false, 0)) && sent)
 }
 
@@ -140,7 +142,10 @@ fn flushed_at_last(alloc: Global, ledger: &mut Ledger, now: Moment) -> Result<us
         Err(_) if all_held(ledger) == held => ledger.flush(alloc, now)?,
         Err(_) => return Err("lost".into()),
     };
-    Ok(report.map_or(0, |report| report.discarded_events().len()))
+    match report {
+        Some(report) => Ok(report.discarded_events().len()),
+        None => Ok(0),
+    }
 }
 
 #[test]

@@ -26,8 +26,10 @@ fn without_attachments(alloc: Global, bytes: &[u8]) -> Result<Option<Envelope>, 
     Ok(left.ok_or("out of memory")?)
 }
 
-/// Whether one loss is told of an envelope, and it is written as this text.
-fn is_left(alloc: Global, left: &Envelope, text: &str) -> bool {
+/// Whether an envelope is the recording of `TWO_ITEMS`: one loss is told of it, and it is written
+/// without the header's DSN.
+fn is_recording(alloc: Global, left: &Envelope) -> bool {
+    let text = "{}\n{\"length\":3,\"type\":\"replay_recording\"}\nabc\n";
     let mut losses = left.losses();
     let mut out = Vec::new(alloc);
     losses.next().is_some()
@@ -40,8 +42,7 @@ fn is_left(alloc: Global, left: &Envelope, text: &str) -> bool {
 fn read_filtered_and_written(rt: HostRuntime) -> Result<(), Fail> {
     let alloc = rt.alloc();
     let left = without_attachments(alloc, TWO_ITEMS.as_bytes())?.ok_or("nothing is left");
-    let text = "{}\n{\"length\":3,\"type\":\"replay_recording\"}\nabc\n";
-    wanted(holds(left, |left: &Envelope| is_left(alloc, left, text)))
+    wanted(holds(alloc, left, is_recording))
 }
 
 /// The text of the envelope that bytes spell at one moment, and the text of what that text spells

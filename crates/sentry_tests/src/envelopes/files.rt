@@ -1,7 +1,7 @@
 //! Envelopes in files.
 
-use super::is_written;
-use crate::wanted::{holds, wanted};
+use super::is_text;
+use crate::wanted::wanted;
 use rand_pcg::Pcg32;
 use sentry_types::protocol::v7::EnvelopeError::UnexpectedEof;
 use sentry_types::protocol::v7::{Envelope, EnvelopeError, Moment};
@@ -14,14 +14,6 @@ fn envelope_in(rt: &HostRuntime, path: &str) -> Result<Envelope, EnvelopeError> 
         return Err(EnvelopeError::InvalidItemPayload);
     };
     Envelope::from_path(rt, path, now, &mut Pcg32::new(42, 54))
-}
-
-/// Whether a file's envelope is written as this text.
-fn is_text(rt: &HostRuntime, file: Result<Envelope, EnvelopeError>, text: &str) -> bool {
-    holds(
-        file,
-        |envelope: &Envelope| is_written(rt.alloc(), envelope, text),
-    )
 }
 
 /// Whether this is how reading ends where a file is missing.
@@ -39,8 +31,8 @@ fn files(rt: HostRuntime) -> Result<(), Fail> {
     let path = "an_envelope";
     fs::write(&rt, path, TEXT)?;
     wanted(
-        is_text(&rt, envelope_in(&rt, path), REWRITTEN)
-            && is_text(&rt, Envelope::from_path_raw(&rt, path), TEXT),
+        is_text(rt.alloc(), envelope_in(&rt, path), REWRITTEN)
+            && is_text(rt.alloc(), Envelope::from_path_raw(&rt, path), TEXT),
     )?;
     fs::remove_file(&rt, path)?;
     wanted(is_missing(envelope_in(&rt, path)) && is_missing(Envelope::from_path_raw(&rt, path)))

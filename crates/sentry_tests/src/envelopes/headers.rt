@@ -1,6 +1,6 @@
 //! Headers of envelopes that builders make.
 
-use super::is_written;
+use crate::envelopes::is_text;
 use crate::wanted::{taken, wanted};
 use sentry_types::protocol::v7::{
     ClientSdkInfo, DynamicSamplingContext, Envelope, EnvelopeHeaders, Moment, OrganizationId,
@@ -14,26 +14,16 @@ fn text(alloc: Global, text: &str) -> Result<String, AllocError> {
     String::from_str(alloc, text)
 }
 
-/// What a trace is sampled by, with each of its texts.
-fn texts(
-    public_key: String,
-    release: String,
-    environment: String,
-    transaction: String,
-) -> DynamicSamplingContext {
-    DynamicSamplingContext::new()
-        .with_public_key(public_key)
-        .with_release(release)
-        .with_environment(environment)
-        .with_transaction(transaction)
-}
-
 /// What a trace is sampled by, with each of its fields.
 fn sampling(alloc: Global, sample_rand: SampleRand) -> Result<DynamicSamplingContext, AllocError> {
     let (key, release) = (text(alloc, "k")?, text(alloc, "r")?);
     let (environment, transaction) = (text(alloc, "e")?, text(alloc, "t")?);
     Ok(
-        texts(key, release, environment, transaction)
+        DynamicSamplingContext::new()
+            .with_public_key(key)
+            .with_release(release)
+            .with_environment(environment)
+            .with_transaction(transaction)
             .with_trace_id(TraceId::from([0x65; 16]))
             .with_sample_rate(210)
             .with_sample_rand(sample_rand)
@@ -77,19 +67,7 @@ const LINE: &str = concat!(
 
 /// Whether a header's envelope is written as `LINE`.
 fn is_line(alloc: Global, header: EnvelopeHeaders) -> bool {
-    let envelope = Envelope::new(alloc).with_headers(header);
-    let written = is_written(alloc, &envelope, LINE);
-    drop(envelope);
-    written
-}
-
-/// Whether a header and its normal form are written as `LINE`.
-fn are_line(alloc: Global, header: EnvelopeHeaders) -> bool {
-    let normal = taken(
-        header.normalized(alloc),
-        |normal: EnvelopeHeaders| is_line(alloc, normal),
-    );
-    is_line(alloc, header) && normal
+    is_text(alloc, Ok(Envelope::new(alloc).with_headers(header)), LINE)
 }
 
 /// What is put in is written, and a number below 1 isn't rounded up to it.
@@ -100,5 +78,7 @@ fn builders(rt: HostRuntime) -> Result<(), Fail> {
     let sent_at = Moment::new(1_581_084_960, 0).ok_or("moment")?;
     let (sdk, trace) = (software(alloc)?, sampling(alloc, near_one)?);
     let dsn = Dsn::from_str(alloc, "https://username@domain/42")?;
-    wanted(are_line(alloc, header(dsn, sdk, sent_at, trace)))
+    let header = header(dsn, sdk, sent_at, trace);
+    let normal = taken(alloc, header.normalized(alloc), is_line);
+    wanted(is_line(alloc, header) && normal)
 }

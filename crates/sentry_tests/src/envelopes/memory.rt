@@ -33,19 +33,6 @@ struct Page {
     taken: usize,
 }
 
-impl Page {
-    fn new() -> Page {
-        Page {
-            bytes: [0; 512],
-            taken: 0,
-        }
-    }
-
-    fn holds(&self, text: &str) -> bool {
-        self.bytes.get(..self.taken).unwrap_or(&[]) == text.as_bytes()
-    }
-}
-
 impl Write for Page {
     fn write(&mut self, bytes: &[u8]) -> io::Result<usize> {
         match (bytes.first(), self.bytes.get_mut(self.taken)) {
@@ -68,15 +55,6 @@ impl Write for Page {
 struct Calls {
     asked: u8,
     handed: u8,
-}
-
-impl Calls {
-    fn none() -> Calls {
-        Calls {
-            asked: 0,
-            handed: 0,
-        }
-    }
 }
 
 impl EnvelopeFilter for Calls {
@@ -113,7 +91,10 @@ pub(crate) fn read_at_last(alloc: Global, bytes: &[u8]) -> Result<Envelope, Enve
 
 /// Whether a page gets the whole text, after a refusal that wrote nothing at the second try.
 fn is_written_at_last(alloc: Global, envelope: &Envelope) -> bool {
-    let mut page = Page::new();
+    let mut page = Page {
+        bytes: [0; 512],
+        taken: 0,
+    };
     let written = match envelope.to_writer(alloc, &mut page) {
         Ok(()) => true,
         Err(EnvelopeWriteError::Memory) => {
@@ -121,7 +102,7 @@ fn is_written_at_last(alloc: Global, envelope: &Envelope) -> bool {
         }
         Err(_) => false,
     };
-    written && page.holds(TEXT)
+    written && page.bytes.get(..page.taken).unwrap_or(&[]) == TEXT.as_bytes()
 }
 
 /// The normal form of an envelope. After a refusal it is asked for once more.
@@ -132,16 +113,16 @@ fn normalized_at_last(envelope: &Envelope) -> Result<Envelope, AllocError> {
     }
 }
 
+/// Whether an envelope and its normal form are written, each after a refusal or at once.
+fn is_rewritten_at_last(alloc: Global, envelope: &Envelope) -> bool {
+    is_written_at_last(alloc, envelope)
+        && holds(alloc, normalized_at_last(envelope), is_written_at_last)
+}
+
 #[test]
 fn refused_when_rewriting(rt: HostRuntime) -> Result<(), Fail> {
     let alloc = rt.alloc();
-    wanted(holds(read_at_last(alloc, TWO), |envelope: &Envelope| {
-        is_written_at_last(alloc, envelope)
-            && holds(
-                normalized_at_last(envelope),
-                |normal: &Envelope| is_written_at_last(alloc, normal),
-            )
-    }))
+    wanted(holds(alloc, read_at_last(alloc, TWO), is_rewritten_at_last))
 }
 
 /// Whether an envelope is left after a filter.
@@ -152,7 +133,11 @@ fn is_left<T: Drop, E: Drop>(filtered: Result<Option<T>, E>) -> bool {
 /// Whether all stays, after a refusal that called nothing and left the envelope as it was at the
 /// second try.
 fn stays_at_last(alloc: Global, envelope: Envelope) -> bool {
-    match envelope.filter(alloc, Calls::none()) {
+    let none = Calls {
+        asked: 0,
+        handed: 0,
+    };
+    match envelope.filter(alloc, none) {
         Ok(left) => !is_none(left),
         Err((envelope, calls)) => {
             let unchanged = (calls.asked, calls.handed) == (0, 0)
@@ -168,37 +153,36 @@ fn refused_when_filtering(rt: HostRuntime) -> Result<(), Fail> {
     wanted(stays_at_last(rt.alloc(), read_at_last(rt.alloc(), TWO)?))
 }
 
-/// The bytes of an envelope of an attachment of so many bytes.
-fn bytes_of(alloc: Global, length: usize) -> Result<Vec<u8>, AllocError> {
-    let header = format!(in alloc; "{{}}\n{{\"type\":\"attachment\",\"length\":{length}}}\n")?;
+const LENGTH: usize = 1_000_000;
+
+/// The bytes of an envelope of a long attachment.
+fn long_bytes(alloc: Global) -> Result<Vec<u8>, AllocError> {
+    let header = format!(in alloc; "{{}}\n{{\"type\":\"attachment\",\"length\":{LENGTH}}}\n")?;
     let mut bytes = header.as_bytes().to_vec(alloc)?;
-    bytes.extend_from_slice(&vec![in alloc; b'x'; length]?)?;
+    bytes.extend_from_slice(&vec![in alloc; b'x'; LENGTH]?)?;
     Ok(bytes)
 }
 
-/// Whether an envelope is written as more bytes than these, and the same by a writer that counts.
-fn is_longer(alloc: Global, envelope: &Envelope, length: usize) -> bool {
+/// Whether an envelope is written as more bytes than its attachment has, and the same by a writer
+/// that counts.
+fn is_long(alloc: Global, envelope: &Envelope) -> bool {
     let mut out = Vec::new(alloc);
     let mut counted = CountedWriter::new(Vec::new(alloc));
     envelope.to_writer(alloc, &mut out).is_ok()
         && envelope.write_counted(alloc, &mut counted).is_ok()
-        && out.len() > length
+        && out.len() > LENGTH
         && counted.into_inner() == out
 }
 
-/// No call wants memory for an envelope, however long it is.
+/// Whether an envelope and its normal form are long.
+fn are_long(alloc: Global, envelope: &Envelope) -> bool {
+    is_long(alloc, envelope) && holds(alloc, envelope.normalized(), is_long)
+}
+
+/// No call wants memory for an envelope of a long attachment.
 #[test]
 fn none_refused(rt: HostRuntime) -> Result<(), Fail> {
     let alloc = rt.alloc();
-    for length in [10, 1_000_000] {
-        let bytes = bytes_of(alloc, length)?;
-        wanted(holds(read(alloc, &bytes), |envelope: &Envelope| {
-            is_longer(alloc, envelope, length)
-                && holds(
-                    envelope.normalized(),
-                    |normal: &Envelope| is_longer(alloc, normal, length),
-                )
-        }))?;
-    }
-    Ok(())
+    let bytes = long_bytes(alloc)?;
+    wanted(holds(alloc, read(alloc, &bytes), are_long))
 }

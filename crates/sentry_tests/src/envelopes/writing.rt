@@ -35,19 +35,16 @@ fn is_cut(alloc: Global, envelope: &Envelope, room: usize, by_error: bool) -> bo
 
 /// Whether the text is cut wherever the room ends, and isn't where there is more.
 fn is_cut_anywhere(alloc: Global, envelope: &Envelope) -> bool {
-    for room in 0..=TEXT.len() {
+    for room in 0..TEXT.len() {
         if !is_cut(alloc, envelope, room, false) || !is_cut(alloc, envelope, room, true) {
             return false;
         }
     }
-    is_cut(alloc, envelope, usize::MAX, true)
+    is_cut(alloc, envelope, TEXT.len(), true) && is_cut(alloc, envelope, usize::MAX, false)
 }
 
 #[test]
 fn a_failed_write_ends_it(rt: HostRuntime) -> Result<(), Fail> {
     let alloc = rt.alloc();
-    wanted(holds(
-        read(alloc, TEXT),
-        |envelope: &Envelope| is_cut_anywhere(alloc, envelope),
-    ))
+    wanted(holds(alloc, read(alloc, TEXT), is_cut_anywhere))
 }
