@@ -1,17 +1,10 @@
 //! Authentications.
 
 use crate::asked::said_of;
-use crate::said::{as_tree, list, maybe, shown, text};
+use crate::said::{as_tree, list, maybe, maybe_shown, shown, text};
 use sentry_types::Auth;
-use sentry_types::protocol::v7::{Member, Moment, Value};
+use sentry_types::protocol::v7::{Member, Value};
 use std::alloc::{AllocError, Global};
-
-fn said_time(alloc: Global, found: Option<Moment>) -> Result<Value, AllocError> {
-    match found {
-        Some(moment) => shown(alloc, &moment),
-        None => Ok(Value::Null),
-    }
-}
 
 // The text, the parts and the tree of an authentication.
 fn said_auth(alloc: Global, auth: &Auth) -> Result<Value, AllocError> {
@@ -19,7 +12,7 @@ fn said_auth(alloc: Global, auth: &Auth) -> Result<Value, AllocError> {
         alloc,
         [
             said_of(alloc, auth.clone(), shown),
-            said_time(alloc, auth.timestamp()),
+            maybe_shown(alloc, auth.timestamp()),
             maybe(alloc, auth.client_agent()),
             as_tree(auth.version()),
             text(alloc, auth.public_key()),

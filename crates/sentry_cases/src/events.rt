@@ -2,7 +2,7 @@
 
 use crate::asked::{said_of, taken};
 use crate::envelopes::said_envelope;
-use crate::form::{by_tree_at, cloned_at};
+use crate::form::{by_line_at, by_tree_at, cloned_at};
 use crate::said::{list, shown, text};
 use sentry_types::protocol::v7::{
     Envelope, EnvelopeItem, Event, FromTreeAt, Member, Span, Transaction, TreeError, Value,
@@ -88,10 +88,10 @@ pub fn of_event(alloc: Global, name: &str, line: &[u8]) -> Result<Option<Value>,
         "Event::fmt" => printed::<Event<'static>>(alloc, line)?,
         "Span::fmt" => printed::<Span>(alloc, line)?,
         "Transaction::fmt" => printed::<Transaction<'static>>(alloc, line)?,
-        "EnvelopeItem::event" => taken(alloc, by_tree_at(alloc, line), said_event)?,
-        "EnvelopeItem::transaction" => taken(alloc, by_tree_at(alloc, line), said_transaction)?,
-        "Event::into_owned" => taken(alloc, by_tree_at(alloc, line), owned_event)?,
-        "Transaction::into_owned" => taken(alloc, by_tree_at(alloc, line), owned_transaction)?,
+        "EnvelopeItem::event" => taken(alloc, by_line_at(alloc, line), said_event)?,
+        "EnvelopeItem::transaction" => taken(alloc, by_line_at(alloc, line), said_transaction)?,
+        "Event::into_owned" => taken(alloc, by_line_at(alloc, line), owned_event)?,
+        "Transaction::into_owned" => taken(alloc, by_line_at(alloc, line), owned_transaction)?,
         _ => return Ok(None),
     }))
 }

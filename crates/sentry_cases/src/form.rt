@@ -7,7 +7,7 @@ use sentry_members::read_tree;
 use sentry_types::protocol::v7::value::Writer;
 use sentry_types::protocol::v7::{
     Codec, FromTree, FromTreeAt, Member, Moment, Own, ReadCodec, ReadCodecAt, TreeError,
-    TreeMember, Value, Values, Way,
+    TreeMember, Value, Values, Way, read_line_at,
 };
 use std::alloc::{AllocError, Global};
 use std::fmt::Debug;
@@ -155,6 +155,11 @@ pub fn ids() -> Pcg32 {
 /// The value that a line shows as a tree of values at the moment of reading.
 pub fn by_tree_at<T: FromTreeAt>(alloc: Global, line: &[u8]) -> Result<T, TreeError> {
     T::from_tree(alloc, &read_tree(alloc, line)?, now()?, &mut ids())
+}
+
+/// The value that a line shows at the moment of reading, whatever holds its tree.
+pub fn by_line_at<T: FromTreeAt>(alloc: Global, line: &[u8]) -> Result<T, TreeError> {
+    read_line_at(alloc, line, now()?, &mut ids())
 }
 
 // As `beside_tape`, at the moment of reading.

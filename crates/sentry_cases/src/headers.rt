@@ -1,19 +1,11 @@
 //! Fields of headers of envelopes, as their getters give them.
 
 use crate::asked::said_of;
-use crate::form::by_tree;
-use crate::said::{list, maybe, shown};
-use sentry_types::protocol::v7::{DynamicSamplingContext, EnvelopeHeaders, Member, Value};
+use crate::said::{list, maybe, maybe_shown};
+use sentry_types::protocol::v7::{
+    DynamicSamplingContext, EnvelopeHeaders, Member, Value, read_line,
+};
 use std::alloc::{AllocError, Global};
-use std::fmt::Display;
-
-// What a field prints, or null.
-fn printed<T: Display + Drop>(alloc: Global, found: Option<T>) -> Result<Value, AllocError> {
-    match found {
-        Some(found) => shown(alloc, &found),
-        None => Ok(Value::Null),
-    }
-}
 
 // The tree of a field, or null.
 fn tree_of<T: Member>(alloc: Global, found: Option<&T>) -> Result<Value, AllocError> {
@@ -25,10 +17,10 @@ fn tree_of<T: Member>(alloc: Global, found: Option<&T>) -> Result<Value, AllocEr
 
 fn said_header(alloc: Global, header: &EnvelopeHeaders) -> Result<Value, AllocError> {
     let fields = [
-        printed(alloc, header.event_id().copied()),
+        maybe_shown(alloc, header.event_id().copied()),
         tree_of(alloc, header.dsn()),
         tree_of(alloc, header.sdk()),
-        printed(alloc, header.sent_at()),
+        maybe_shown(alloc, header.sent_at()),
         tree_of(alloc, header.trace()),
     ];
     list(alloc, fields)
@@ -36,15 +28,15 @@ fn said_header(alloc: Global, header: &EnvelopeHeaders) -> Result<Value, AllocEr
 
 fn said_sampling(alloc: Global, trace: &DynamicSamplingContext) -> Result<Value, AllocError> {
     let fields = [
-        printed(alloc, trace.trace_id()),
+        maybe_shown(alloc, trace.trace_id()),
         maybe(alloc, trace.public_key()),
-        printed(alloc, trace.sample_rate()),
-        printed(alloc, trace.sample_rand()),
-        printed(alloc, trace.sampled()),
+        maybe_shown(alloc, trace.sample_rate()),
+        maybe_shown(alloc, trace.sample_rand()),
+        maybe_shown(alloc, trace.sampled()),
         maybe(alloc, trace.release()),
         maybe(alloc, trace.environment()),
         maybe(alloc, trace.transaction()),
-        printed(alloc, trace.org_id()),
+        maybe_shown(alloc, trace.org_id()),
     ];
     list(alloc, fields)
 }
@@ -52,8 +44,8 @@ fn said_sampling(alloc: Global, trace: &DynamicSamplingContext) -> Result<Value,
 /// The fields of the header, or of the sampling context, that a line shows.
 pub fn of_fields(alloc: Global, name: &str, line: &[u8]) -> Result<Option<Value>, AllocError> {
     Ok(Some(match name {
-        "EnvelopeHeaders" => said_of(alloc, by_tree(alloc, line), said_header)?,
-        "DynamicSamplingContext" => said_of(alloc, by_tree(alloc, line), said_sampling)?,
+        "EnvelopeHeaders" => said_of(alloc, read_line(alloc, line), said_header)?,
+        "DynamicSamplingContext" => said_of(alloc, read_line(alloc, line), said_sampling)?,
         _ => return Ok(None),
     }))
 }

@@ -93,18 +93,6 @@ fn attributes(
     Ok(attributes)
 }
 
-// A log of this body and these attributes.
-fn log_of(timestamp: Moment, body: String, attributes: Map<String, LogAttribute>) -> Log {
-    Log {
-        level: LogLevel::Info,
-        body,
-        trace_id: None,
-        timestamp,
-        severity_number: None,
-        attributes,
-    }
-}
-
 // What a log writes, and what is lost with it.
 fn said_log(alloc: Global, log: &Log) -> Result<Value, AllocError> {
     let written = said_of(alloc, log.clone(), |alloc: Global, copy: &Log| {
@@ -121,7 +109,14 @@ fn of_log(
 ) -> Result<Value, AllocError> {
     match now() {
         Ok(timestamp) => {
-            let log = log_of(timestamp, body, attributes);
+            let log = Log {
+                level: LogLevel::Info,
+                body,
+                trace_id: None,
+                timestamp,
+                severity_number: None,
+                attributes,
+            };
             let told = said_log(alloc, &log);
             drop(log);
             told
@@ -330,10 +325,8 @@ fn said_beside<T: Member + PartialEq>(
 /// What is said of the type of attachments that is `Custom` of a text.
 pub fn of_custom(alloc: Global, given: &str) -> Result<Value, AllocError> {
     let custom = AttachmentType::Custom(String::from_str(alloc, given)?);
-    let named = AttachmentType::from_text(alloc, given);
-    said_of(alloc, named, |alloc: Global, named: &AttachmentType| {
-        said_beside(alloc, &custom, named)
-    })
+    let named = AttachmentType::from_text(alloc, given)?;
+    said_beside(alloc, &custom, &named)
 }
 
 /// What is said of the unit that is `Other` of a text.

@@ -54,6 +54,17 @@ pub fn maybe(alloc: Global, found: Option<&str>) -> Result<Value, AllocError> {
     }
 }
 
+/// What a value prints, or null.
+pub fn maybe_shown<T: Display + Drop>(
+    alloc: Global,
+    found: Option<T>,
+) -> Result<Value, AllocError> {
+    match found {
+        Some(found) => shown(alloc, &found),
+        None => Ok(Value::Null),
+    }
+}
+
 /// What a refusal prints, after `!`.
 pub fn refused<E: Display>(alloc: Global, error: &E) -> Result<Value, AllocError> {
     owned(format!(in alloc; "!{error}"))
