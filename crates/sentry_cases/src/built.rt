@@ -3,7 +3,7 @@
 use crate::asked::{is_same, said_of, taken};
 use crate::envelopes::{read, said_envelope};
 use crate::filters::word_of;
-use crate::said::{as_tree, list, text};
+use crate::said::{as_tree, list, maybe_shown, text};
 use sentry_types::protocol::v7::{
     AddRefused, Attachment, Envelope, EnvelopeError, EnvelopeItem, EnvelopeItemIter, Log, Metric,
     ReplayRecording, Value,
@@ -83,11 +83,25 @@ fn said_count(_alloc: Global, envelope: Envelope) -> Result<Value, AllocError> {
     as_tree(envelope.into_items().count() as u64)
 }
 
-// The text of an envelope and the words of its items, those of its normal form, whether it is its
-// clone, and how many items its clone is taken apart into.
+// The id of an envelope's header, and that of its first event.
+fn said_ids(alloc: Global, envelope: &Envelope) -> Result<Value, AllocError> {
+    let event = match envelope.event() {
+        Some(event) => Some(event.event_id),
+        None => None,
+    };
+    let fields = [
+        maybe_shown(alloc, envelope.uuid().copied()),
+        maybe_shown(alloc, event),
+    ];
+    list(alloc, fields)
+}
+
+// The text of an envelope, its ids and the words of its items, those of its normal form, whether it
+// is its clone, and how many items its clone is taken apart into.
 fn said_whole(alloc: Global, envelope: &Envelope) -> Result<Value, AllocError> {
     let fields = [
         said_envelope(alloc, envelope),
+        said_ids(alloc, envelope),
         said_items(alloc, envelope),
         said_of(alloc, envelope.normalized(), said_items),
         as_tree(is_same(envelope.clone(), envelope)),

@@ -18,7 +18,7 @@ pub(crate) fn read(alloc: Global, bytes: &[u8]) -> Result<Envelope, EnvelopeErro
 }
 
 /// Whether an envelope was made, and is written as this text.
-pub(crate) fn is_text(alloc: Global, made: Result<Envelope, EnvelopeError>, text: &str) -> bool {
+pub(crate) fn is_text<E: Drop>(alloc: Global, made: Result<Envelope, E>, text: &str) -> bool {
     match made {
         Ok(envelope) => {
             let mut out = Vec::new(alloc);

@@ -8,7 +8,7 @@ ghost use Rattle.sentry_ledger.specs.Held.{quantity_held};
 
 use crate::envelopes::memory::read_at_last;
 use crate::envelopes::read;
-use crate::wanted::wanted;
+use crate::wanted::{told, wanted};
 use sentry_members::text_of;
 use sentry_types::IndexedEnum;
 use sentry_types::protocol::v7::client_report::{
@@ -49,14 +49,6 @@ fn nine_errors() -> Result<Ledger, LedgerFull> {
         ledger.record(errors(1, Some(*reason)), Reason::SampleRate)?;
     }
     Ok(ledger)
-}
-
-/// Whether nothing is left, and how many losses are refused, unless memory was refused.
-fn told<T: Drop, E: Drop>(recorded: Result<(Option<T>, u64), E>) -> Option<(bool, u64)> {
-    match recorded {
-        Ok((left, refused)) => Some((left.is_none(), refused)),
-        Err(_) => None,
-    }
 }
 
 /// The losses of a client, which reports them once a minute.

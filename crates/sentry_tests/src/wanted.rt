@@ -57,3 +57,11 @@ pub(crate) fn is_done<T: Drop, E: Drop>(answer: Result<T, E>) -> bool {
 pub(crate) fn is_none<T: Drop>(found: Option<T>) -> bool {
     found.is_none()
 }
+
+/// Whether a filter left nothing, and a count beside, unless memory was refused.
+pub(crate) fn told<T: Drop, E: Drop>(filtered: Result<(Option<T>, u64), E>) -> Option<(bool, u64)> {
+    match filtered {
+        Ok((left, count)) => Some((left.is_none(), count)),
+        Err(_) => None,
+    }
+}

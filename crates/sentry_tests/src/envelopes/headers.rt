@@ -67,7 +67,8 @@ const LINE: &str = concat!(
 
 /// Whether a header's envelope is written as `LINE`.
 fn is_line(alloc: Global, header: EnvelopeHeaders) -> bool {
-    is_text(alloc, Ok(Envelope::new(alloc).with_headers(header)), LINE)
+    let made: Result<Envelope, AllocError> = Ok(Envelope::new(alloc).with_headers(header));
+    is_text(alloc, made, LINE)
 }
 
 /// What is put in is written, and a number below 1 isn't rounded up to it.
