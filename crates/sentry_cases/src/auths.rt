@@ -6,8 +6,8 @@ use sentry_types::Auth;
 use sentry_types::protocol::v7::{Member, Value};
 use std::alloc::{AllocError, Global};
 
-// The text, the parts and the tree of an authentication.
-fn said_auth(alloc: Global, auth: &Auth) -> Result<Value, AllocError> {
+/// The text, the parts and the tree of an authentication.
+pub fn said_auth(alloc: Global, auth: &Auth) -> Result<Value, AllocError> {
     list(
         alloc,
         [
@@ -21,16 +21,4 @@ fn said_auth(alloc: Global, auth: &Auth) -> Result<Value, AllocError> {
             auth.to_tree(alloc),
         ],
     )
-}
-
-pub fn of_header(alloc: Global, given: &str) -> Result<Value, AllocError> {
-    said_of(alloc, Auth::from_str(alloc, given), said_auth)
-}
-
-pub fn of_query(alloc: Global, given: &[u8]) -> Result<Value, AllocError> {
-    said_of(alloc, Auth::from_querystring(alloc, given), said_auth)
-}
-
-pub fn of_pairs(alloc: Global, given: &[(&str, &str)]) -> Result<Value, AllocError> {
-    said_of(alloc, Auth::from_pairs(alloc, given), said_auth)
 }

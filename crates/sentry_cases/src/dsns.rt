@@ -59,7 +59,8 @@ fn is_read_back(alloc: Global, dsn: &Dsn) -> Result<bool, AllocError> {
     Ok(is_same(Dsn::from_str(alloc, text.as_str()), dsn) && is_same(dsn.clone(), dsn))
 }
 
-fn said_dsn(alloc: Global, dsn: &Dsn) -> Result<Value, AllocError> {
+/// The text, the parts, the API URLs and the authentication of a DSN, if it is read back.
+pub fn said_dsn(alloc: Global, dsn: &Dsn) -> Result<Value, AllocError> {
     if !is_read_back(alloc, dsn)? {
         return text(alloc, "not read back");
     }
@@ -72,9 +73,4 @@ fn said_dsn(alloc: Global, dsn: &Dsn) -> Result<Value, AllocError> {
             authentication(alloc, dsn),
         ],
     )
-}
-
-/// The text, the parts, the API URLs and the authentication of the DSN that a text names.
-pub fn of_dsn(alloc: Global, given: &str) -> Result<Value, AllocError> {
-    said_of(alloc, Dsn::from_str(alloc, given), said_dsn)
 }

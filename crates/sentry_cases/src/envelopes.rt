@@ -61,23 +61,13 @@ fn is_steady(alloc: Global, envelope: &Envelope) -> bool {
         )
 }
 
-// What is written of an envelope, if its text can be read.
-fn said_steady(alloc: Global, envelope: &Envelope) -> Result<Value, AllocError> {
+/// What is written of an envelope, if its text can be read.
+pub fn said_steady(alloc: Global, envelope: &Envelope) -> Result<Value, AllocError> {
     if is_steady(alloc, envelope) {
         said_envelope(alloc, envelope)
     } else {
         text(alloc, "not read back")
     }
-}
-
-/// What is written of the envelope that bytes spell.
-pub fn of_envelope(alloc: Global, bytes: &[u8]) -> Result<Value, AllocError> {
-    said_of(alloc, read(alloc, bytes), said_steady)
-}
-
-/// What is written of the envelope that bytes spell, whether or not its text can be read.
-pub fn of_rewritten(alloc: Global, bytes: &[u8]) -> Result<Value, AllocError> {
-    said_of(alloc, read(alloc, bytes), said_envelope)
 }
 
 /// What is written of the envelopes that texts spell, one after the other, by one reader and with
@@ -97,9 +87,9 @@ pub fn of_reader(alloc: Global, texts: &[Value]) -> Result<Value, AllocError> {
     Ok(Value::from(told))
 }
 
-// What is written of a raw envelope, whether it is plain, how many items it shows, and what is lost
-// with them.
-fn said_raw(alloc: Global, envelope: &Envelope) -> Result<Value, AllocError> {
+/// What is written of a raw envelope, whether it is plain, how many items it shows, and what is lost
+/// with them.
+pub fn said_raw(alloc: Global, envelope: &Envelope) -> Result<Value, AllocError> {
     let fields = [
         said_of(alloc, envelope.clone(), said_envelope),
         as_tree(envelope.is_plain()),
@@ -107,12 +97,6 @@ fn said_raw(alloc: Global, envelope: &Envelope) -> Result<Value, AllocError> {
         said_losses(alloc, envelope),
     ];
     list(alloc, fields)
-}
-
-/// What is said of the raw envelope of bytes.
-pub fn of_raw(alloc: Global, bytes: &[u8]) -> Result<Value, AllocError> {
-    let made = Envelope::from_bytes_raw(bytes.to_vec(alloc)?);
-    said_of(alloc, made, said_raw)
 }
 
 /// The header and the payload of a frame, or why there is none.
@@ -166,9 +150,4 @@ pub fn said_losses<S: LossSource>(alloc: Global, source: &S) -> Result<Value, Al
         told.push(said_loss(alloc, &loss)?)?;
     }
     Ok(Value::from(told))
-}
-
-/// The losses of the envelope that bytes spell.
-pub fn of_losses(alloc: Global, bytes: &[u8]) -> Result<Value, AllocError> {
-    said_of(alloc, read(alloc, bytes), said_losses)
 }

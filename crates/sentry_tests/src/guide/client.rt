@@ -92,5 +92,6 @@ fn a_panic_is_reported(rt: HostRuntime) -> Result<(), Fail> {
     let alloc = rt.alloc();
     let now = Moment::new(1_595_256_674, 0).ok_or("moment")?;
     let dsn = Dsn::from_str(alloc, "https://key@sentry.io/1")?;
-    wanted(is_text(alloc, report(alloc, dsn, now), REPORT))
+    let made: Result<Envelope, AllocError> = Ok(report(alloc, dsn, now)?);
+    wanted(is_text(alloc, made, REPORT))
 }
