@@ -1,17 +1,19 @@
 //! The answer to what is asked.
 
 use crate::asked::said_of;
-use crate::auths::{of_header, of_pairs, of_query};
+use crate::auths::said_auth;
 use crate::bytes::{decoded, of_bytes};
-use crate::dsns::of_dsn;
+use crate::dsns::said_dsn;
+use crate::envelopes::of_reader;
 use crate::equal::of_two_trees;
 use crate::ledger::of_history;
-use crate::made::{of_other_unit, of_parts};
+use crate::made::{of_custom, of_new, of_other_unit, of_parts};
 use crate::numbers::of_numbers;
 use crate::said::{text, unknown};
 use crate::texts::of_text;
 use sentry_members::read_tree;
 use sentry_types::protocol::v7::Value;
+use sentry_types::{Auth, Dsn};
 use std::alloc::{AllocError, Global};
 
 // The pairs of a list of lists of two texts; others are left out.
@@ -38,7 +40,11 @@ fn of_list(alloc: Global, name: &str, items: &[Value]) -> Result<Value, AllocErr
         return Ok(answer);
     }
     match name {
-        "Auth::from_pairs" => of_pairs(alloc, pairs_of(alloc, items)?.as_slice()),
+        "Auth::from_pairs" => {
+            let pairs = pairs_of(alloc, items)?;
+            said_of(alloc, Auth::from_pairs(alloc, pairs.as_slice()), said_auth)
+        }
+        "EnvelopeReader" => of_reader(alloc, items),
         _ => of_numbers(alloc, name, items),
     }
 }
@@ -48,10 +54,16 @@ fn of_string(alloc: Global, name: &str, given: &str) -> Result<Value, AllocError
         return Ok(answer);
     }
     match name {
-        "Metric with the unit Other" => of_other_unit(alloc, given),
-        "Dsn" => of_dsn(alloc, given),
-        "Auth" => of_header(alloc, given),
-        "Auth::from_querystring" => of_query(alloc, given.as_bytes()),
+        "AttachmentType::Custom" => of_custom(alloc, given),
+        "Unit::Other" => of_other_unit(alloc, given),
+        "new" => of_new(alloc, given),
+        "Dsn" => said_of(alloc, Dsn::from_str(alloc, given), said_dsn),
+        "Auth" => said_of(alloc, Auth::from_str(alloc, given), said_auth),
+        "Auth::from_querystring" => said_of(
+            alloc,
+            Auth::from_querystring(alloc, given.as_bytes()),
+            said_auth,
+        ),
         "ledger" => of_history(alloc, given),
         _ => match of_text(alloc, name, given)? {
             Some(answer) => Ok(answer),
@@ -69,9 +81,11 @@ fn of_value(alloc: Global, name: &str, given: &Value) -> Result<Value, AllocErro
 }
 
 fn of_json(alloc: Global, name: &str, given: &str) -> Result<Value, AllocError> {
-    said_of(alloc, read_tree(alloc, given.as_bytes()), |tree: &Value| {
-        of_value(alloc, name, tree)
-    })
+    said_of(
+        alloc,
+        read_tree(alloc, given.as_bytes()),
+        |alloc: Global, tree: &Value| { of_value(alloc, name, tree) },
+    )
 }
 
 // The answer for bytes that are given in hex.
@@ -80,7 +94,11 @@ fn of_hex(alloc: Global, name: &str, given: &str) -> Result<Value, AllocError> {
         return text(alloc, "no bytes in hex");
     };
     if name == "Auth::from_querystring" {
-        return of_query(alloc, bytes.as_slice());
+        return said_of(
+            alloc,
+            Auth::from_querystring(alloc, bytes.as_slice()),
+            said_auth,
+        );
     }
     match of_bytes(alloc, name, bytes.as_slice())? {
         Some(answer) => Ok(answer),

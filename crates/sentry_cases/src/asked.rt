@@ -5,7 +5,7 @@
 //! them once for all types, or to `drop`.
 
 use crate::said::refused;
-use sentry_types::protocol::v7::Value;
+use sentry_types::protocol::v7::{Member, Value};
 use std::alloc::{AllocError, Global};
 use std::fmt::Display;
 
@@ -28,7 +28,7 @@ pub fn is_same<T: PartialEq + Drop, E: Drop>(made: Result<T, E>, value: &T) -> b
 }
 
 /// What is said of a value that was made, or why none was.
-pub fn said_of<T: Drop, E: Display + Drop, F: FnOnce(&T) -> Result<Value, AllocError>>(
+pub fn said_of<T: Drop, E: Display + Drop, F: FnOnce(Global, &T) -> Result<Value, AllocError>>(
     alloc: Global,
     made: Result<T, E>,
     say: F,
@@ -36,13 +36,20 @@ pub fn said_of<T: Drop, E: Display + Drop, F: FnOnce(&T) -> Result<Value, AllocE
     requires { F.IsAlwaysCallable say }
 {
     match made {
-        Ok(value) => say(&value),
+        Ok(value) => say(alloc, &value),
         Err(error) => refused(alloc, &error),
     }
 }
 
+/// The tree that a value writes.
+pub fn said_own<T: Member>(alloc: Global, value: T) -> Result<Value, AllocError> {
+    let told = value.to_tree(alloc);
+    drop(value);
+    told
+}
+
 /// What a call makes of a value that was made, or why none was.
-pub fn taken<T: Drop, E: Display + Drop, F: FnOnce(T) -> Result<Value, AllocError>>(
+pub fn taken<T: Drop, E: Display + Drop, F: FnOnce(Global, T) -> Result<Value, AllocError>>(
     alloc: Global,
     made: Result<T, E>,
     call: F,
@@ -50,7 +57,7 @@ pub fn taken<T: Drop, E: Display + Drop, F: FnOnce(T) -> Result<Value, AllocErro
     requires { F.IsAlwaysCallable call }
 {
     match made {
-        Ok(value) => call(value),
+        Ok(value) => call(alloc, value),
         Err(error) => refused(alloc, &error),
     }
 }

@@ -1,25 +1,18 @@
 //! Authentications.
 
 use crate::asked::said_of;
-use crate::said::{as_tree, list, maybe, shown, text};
-use sentry_types::protocol::v7::{Member, Moment, Value};
-use sentry_types::{Auth, ParseAuthError};
+use crate::said::{as_tree, list, maybe, maybe_shown, shown, text};
+use sentry_types::Auth;
+use sentry_types::protocol::v7::{Member, Value};
 use std::alloc::{AllocError, Global};
 
-fn said_time(alloc: Global, found: Option<Moment>) -> Result<Value, AllocError> {
-    match found {
-        Some(moment) => shown(alloc, &moment),
-        None => Ok(Value::Null),
-    }
-}
-
-// The text, the parts and the tree of an authentication.
-fn said_auth(alloc: Global, auth: &Auth) -> Result<Value, AllocError> {
+/// The text, the parts and the tree of an authentication.
+pub fn said_auth(alloc: Global, auth: &Auth) -> Result<Value, AllocError> {
     list(
         alloc,
         [
-            said_of(alloc, auth.clone(), |copy: &Auth| shown(alloc, copy)),
-            said_time(alloc, auth.timestamp()),
+            said_of(alloc, auth.clone(), shown),
+            maybe_shown(alloc, auth.timestamp()),
             maybe(alloc, auth.client_agent()),
             as_tree(auth.version()),
             text(alloc, auth.public_key()),
@@ -28,20 +21,4 @@ fn said_auth(alloc: Global, auth: &Auth) -> Result<Value, AllocError> {
             auth.to_tree(alloc),
         ],
     )
-}
-
-fn of_auth(alloc: Global, answer: Result<Auth, ParseAuthError>) -> Result<Value, AllocError> {
-    said_of(alloc, answer, |auth: &Auth| said_auth(alloc, auth))
-}
-
-pub fn of_header(alloc: Global, given: &str) -> Result<Value, AllocError> {
-    of_auth(alloc, Auth::from_str(alloc, given))
-}
-
-pub fn of_query(alloc: Global, given: &[u8]) -> Result<Value, AllocError> {
-    of_auth(alloc, Auth::from_querystring(alloc, given))
-}
-
-pub fn of_pairs(alloc: Global, given: &[(&str, &str)]) -> Result<Value, AllocError> {
-    of_auth(alloc, Auth::from_pairs(alloc, given))
 }

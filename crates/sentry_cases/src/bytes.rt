@@ -1,6 +1,8 @@
 //! Answers to bytes.
 
-use crate::envelopes::{of_envelope, of_frames, of_losses, of_raw, of_rewritten};
+use crate::asked::said_of;
+use crate::built::{begun, of_built};
+use crate::envelopes::{of_frames, read, said_envelope, said_losses, said_raw, said_steady};
 use crate::filters::{of_answers, of_filter};
 use crate::form::of_tape;
 use crate::ledger::of_recorded;
@@ -43,13 +45,16 @@ pub fn of_bytes(alloc: Global, name: &str, bytes: &[u8]) -> Result<Option<Value>
     if let Some(words) = name.strip_prefix("asked ") {
         return Ok(Some(of_answers(alloc, words, bytes)?));
     }
+    if let Some(words) = name.strip_prefix("built ") {
+        return Ok(Some(of_built(alloc, words, bytes)?));
+    }
     Ok(Some(match name {
         "tape" => of_tape(alloc, bytes)?,
-        "raw" => of_raw(alloc, bytes)?,
-        "envelope" => of_envelope(alloc, bytes)?,
-        "rewritten" => of_rewritten(alloc, bytes)?,
+        "raw" => said_of(alloc, begun(alloc, "raw", bytes), said_raw)?,
+        "envelope" => said_of(alloc, read(alloc, bytes), said_steady)?,
+        "rewritten" => said_of(alloc, read(alloc, bytes), said_envelope)?,
         "frames" => of_frames(alloc, bytes)?,
-        "losses" => of_losses(alloc, bytes)?,
+        "losses" => said_of(alloc, read(alloc, bytes), said_losses)?,
         _ => return Ok(None),
     }))
 }

@@ -2,12 +2,12 @@
 
 use crate::asked::{is_same, said_of};
 use crate::said::{as_tree, list, maybe, owned, shown, text};
+use sentry_types::Dsn;
 use sentry_types::protocol::v7::{Moment, OrganizationId, Url, Value};
-use sentry_types::{ApiUrlError, Auth, Dsn};
 use std::alloc::{AllocError, Global};
 
-fn of_url(alloc: Global, answer: Result<Url, ApiUrlError>) -> Result<Value, AllocError> {
-    said_of(alloc, answer, |url: &Url| text(alloc, url.as_str()))
+fn said_url(alloc: Global, url: &Url) -> Result<Value, AllocError> {
+    text(alloc, url.as_str())
 }
 
 fn said_organization(found: Option<OrganizationId>) -> Result<Value, AllocError> {
@@ -38,9 +38,9 @@ fn destinations(alloc: Global, dsn: &Dsn) -> Result<Value, AllocError> {
         alloc,
         [
             owned(dsn.store_api_url_text(alloc)),
-            of_url(alloc, dsn.store_api_url(alloc)),
+            said_of(alloc, dsn.store_api_url(alloc), said_url),
             owned(dsn.envelope_api_url_text(alloc)),
-            of_url(alloc, dsn.envelope_api_url(alloc)),
+            said_of(alloc, dsn.envelope_api_url(alloc), said_url),
         ],
     )
 }
@@ -48,10 +48,7 @@ fn destinations(alloc: Global, dsn: &Dsn) -> Result<Value, AllocError> {
 // The authentication of a DSN at second 5 by the client `a`.
 fn authentication(alloc: Global, dsn: &Dsn) -> Result<Value, AllocError> {
     match Moment::new(5, 0) {
-        Some(now) => {
-            let auth = dsn.to_auth(alloc, now, Some("a"));
-            said_of(alloc, auth, |auth: &Auth| shown(alloc, auth))
-        }
+        Some(now) => { said_of(alloc, dsn.to_auth(alloc, now, Some("a")), shown) }
         None => Ok(Value::Null),
     }
 }
@@ -62,7 +59,8 @@ fn is_read_back(alloc: Global, dsn: &Dsn) -> Result<bool, AllocError> {
     Ok(is_same(Dsn::from_str(alloc, text.as_str()), dsn) && is_same(dsn.clone(), dsn))
 }
 
-fn said_dsn(alloc: Global, dsn: &Dsn) -> Result<Value, AllocError> {
+/// The text, the parts, the API URLs and the authentication of a DSN, if it is read back.
+pub fn said_dsn(alloc: Global, dsn: &Dsn) -> Result<Value, AllocError> {
     if !is_read_back(alloc, dsn)? {
         return text(alloc, "not read back");
     }
@@ -74,14 +72,5 @@ fn said_dsn(alloc: Global, dsn: &Dsn) -> Result<Value, AllocError> {
             destinations(alloc, dsn),
             authentication(alloc, dsn),
         ],
-    )
-}
-
-/// The text, the parts, the API URLs and the authentication of the DSN that a text names.
-pub fn of_dsn(alloc: Global, given: &str) -> Result<Value, AllocError> {
-    said_of(
-        alloc,
-        Dsn::from_str(alloc, given),
-        |dsn: &Dsn| said_dsn(alloc, dsn),
     )
 }

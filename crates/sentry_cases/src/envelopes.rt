@@ -5,7 +5,8 @@ use crate::bytes::said_bytes;
 use crate::said::{as_tree, list, maybe, refused, text};
 use rand_pcg::Pcg32;
 use sentry_types::protocol::v7::{
-    CountedWriter, Envelope, EnvelopeError, Frames, ItemFrame, ItemLoss, LossSource, Moment, Value,
+    CountedWriter, Envelope, EnvelopeError, EnvelopeReader, Frames, ItemFrame, ItemLoss,
+    LossSource, Moment, Value,
 };
 use std::alloc::{AllocError, Global};
 
@@ -60,8 +61,8 @@ fn is_steady(alloc: Global, envelope: &Envelope) -> bool {
         )
 }
 
-// What is written of an envelope, if its text can be read.
-fn said_steady(alloc: Global, envelope: &Envelope) -> Result<Value, AllocError> {
+/// What is written of an envelope, if its text can be read.
+pub fn said_steady(alloc: Global, envelope: &Envelope) -> Result<Value, AllocError> {
     if is_steady(alloc, envelope) {
         said_envelope(alloc, envelope)
     } else {
@@ -69,44 +70,33 @@ fn said_steady(alloc: Global, envelope: &Envelope) -> Result<Value, AllocError> 
     }
 }
 
-/// What is written of the envelope that bytes spell.
-pub fn of_envelope(alloc: Global, bytes: &[u8]) -> Result<Value, AllocError> {
-    said_of(
-        alloc,
-        read(alloc, bytes),
-        |envelope: &Envelope| said_steady(alloc, envelope),
-    )
+/// What is written of the envelopes that texts spell, one after the other, by one reader and with
+/// one generator of ids.
+pub fn of_reader(alloc: Global, texts: &[Value]) -> Result<Value, AllocError> {
+    let Some(now) = Moment::new(0, 0) else {
+        return text(alloc, "no moment");
+    };
+    let (mut reader, mut ids) = (EnvelopeReader::new(alloc), Pcg32::new(42, 54));
+    let mut told = Vec::new(alloc);
+    for given in texts {
+        let bytes = given.as_str().unwrap_or("").as_bytes();
+        let made = reader.read(bytes, now, &mut ids);
+        let said = said_of(alloc, made, said_envelope);
+        told.push(said?)?;
+    }
+    Ok(Value::from(told))
 }
 
-/// What is written of the envelope that bytes spell, whether or not its text can be read.
-pub fn of_rewritten(alloc: Global, bytes: &[u8]) -> Result<Value, AllocError> {
-    said_of(
-        alloc,
-        read(alloc, bytes),
-        |envelope: &Envelope| said_envelope(alloc, envelope),
-    )
-}
-
-// What is written of a raw envelope, whether it is plain, how many items it shows, and what is lost
-// with them.
-fn said_raw(alloc: Global, envelope: &Envelope) -> Result<Value, AllocError> {
+/// What is written of a raw envelope, whether it is plain, how many items it shows, and what is lost
+/// with them.
+pub fn said_raw(alloc: Global, envelope: &Envelope) -> Result<Value, AllocError> {
     let fields = [
-        said_of(
-            alloc,
-            envelope.clone(),
-            |copy: &Envelope| said_envelope(alloc, copy),
-        ),
+        said_of(alloc, envelope.clone(), said_envelope),
         as_tree(envelope.is_plain()),
         as_tree(envelope.items().count() as u64),
         said_losses(alloc, envelope),
     ];
     list(alloc, fields)
-}
-
-/// What is said of the raw envelope of bytes.
-pub fn of_raw(alloc: Global, bytes: &[u8]) -> Result<Value, AllocError> {
-    let made = Envelope::from_bytes_raw(bytes.to_vec(alloc)?);
-    said_of(alloc, made, |envelope: &Envelope| said_raw(alloc, envelope))
 }
 
 /// The header and the payload of a frame, or why there is none.
@@ -160,13 +150,4 @@ pub fn said_losses<S: LossSource>(alloc: Global, source: &S) -> Result<Value, Al
         told.push(said_loss(alloc, &loss)?)?;
     }
     Ok(Value::from(told))
-}
-
-/// The losses of the envelope that bytes spell.
-pub fn of_losses(alloc: Global, bytes: &[u8]) -> Result<Value, AllocError> {
-    said_of(
-        alloc,
-        read(alloc, bytes),
-        |envelope: &Envelope| said_losses(alloc, envelope),
-    )
 }

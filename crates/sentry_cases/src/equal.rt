@@ -8,6 +8,7 @@ use sentry_types::protocol::v7::{
     LogEntry, Mechanism, Member, Metric, OtelContext, Report, Request, ResponseContext, Span,
     Stacktrace, Thread, TraceContext, Transaction, TreeError, User, Value,
 };
+use sentry_types::{Dsn, ProjectId};
 use std::alloc::{AllocError, Global};
 
 // Whether a value is its clone, and whether it is the other one, both ways.
@@ -74,6 +75,7 @@ pub fn of_two_trees(
 ) -> Result<Value, AllocError> {
     match name {
         "DebugMeta" => own::<DebugMeta>(alloc, one, other),
+        "Dsn" => own::<Dsn>(alloc, one, other),
         "Exception" => own::<Exception>(alloc, one, other),
         "Frame" => own::<Frame>(alloc, one, other),
         "GpuContext" => own::<GpuContext>(alloc, one, other),
@@ -81,6 +83,7 @@ pub fn of_two_trees(
         "LogEntry" => own::<LogEntry>(alloc, one, other),
         "Mechanism" => own::<Mechanism>(alloc, one, other),
         "Metric" => own::<Metric>(alloc, one, other),
+        "ProjectId" => own::<ProjectId>(alloc, one, other),
         "OtelContext" => own::<OtelContext>(alloc, one, other),
         "Request" => own::<Request>(alloc, one, other),
         "ResponseContext" => own::<ResponseContext>(alloc, one, other),

@@ -1,9 +1,9 @@
 //! Events, spans and transactions that lines of JSON show.
 
-use crate::asked::said_of;
+use crate::asked::{said_of, taken};
 use crate::envelopes::said_envelope;
-use crate::form::{by_tree_at, cloned_at};
-use crate::said::{list, refused, shown, text};
+use crate::form::{by_line_at, by_tree_at, cloned_at};
+use crate::said::{list, shown, text};
 use sentry_types::protocol::v7::{
     Envelope, EnvelopeItem, Event, FromTreeAt, Member, Span, Transaction, TreeError, Value,
 };
@@ -13,21 +13,12 @@ use std::fmt::Display;
 
 // What the value that a line shows prints.
 fn printed<T: FromTreeAt + Display>(alloc: Global, line: &[u8]) -> Result<Value, AllocError> {
-    said_of(
-        alloc,
-        by_tree_at::<T>(alloc, line),
-        |value: &T| shown(alloc, value),
-    )
+    said_of(alloc, by_tree_at::<T>(alloc, line), shown)
 }
 
 // The text of the envelope of an item.
 fn said_item(alloc: Global, item: EnvelopeItem) -> Result<Value, AllocError> {
-    let made = Envelope::from_item(alloc, item);
-    said_of(
-        alloc,
-        made,
-        |envelope: &Envelope| said_envelope(alloc, envelope),
-    )
+    said_of(alloc, Envelope::from_item(alloc, item), said_envelope)
 }
 
 // The text of the envelope of an item that was boxed, if it was.
@@ -51,33 +42,7 @@ fn said_transaction(alloc: Global, transaction: Transaction<'static>) -> Result<
     said_boxed(alloc, EnvelopeItem::transaction(alloc, transaction))
 }
 
-// The text of the envelope of the event that a line shows.
-fn envelope_of_event(alloc: Global, line: &[u8]) -> Result<Value, AllocError> {
-    match by_tree_at(alloc, line) {
-        Ok(event) => said_event(alloc, event),
-        Err(error) => refused(alloc, &error),
-    }
-}
-
-// The text of the envelope of the transaction that a line shows.
-fn envelope_of_transaction(alloc: Global, line: &[u8]) -> Result<Value, AllocError> {
-    match by_tree_at(alloc, line) {
-        Ok(transaction) => said_transaction(alloc, transaction),
-        Err(error) => refused(alloc, &error),
-    }
-}
-
-// Lends a text to an event, for each of its texts that may be lent.
-fn lend<'a>(event: &mut Event<'a>, lent: &'a str) {
-    event.platform = CowStr::Borrowed(lent);
-    event.server_name = Some(CowStr::Borrowed(lent));
-    event.release = Some(CowStr::Borrowed(lent));
-    event.dist = Some(CowStr::Borrowed(lent));
-    event.environment = Some(CowStr::Borrowed(lent));
-    if let Some(first) = event.fingerprint.first_mut() {
-        *first = CowStr::Borrowed(lent);
-    }
-}
+const LENT: &str = "lent";
 
 // What a value that borrows nothing writes, if it was made.
 fn said_owned<T: Member, B: Drop>(alloc: Global, owned: Result<T, B>) -> Result<Value, AllocError> {
@@ -87,34 +52,30 @@ fn said_owned<T: Member, B: Drop>(alloc: Global, owned: Result<T, B>) -> Result<
     }
 }
 
-// What the event that a line shows writes once it borrows nothing.
-fn owned_event(alloc: Global, line: &[u8], lent: &str) -> Result<Value, AllocError> {
-    match by_tree_at::<Event<'_>>(alloc, line) {
-        Ok(mut event) => {
-            lend(&mut event, lent);
-            said_owned(alloc, event.into_owned(alloc))
-        }
-        Err(error) => refused(alloc, &error),
+// What an event writes once it borrows nothing, to which a text was lent for each of its texts that
+// may be.
+fn owned_event(alloc: Global, mut event: Event<'static>) -> Result<Value, AllocError> {
+    event.platform = CowStr::Borrowed(LENT);
+    event.server_name = Some(CowStr::Borrowed(LENT));
+    event.release = Some(CowStr::Borrowed(LENT));
+    event.dist = Some(CowStr::Borrowed(LENT));
+    event.environment = Some(CowStr::Borrowed(LENT));
+    if let Some(first) = event.fingerprint.first_mut() {
+        *first = CowStr::Borrowed(LENT);
     }
+    said_owned(alloc, event.into_owned(alloc))
 }
 
-// Lends a text to a transaction, for each of its texts that may be lent.
-fn lend_to<'a>(transaction: &mut Transaction<'a>, lent: &'a str) {
-    transaction.platform = CowStr::Borrowed(lent);
-    transaction.server_name = Some(CowStr::Borrowed(lent));
-    transaction.release = Some(CowStr::Borrowed(lent));
-    transaction.environment = Some(CowStr::Borrowed(lent));
-}
-
-// What the transaction that a line shows writes once it borrows nothing.
-fn owned_transaction(alloc: Global, line: &[u8], lent: &str) -> Result<Value, AllocError> {
-    match by_tree_at::<Transaction<'_>>(alloc, line) {
-        Ok(mut transaction) => {
-            lend_to(&mut transaction, lent);
-            said_owned(alloc, transaction.into_owned(alloc))
-        }
-        Err(error) => refused(alloc, &error),
-    }
+// The same of a transaction.
+fn owned_transaction(
+    alloc: Global,
+    mut transaction: Transaction<'static>,
+) -> Result<Value, AllocError> {
+    transaction.platform = CowStr::Borrowed(LENT);
+    transaction.server_name = Some(CowStr::Borrowed(LENT));
+    transaction.release = Some(CowStr::Borrowed(LENT));
+    transaction.environment = Some(CowStr::Borrowed(LENT));
+    said_owned(alloc, transaction.into_owned(alloc))
 }
 
 /// What is written of the event, or the span or the transaction, that a line shows, or what a call
@@ -127,10 +88,10 @@ pub fn of_event(alloc: Global, name: &str, line: &[u8]) -> Result<Option<Value>,
         "Event::fmt" => printed::<Event<'static>>(alloc, line)?,
         "Span::fmt" => printed::<Span>(alloc, line)?,
         "Transaction::fmt" => printed::<Transaction<'static>>(alloc, line)?,
-        "EnvelopeItem::event" => envelope_of_event(alloc, line)?,
-        "EnvelopeItem::transaction" => envelope_of_transaction(alloc, line)?,
-        "Event::into_owned" => owned_event(alloc, line, "lent")?,
-        "Transaction::into_owned" => owned_transaction(alloc, line, "lent")?,
+        "EnvelopeItem::event" => taken(alloc, by_line_at(alloc, line), said_event)?,
+        "EnvelopeItem::transaction" => taken(alloc, by_line_at(alloc, line), said_transaction)?,
+        "Event::into_owned" => taken(alloc, by_line_at(alloc, line), owned_event)?,
+        "Transaction::into_owned" => taken(alloc, by_line_at(alloc, line), owned_transaction)?,
         _ => return Ok(None),
     }))
 }

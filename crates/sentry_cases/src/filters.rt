@@ -1,6 +1,7 @@
 //! Envelopes without the items that a filter refuses: those of some kinds, or by a list of answers.
 
 use crate::asked::taken;
+use crate::built::begun;
 use crate::envelopes::{read, said_envelope, said_loss};
 use crate::said::{as_tree, list};
 use sentry_types::protocol::v7::{Envelope, EnvelopeFilter, EnvelopeItem, LossSource, Value};
@@ -14,8 +15,8 @@ pub struct ByKinds<'a> {
     losses: Vec<Value>,
 }
 
-// The word of an item's type.
-fn word_of(item: &EnvelopeItem) -> &'static str {
+/// The word of an item's type.
+pub fn word_of(item: &EnvelopeItem) -> &'static str {
     match item.kind() {
         Some(kind) => kind.as_str(),
         None => "raw",
@@ -125,9 +126,11 @@ pub fn of_filter(alloc: Global, words: &str, bytes: &[u8]) -> Result<Value, Allo
         Some(words) => (true, words),
         None => (false, words),
     };
-    taken(alloc, read(alloc, bytes), |envelope: Envelope| {
-        left_by(alloc, envelope, keep, words)
-    })
+    taken(
+        alloc,
+        read(alloc, bytes),
+        |alloc: Global, envelope: Envelope| { left_by(alloc, envelope, keep, words) },
+    )
 }
 
 /// Answers by a list of `y` and `n`, and notes each call.
@@ -207,12 +210,11 @@ fn answered_by(
 /// `-k`.
 pub fn of_answers(alloc: Global, words: &str, bytes: &[u8]) -> Result<Value, AllocError> {
     let (first, answers) = words.split_once(' ').unwrap_or(("", words));
-    let envelope = if first == "raw" {
-        Envelope::from_bytes_raw(bytes.to_vec(alloc)?)
-    } else {
-        read(alloc, bytes)
-    };
-    taken(alloc, envelope, |envelope: Envelope| {
-        answered_by(alloc, envelope, first == "-k", answers)
-    })
+    taken(
+        alloc,
+        begun(alloc, first, bytes),
+        |alloc: Global, envelope: Envelope| {
+            answered_by(alloc, envelope, first == "-k", answers)
+        },
+    )
 }

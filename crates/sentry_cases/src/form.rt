@@ -1,6 +1,5 @@
 //! Values that lines of JSON show, and what is written of them.
 
-use crate::asked::holds;
 use crate::said::{debug, list, refused, text};
 use rand_pcg::Pcg32;
 use sentry_json::{Line, LineError, scratch};
@@ -8,14 +7,18 @@ use sentry_members::read_tree;
 use sentry_types::protocol::v7::value::Writer;
 use sentry_types::protocol::v7::{
     Codec, FromTree, FromTreeAt, Member, Moment, Own, ReadCodec, ReadCodecAt, TreeError,
-    TreeMember, Value, Values, Way,
+    TreeMember, Value, Values, Way, read_line_at,
 };
 use std::alloc::{AllocError, Global};
 use std::fmt::Debug;
 
-// What a value writes: the tree in a list, where the value's text, its clone and its normal form
-// agree with it.
-fn written<F: Codec<T>, T: Drop>(alloc: Global, value: &T, clone: &T) -> Result<Value, AllocError> {
+/// What a value writes: the tree in a list, where the value's text, its clone and its normal form
+/// agree with it.
+pub fn written<F: Codec<T>, T: Drop>(
+    alloc: Global,
+    value: &T,
+    clone: &T,
+) -> Result<Value, AllocError> {
     let tree = F::to_tree(value, alloc)?;
     let line = tree.to_string(alloc)?;
     let mut out = Writer::new(Vec::new(alloc));
@@ -60,12 +63,10 @@ pub fn answered_by<T: Member, C: FnOnce(&T) -> Result<T, AllocError>>(
 
 // Whether two trees have one text.
 fn are_alike(alloc: Global, one: &Value, other: &Value) -> bool {
-    holds(one.to_string(alloc), |text: &String| {
-        holds(
-            other.to_string(alloc),
-            |found: &String| found.as_str() == text.as_str(),
-        )
-    })
+    match (one.to_string(alloc), other.to_string(alloc)) {
+        (Ok(one), Ok(other)) => one.as_str() == other.as_str(),
+        _ => false,
+    }
 }
 
 // What the tree of values answers, if the tape answers the same.
@@ -156,6 +157,11 @@ pub fn by_tree_at<T: FromTreeAt>(alloc: Global, line: &[u8]) -> Result<T, TreeEr
     T::from_tree(alloc, &read_tree(alloc, line)?, now()?, &mut ids())
 }
 
+/// The value that a line shows at the moment of reading, whatever holds its tree.
+pub fn by_line_at<T: FromTreeAt>(alloc: Global, line: &[u8]) -> Result<T, TreeError> {
+    read_line_at(alloc, line, now()?, &mut ids())
+}
+
 // As `beside_tape`, at the moment of reading.
 fn beside_tape_at<F: ReadCodecAt<T>, T: Drop>(
     alloc: Global,
@@ -243,11 +249,11 @@ fn members_of<T: TreeMember>(alloc: Global, line: &[u8]) -> Result<Values<T>, Tr
 /// The `Debug` text of a value that was read.
 pub fn debugged<T: Debug + Drop>(
     alloc: Global,
-    read: &Result<T, TreeError>,
+    read: Result<T, TreeError>,
 ) -> Result<Value, AllocError> {
     match read {
-        Ok(value) => debug(alloc, value),
-        Err(error) => refused(alloc, error),
+        Ok(value) => debug(alloc, &value),
+        Err(error) => refused(alloc, &error),
     }
 }
 

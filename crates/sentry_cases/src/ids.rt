@@ -55,13 +55,8 @@ fn of_debug(alloc: Global, given: &str) -> Result<Value, AllocError> {
 }
 
 fn said_project(alloc: Global, id: &ProjectId) -> Result<Value, AllocError> {
-    let copy = said_of(alloc, id.clone(), |copy: &ProjectId| shown(alloc, copy));
+    let copy = said_of(alloc, id.clone(), shown);
     list(alloc, [text(alloc, id.value()), copy])
-}
-
-fn of_project(alloc: Global, given: &str) -> Result<Value, AllocError> {
-    let read = ProjectId::from_str(alloc, given);
-    said_of(alloc, read, |id: &ProjectId| said_project(alloc, id))
 }
 
 fn of_organization(alloc: Global, given: &str) -> Result<Value, AllocError> {
@@ -75,17 +70,9 @@ fn said_code(alloc: Global, id: &CodeId) -> Result<Value, AllocError> {
     let copy = said_of(
         alloc,
         id.clone(),
-        |copy: &CodeId| text(alloc, copy.as_str()),
+        |alloc: Global, copy: &CodeId| text(alloc, copy.as_str()),
     );
     list(alloc, [text(alloc, id.as_str()), copy])
-}
-
-fn of_code(alloc: Global, given: &str) -> Result<Value, AllocError> {
-    said_of(
-        alloc,
-        CodeId::new(alloc, given),
-        |id: &CodeId| said_code(alloc, id),
-    )
 }
 
 /// What the text of an id is read as.
@@ -94,9 +81,10 @@ pub fn of_id(alloc: Global, name: &str, given: &str) -> Result<Option<Value>, Al
         "SpanId" => of_span(alloc, given)?,
         "TraceId" => of_trace(alloc, given)?,
         "DebugId" => of_debug(alloc, given)?,
-        "ProjectId" => of_project(alloc, given)?,
+        "ProjectId" => said_of(alloc, ProjectId::from_str(alloc, given), said_project)?,
+        "ProjectId::new" => said_of(alloc, ProjectId::new(alloc, given), shown)?,
         "OrganizationId" => of_organization(alloc, given)?,
-        "CodeId" => of_code(alloc, given)?,
+        "CodeId" => said_of(alloc, CodeId::new(alloc, given), said_code)?,
         _ => return Ok(None),
     }))
 }

@@ -145,7 +145,11 @@ pub fn of_recorded(alloc: Global, words: &str, bytes: &[u8]) -> Result<Value, Al
     };
     let mut ledger = Ledger::new();
     drop(run_steps(alloc, &mut ledger, steps.as_slice())?);
-    taken(alloc, read(alloc, bytes), |envelope: Envelope| {
-        said_recorded(alloc, envelope, kinds, reason, &mut ledger)
-    })
+    taken(
+        alloc,
+        read(alloc, bytes),
+        |alloc: Global, envelope: Envelope| {
+            said_recorded(alloc, envelope, kinds, reason, &mut ledger)
+        },
+    )
 }

@@ -1,17 +1,17 @@
 //! Values that no line of JSON shows: they are made of parts.
 
-use crate::asked::said_of;
+use crate::asked::{is_same, said_of, said_own};
 use crate::bytes::said_bytes;
 use crate::envelopes::said_losses;
 use crate::events::said_event;
-use crate::form::{ids, now};
-use crate::said::{as_tree, debug, list, refused, text};
+use crate::form::{ids, now, written};
+use crate::said::{as_tree, debug, list, refused, text, tree, unknown};
 use sentry_members::text_of;
 use sentry_types::IndexedEnum;
 use sentry_types::protocol::v7::{
-    Attachment, AttachmentType, Category, Context, Event, FromTree, GpuContext, Item, Log,
-    LogAttribute, LogLevel, Map, Member, Metric, MetricType, Moment, OsContext, Reason, Report,
-    TraceId, TreeError, Unit, User, Value, read_line,
+    Attachment, AttachmentType, Breadcrumb, Category, Context, Event, FromTree, GpuContext, Item,
+    Log, LogAttribute, LogLevel, Map, Member, Moment, OsContext, Own, Reason, Report, Span,
+    TraceContext, Transaction, TreeError, Unit, User, Value,
 };
 use std::alloc::{AllocError, Global};
 use std::borrow::CowStr;
@@ -37,9 +37,7 @@ fn said_attachment(alloc: Global, attachment: &Attachment) -> Result<Value, Allo
         said_bytes(alloc, &out),
         debug(alloc, attachment),
         as_tree(attachment.is_plain()),
-        said_of(alloc, attachment.normalized(), |normal: &Attachment| {
-            said_normal(alloc, normal)
-        }),
+        said_of(alloc, attachment.normalized(), said_normal),
     ];
     list(alloc, fields)
 }
@@ -79,14 +77,8 @@ fn attachment_of(
 }
 
 // What is said of the clone of an attachment.
-fn said_clone(alloc: Global, made: Result<Attachment, AllocError>) -> Result<Value, AllocError> {
-    said_of(alloc, made, |attachment: &Attachment| {
-        said_of(
-            alloc,
-            attachment.clone(),
-            |copy: &Attachment| said_attachment(alloc, copy),
-        )
-    })
+fn said_clone(alloc: Global, attachment: &Attachment) -> Result<Value, AllocError> {
+    said_of(alloc, attachment.clone(), said_attachment)
 }
 
 // Members of any type as attributes.
@@ -101,33 +93,58 @@ fn attributes(
     Ok(attributes)
 }
 
-// A log of this body and these attributes.
-fn log_of(timestamp: Moment, body: String, attributes: Map<String, LogAttribute>) -> Log {
-    Log {
-        level: LogLevel::Info,
-        body,
-        trace_id: None,
-        timestamp,
-        severity_number: None,
-        attributes,
+// What a log writes, and what is lost with it.
+fn said_log(alloc: Global, log: &Log) -> Result<Value, AllocError> {
+    let written = said_of(alloc, log.clone(), |alloc: Global, copy: &Log| {
+        written::<Own, Log>(alloc, log, copy)
+    });
+    list(alloc, [written, said_losses(alloc, log)])
+}
+
+// What a log of this body and these attributes writes, and what is lost with it.
+fn of_log(
+    alloc: Global,
+    body: String,
+    attributes: Map<String, LogAttribute>,
+) -> Result<Value, AllocError> {
+    match now() {
+        Ok(timestamp) => {
+            let log = Log {
+                level: LogLevel::Info,
+                body,
+                trace_id: None,
+                timestamp,
+                severity_number: None,
+                attributes,
+            };
+            let told = said_log(alloc, &log);
+            drop(log);
+            told
+        }
+        Err(_) => {
+            drop(attributes);
+            text(alloc, "no moment")
+        }
     }
 }
 
-// What a log writes, and what is lost with it.
-fn said_log(alloc: Global, log: &Log) -> Result<Value, AllocError> {
-    list(alloc, [log.to_tree(alloc), said_losses(alloc, log)])
+// So many arrays, each the one item of the next.
+fn nested(alloc: Global, depth: u64) -> Result<Value, AllocError> {
+    let mut tree = Value::Array(Vec::new(alloc));
+    for _ in 1..depth {
+        tree = list(alloc, [Ok(tree)])?;
+    }
+    Ok(tree)
 }
 
-// What a log of this body and these members writes, and what is lost with it.
-fn of_log(alloc: Global, body: &str, members: &Map<String, Value>) -> Result<Value, AllocError> {
-    let Ok(timestamp) = now() else {
-        return text(alloc, "no moment");
-    };
-    let body = String::from_str(alloc, body)?;
-    let log = log_of(timestamp, body, attributes(alloc, members)?);
-    let told = said_log(alloc, &log);
-    drop(log);
-    told
+// What a log writes whose attribute is so many nested arrays, and what is lost with it.
+fn of_nested(alloc: Global, depth: u64) -> Result<Value, AllocError> {
+    let attribute = LogAttribute(nested(alloc, depth)?);
+    of_log(
+        alloc,
+        String::new(alloc),
+        one_entry(alloc, "deep", attribute)?,
+    )
 }
 
 // The sums of a report that are above 0: category, reason and sum.
@@ -183,7 +200,7 @@ pub fn of_report(alloc: Global, trees: &[Value]) -> Result<Value, AllocError> {
     list(alloc, fields)
 }
 
-/// What is made of four or of two parts.
+/// What is made of some parts.
 pub fn of_parts(alloc: Global, name: &str, parts: &[Value]) -> Result<Option<Value>, AllocError> {
     Ok(Some(match (name, parts) {
         (
@@ -196,70 +213,31 @@ pub fn of_parts(alloc: Global, name: &str, parts: &[Value]) -> Result<Option<Val
             ],
         ) => {
             let (buffer, filename) = (buffer.as_str(), filename.as_str());
-            said_clone(
+            said_of(
                 alloc,
                 attachment_of(alloc, buffer, content_type, filename, ty),
+                said_clone,
             )?
         }
         ("Log", [Value::String(body), Value::Object(members)]) => {
-            of_log(alloc, body.as_str(), members)?
+            of_log(alloc, body.clone()?, attributes(alloc, members)?)?
         }
-        ("Event with another member", [Value::String(name), Value::String(key)]) => {
-            of_other_member(alloc, name.as_str(), key.as_str())?
+        ("Log of nested arrays", [Value::Number(depth)]) => {
+            of_nested(alloc, depth.as_u64().unwrap_or(0))?
+        }
+        ("User with other members", [Value::String(id), Value::Object(members)]) => {
+            of_user(alloc, id.as_str(), members)?
+        }
+        ("Event whose user has another member", [Value::String(key)]) => {
+            of_other_member(alloc, key.as_str())?
+        }
+        ("Context with other members", [Value::String(name), Value::Object(members)]) => {
+            let made = context_of(alloc, name.as_str(), members.copy()?);
+            said_of(alloc, made, said_context)?
         }
         ("Report::new", items) => of_report(alloc, items)?,
         _ => return Ok(None),
     }))
-}
-
-// A metric of this unit.
-fn metric_of(timestamp: Moment, unit: String, attributes: Map<String, LogAttribute>) -> Metric {
-    Metric {
-        type_: MetricType::Counter,
-        name: CowStr::Borrowed("api.requests"),
-        value: 1,
-        timestamp,
-        trace_id: TraceId::from([0; 16]),
-        span_id: None,
-        unit: Some(Unit::Other(CowStr::Owned(unit))),
-        attributes,
-    }
-}
-
-// The unit that a metric writes, and the one that is written of what that is read as.
-fn said_units(alloc: Global, metric: &Metric) -> Result<Value, AllocError> {
-    let line = text_of(alloc, metric)?;
-    said_of(alloc, read_line::<Metric>(alloc, &line), |read: &Metric| {
-        list(alloc, [unit_of(alloc, metric), unit_of(alloc, read)])
-    })
-}
-
-/// What a metric whose unit is `Other` of a text, and what is read of it, write of the unit.
-pub fn of_other_unit(alloc: Global, unit: &str) -> Result<Value, AllocError> {
-    let Ok(timestamp) = now() else {
-        return text(alloc, "no moment");
-    };
-    let metric = metric_of(timestamp, String::from_str(alloc, unit)?, Map::new(alloc));
-    let told = said_units(alloc, &metric);
-    drop(metric);
-    told
-}
-
-// The member of an object, or null.
-fn member_of(tree: &Value, key: &str) -> Result<Value, AllocError> {
-    match tree.get(key) {
-        Some(member) => member.copy(),
-        None => Ok(Value::Null),
-    }
-}
-
-// The unit that a metric writes.
-fn unit_of(alloc: Global, metric: &Metric) -> Result<Value, AllocError> {
-    said_of(
-        alloc,
-        metric.to_tree(alloc),
-        |tree: &Value| member_of(tree, "unit"),
-    )
 }
 
 // A map of one value, under this key.
@@ -292,10 +270,9 @@ fn context_of(alloc: Global, name: &str, other: Map<String, Value>) -> Result<Co
     }
 }
 
-// The contexts of an event of which one, of this name, has another member of this key.
-fn contexts_of(alloc: Global, name: &str, key: &str) -> Result<Map<String, Context>, AllocError> {
-    let other = one_entry(alloc, key, Value::from(1u64))?;
-    one_entry(alloc, name, context_of(alloc, name, other)?)
+// The tree of a context, and whether it is plain.
+fn said_context(alloc: Global, context: &Context) -> Result<Value, AllocError> {
+    list(alloc, [context.to_tree(alloc), as_tree(context.is_plain())])
 }
 
 // A user with other members.
@@ -303,6 +280,82 @@ fn user_of(alloc: Global, other: Map<String, Value>) -> User {
     let mut user = User::default_in(alloc);
     drop(replace(&mut user.other, other));
     user
+}
+
+// The text that a user writes, its tree, and whether it is plain.
+fn said_user(alloc: Global, user: &User) -> Result<Value, AllocError> {
+    let line = text_of(alloc, user)?;
+    list(
+        alloc,
+        [
+            said_bytes(alloc, &line),
+            user.to_tree(alloc),
+            as_tree(user.is_plain()),
+        ],
+    )
+}
+
+// What is said of a user with an id and other members, which may have keys of fields.
+fn of_user(alloc: Global, id: &str, members: &Map<String, Value>) -> Result<Value, AllocError> {
+    let id = String::from_str(alloc, id)?;
+    let mut user = user_of(alloc, members.copy()?);
+    drop(user.id.replace(id));
+    let told = said_user(alloc, &user);
+    drop(user);
+    told
+}
+
+// What is said of a value of its own, whose text may name another value: the tree that it writes,
+// whether it is the value that is named, whether it is its clone, and whether its normal form is the
+// value that is named.
+fn said_beside<T: Member + PartialEq>(
+    alloc: Global,
+    custom: &T,
+    named: &T,
+) -> Result<Value, AllocError> {
+    let fields = [
+        custom.to_tree(alloc),
+        as_tree(*custom == *named),
+        as_tree(is_same(custom.copy(), custom)),
+        as_tree(is_same(custom.normal(alloc), named)),
+    ];
+    list(alloc, fields)
+}
+
+/// What is said of the type of attachments that is `Custom` of a text.
+pub fn of_custom(alloc: Global, given: &str) -> Result<Value, AllocError> {
+    let custom = AttachmentType::Custom(String::from_str(alloc, given)?);
+    let named = AttachmentType::from_text(alloc, given)?;
+    said_beside(alloc, &custom, &named)
+}
+
+/// What is said of the unit that is `Other` of a text.
+pub fn of_other_unit(alloc: Global, given: &str) -> Result<Value, AllocError> {
+    let custom = Unit::Other(CowStr::Owned(String::from_str(alloc, given)?));
+    let named = Unit::from(String::from_str(alloc, given)?);
+    said_beside(alloc, &custom, &named)
+}
+
+// A transaction that began at a moment and has ended.
+fn ended(alloc: Global, now: Moment) -> Transaction<'static> {
+    let mut transaction = Transaction::new(alloc, now, &mut ids());
+    transaction.finish(now);
+    transaction
+}
+
+/// What a new value of a type writes, made at the moment of reading.
+pub fn of_new(alloc: Global, name: &str) -> Result<Value, AllocError> {
+    let Ok(now) = now() else {
+        return text(alloc, "no moment");
+    };
+    match name {
+        "Breadcrumb" => said_of(alloc, Breadcrumb::new(alloc, now), tree),
+        "Event" => said_of(alloc, new_event(alloc), tree),
+        "Span" => said_own(alloc, Span::new(alloc, now, &mut ids())),
+        "TraceContext" => said_own(alloc, TraceContext::new(alloc, &mut ids())),
+        "Transaction" => said_own(alloc, ended(alloc, now)),
+        _ => unknown(alloc),
+    }
 }
 
 // A new event.
@@ -324,27 +377,8 @@ fn said_with_user(alloc: Global, user: User) -> Result<Value, AllocError> {
     }
 }
 
-// What is written of a new event with contexts.
-fn said_with_contexts(alloc: Global, contexts: Map<String, Context>) -> Result<Value, AllocError> {
-    match new_event(alloc) {
-        Ok(mut event) => {
-            drop(replace(&mut event.contexts, contexts));
-            said_event(alloc, event)
-        }
-        Err(error) => {
-            drop(contexts);
-            refused(alloc, &error)
-        }
-    }
-}
-
-// What is written of an event whose user, or whose context of this name, has another member of this
-// key.
-fn of_other_member(alloc: Global, name: &str, key: &str) -> Result<Value, AllocError> {
-    if name == "user" {
-        let other = one_entry(alloc, key, Value::from(1u64))?;
-        said_with_user(alloc, user_of(alloc, other))
-    } else {
-        said_with_contexts(alloc, contexts_of(alloc, name, key)?)
-    }
+// What is written of an event whose user has another member of this key.
+fn of_other_member(alloc: Global, key: &str) -> Result<Value, AllocError> {
+    let other = one_entry(alloc, key, Value::from(1u64))?;
+    said_with_user(alloc, user_of(alloc, other))
 }

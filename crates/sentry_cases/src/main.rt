@@ -10,6 +10,7 @@
 mod answer;
 mod asked;
 mod auths;
+mod built;
 mod bytes;
 mod case;
 mod contexts;
@@ -19,6 +20,7 @@ mod equal;
 mod events;
 mod filters;
 mod form;
+mod headers;
 mod ids;
 mod ledger;
 mod made;

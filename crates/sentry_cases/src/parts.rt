@@ -1,6 +1,7 @@
 //! Parts of messages that lines of JSON show.
 
-use crate::form::{cloned, cloned_at};
+use crate::asked::{said_own, taken};
+use crate::form::{by_tree, cloned, cloned_at};
 use sentry_types::protocol::v7::{
     AppleDebugImage, Breadcrumb, CError, DebugImage, DebugMeta, Exception, Frame, LogEntry,
     MachException, Mechanism, MechanismMeta, PosixSignal, ProguardDebugImage, Request, Stacktrace,
@@ -9,12 +10,21 @@ use sentry_types::protocol::v7::{
 };
 use std::alloc::{AllocError, Global};
 
+// What the stack trace of some frames in reverse writes; null where there is none.
+fn of_reversed(alloc: Global, frames: Vec<Frame>) -> Result<Value, AllocError> {
+    match Stacktrace::from_frames_reversed(frames) {
+        Some(trace) => said_own(alloc, trace),
+        None => Ok(Value::Null),
+    }
+}
+
 fn of_trace(alloc: Global, name: &str, line: &[u8]) -> Result<Option<Value>, AllocError> {
     Ok(Some(match name {
         "LogEntry" => cloned(alloc, line, LogEntry::clone)?,
         "Frame" => cloned(alloc, line, Frame::clone)?,
         "TemplateInfo" => cloned(alloc, line, TemplateInfo::clone)?,
         "Stacktrace" => cloned(alloc, line, Stacktrace::clone)?,
+        "Stacktrace::from_frames_reversed" => taken(alloc, by_tree(alloc, line), of_reversed)?,
         "ThreadId" => cloned(alloc, line, ThreadId::clone)?,
         "Thread" => cloned(alloc, line, Thread::clone)?,
         "Values<Thread>" => cloned(alloc, line, Values::<Thread>::clone)?,

@@ -1,6 +1,6 @@
 //! Answers, as trees of JSON: a list of what was read, or the text of a refusal after `!`.
 
-use sentry_types::protocol::v7::Value;
+use sentry_types::protocol::v7::{Member, Value};
 use std::alloc::{AllocError, Global};
 use std::fmt::{Debug, Display};
 use std::str::FromStr;
@@ -27,6 +27,11 @@ pub fn as_tree<T: Into<Value>>(value: T) -> Result<Value, AllocError> {
     Ok(value.into())
 }
 
+/// The tree that a value writes.
+pub fn tree<T: Member>(alloc: Global, value: &T) -> Result<Value, AllocError> {
+    value.to_tree(alloc)
+}
+
 /// The `Debug` text of a value.
 pub fn debug<T: Debug>(alloc: Global, value: &T) -> Result<Value, AllocError> {
     owned(format!(in alloc; "{value:?}"))
@@ -45,6 +50,17 @@ pub fn text(alloc: Global, text: &str) -> Result<Value, AllocError> {
 pub fn maybe(alloc: Global, found: Option<&str>) -> Result<Value, AllocError> {
     match found {
         Some(found) => text(alloc, found),
+        None => Ok(Value::Null),
+    }
+}
+
+/// What a value prints, or null.
+pub fn maybe_shown<T: Display + Drop>(
+    alloc: Global,
+    found: Option<T>,
+) -> Result<Value, AllocError> {
+    match found {
+        Some(found) => shown(alloc, &found),
         None => Ok(Value::Null),
     }
 }

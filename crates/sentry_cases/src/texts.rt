@@ -40,11 +40,9 @@ fn of_crontab(alloc: Global, given: &str) -> Result<Value, AllocError> {
     }
 }
 
-// The tree of the id that is a text, and what it prints.
-fn of_thread_id(alloc: Global, given: &str) -> Result<Value, AllocError> {
-    said_of(alloc, ThreadId::from_text(alloc, given), |id: &ThreadId| {
-        list(alloc, [id.to_tree(alloc), shown(alloc, id)])
-    })
+// The tree of an id of a thread, and what it prints.
+fn said_thread_id(alloc: Global, id: &ThreadId) -> Result<Value, AllocError> {
+    list(alloc, [id.to_tree(alloc), shown(alloc, id)])
 }
 
 fn of_other_text(alloc: Global, name: &str, given: &str) -> Result<Option<Value>, AllocError> {
@@ -54,7 +52,7 @@ fn of_other_text(alloc: Global, name: &str, given: &str) -> Result<Option<Value>
         "IpAddress" => printed::<IpAddress>(alloc, given)?,
         "validate" => Value::from(validate(given)),
         "MonitorSchedule::from_crontab" => of_crontab(alloc, given)?,
-        "ThreadId::from_text" => of_thread_id(alloc, given)?,
+        "ThreadId::from_text" => said_of(alloc, ThreadId::from_text(alloc, given), said_thread_id)?,
         "CrontabParseError" => shown(alloc, &CrontabParseError::new(alloc, given)?)?,
         _ => return Ok(None),
     }))

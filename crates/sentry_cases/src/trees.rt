@@ -3,6 +3,7 @@
 use crate::contexts::of_context;
 use crate::events::of_event;
 use crate::form::{by_tree, by_tree_at, cloned, debugged, form, member, members, own};
+use crate::headers::of_fields;
 use crate::parts::of_part;
 use crate::records::of_record;
 use sentry_types::protocol::v7::{
@@ -123,21 +124,21 @@ fn of_members(alloc: Global, name: &str, line: &[u8]) -> Result<Option<Value>, A
 
 fn of_debug(alloc: Global, name: &str, line: &[u8]) -> Result<Option<Value>, AllocError> {
     Ok(Some(match name {
-        "Addr" => debugged::<Addr>(alloc, &by_tree(alloc, line))?,
-        "AttachmentType" => debugged::<AttachmentType>(alloc, &by_tree(alloc, line))?,
-        "CError" => debugged::<CError>(alloc, &by_tree(alloc, line))?,
-        "Category" => debugged::<Category>(alloc, &by_tree(alloc, line))?,
-        "ClientSdkPackage" => debugged::<ClientSdkPackage>(alloc, &by_tree(alloc, line))?,
-        "Level" => debugged::<Level>(alloc, &by_tree(alloc, line))?,
-        "MonitorSchedule" => debugged::<MonitorSchedule>(alloc, &by_tree(alloc, line))?,
-        "OsContext" => debugged::<OsContext>(alloc, &by_tree(alloc, line))?,
-        "RuntimeContext" => debugged::<RuntimeContext>(alloc, &by_tree(alloc, line))?,
-        "SampleRate" => debugged::<SampleRate>(alloc, &by_tree(alloc, line))?,
-        "SpanId" => debugged::<SpanId>(alloc, &by_tree(alloc, line))?,
-        "TraceId" => debugged::<TraceId>(alloc, &by_tree(alloc, line))?,
-        "Unit" => debugged::<Unit>(alloc, &by_tree(alloc, line))?,
-        "Values<u64>" => debugged::<Values<u64>>(alloc, &by_tree(alloc, line))?,
-        "Span" => debugged::<Span>(alloc, &by_tree_at(alloc, line))?,
+        "Addr" => debugged::<Addr>(alloc, by_tree(alloc, line))?,
+        "AttachmentType" => debugged::<AttachmentType>(alloc, by_tree(alloc, line))?,
+        "CError" => debugged::<CError>(alloc, by_tree(alloc, line))?,
+        "Category" => debugged::<Category>(alloc, by_tree(alloc, line))?,
+        "ClientSdkPackage" => debugged::<ClientSdkPackage>(alloc, by_tree(alloc, line))?,
+        "Level" => debugged::<Level>(alloc, by_tree(alloc, line))?,
+        "MonitorSchedule" => debugged::<MonitorSchedule>(alloc, by_tree(alloc, line))?,
+        "OsContext" => debugged::<OsContext>(alloc, by_tree(alloc, line))?,
+        "RuntimeContext" => debugged::<RuntimeContext>(alloc, by_tree(alloc, line))?,
+        "SampleRate" => debugged::<SampleRate>(alloc, by_tree(alloc, line))?,
+        "SpanId" => debugged::<SpanId>(alloc, by_tree(alloc, line))?,
+        "TraceId" => debugged::<TraceId>(alloc, by_tree(alloc, line))?,
+        "Unit" => debugged::<Unit>(alloc, by_tree(alloc, line))?,
+        "Values<u64>" => debugged::<Values<u64>>(alloc, by_tree(alloc, line))?,
+        "Span" => debugged::<Span>(alloc, by_tree_at(alloc, line))?,
         _ => return Ok(None),
     }))
 }
@@ -152,6 +153,9 @@ pub fn of_tree(alloc: Global, name: &str, line: &[u8]) -> Result<Option<Value>, 
     }
     if let Some(name) = name.strip_prefix("debug ") {
         return of_debug(alloc, name, line);
+    }
+    if let Some(name) = name.strip_prefix("fields ") {
+        return of_fields(alloc, name, line);
     }
     if let Some(answer) = of_basic(alloc, name, line)? {
         return Ok(Some(answer));

@@ -1,14 +1,15 @@
 //! Words and units.
 
-use crate::said::{as_tree, list, printed, refused, shown, text};
+use crate::said::{as_tree, list, none, printed, refused, shown, text};
 use sentry_types::IndexedEnum;
 use sentry_types::protocol::v7::{
-    AttachmentType, Category, Level, LogLevel, MetricType, MonitorCheckInStatus,
+    AttachmentType, Category, Level, LogLevel, Member, MetricType, MonitorCheckInStatus,
     MonitorIntervalUnit, Orientation, Reason, SessionStatus, SpanStatus, Unit, Value,
 };
 use std::alloc::{AllocError, Global};
 use std::borrow::CowStr;
 use std::fmt::Display;
+use std::str::FromStr;
 
 fn of_level(alloc: Global, given: &str) -> Result<Value, AllocError> {
     match given.parse::<Level>() {
@@ -41,13 +42,13 @@ fn of_attachment_type(alloc: Global, given: &str) -> Result<Value, AllocError> {
     list(alloc, [text(alloc, ty.as_str()), as_tree(custom)])
 }
 
-// A word with `as_str` alone.
-fn word<E: Display + Drop>(
-    alloc: Global,
-    found: Result<&'static str, E>,
-) -> Result<Value, AllocError> {
-    match found {
-        Ok(word) => list(alloc, [text(alloc, word)]),
+// What the value of a word writes.
+fn word<T: FromStr + Member>(alloc: Global, given: &str) -> Result<Value, AllocError>
+where
+    T::Err: Display + Drop,
+{
+    match given.parse::<T>() {
+        Ok(value) => list(alloc, [value.to_tree(alloc)]),
         Err(error) => refused(alloc, &error),
     }
 }
@@ -56,19 +57,16 @@ fn word<E: Display + Drop>(
 pub fn of_word(alloc: Global, name: &str, given: &str) -> Result<Option<Value>, AllocError> {
     Ok(Some(match name {
         "Level" => of_level(alloc, given)?,
-        "LogLevel" => word(alloc, given.parse::<LogLevel>().map(|w| w.as_str()))?,
-        "MetricType" => word(alloc, given.parse::<MetricType>().map(|w| w.as_str()))?,
-        "Orientation" => word(alloc, given.parse::<Orientation>().map(|w| w.as_str()))?,
-        "MonitorIntervalUnit" => {
-            let read = given.parse::<MonitorIntervalUnit>();
-            word(alloc, read.map(|w| w.as_str()))?
-        }
+        "LogLevel" => word::<LogLevel>(alloc, given)?,
+        "MetricType" => word::<MetricType>(alloc, given)?,
+        "Orientation" => word::<Orientation>(alloc, given)?,
+        "MonitorIntervalUnit" => word::<MonitorIntervalUnit>(alloc, given)?,
         "MonitorCheckInStatus" => {
             let status = MonitorCheckInStatus::from_word(given);
             list(alloc, [text(alloc, status.as_str())])?
         }
-        "SpanStatus" => word(alloc, given.parse::<SpanStatus>().map(|w| w.as_str()))?,
-        "SessionStatus" => word(alloc, given.parse::<SessionStatus>().map(|w| w.as_str()))?,
+        "SpanStatus" => word::<SpanStatus>(alloc, given)?,
+        "SessionStatus" => word::<SessionStatus>(alloc, given)?,
         "SpanStatus::fmt" => printed::<SpanStatus>(alloc, given)?,
         "SessionStatus::fmt" => printed::<SessionStatus>(alloc, given)?,
         "AttachmentType" => of_attachment_type(alloc, given)?,
@@ -81,19 +79,21 @@ pub fn of_word(alloc: Global, name: &str, given: &str) -> Result<Option<Value>, 
     }))
 }
 
-/// The word of a place in a list of variants.
+fn said_place(alloc: Global, word: &str, index: usize) -> Result<Value, AllocError> {
+    list(alloc, [text(alloc, word), as_tree(index as u64)])
+}
+
+/// The word of a place in a list of variants, and the variant's index.
 pub fn of_place(alloc: Global, name: &str, place: usize) -> Result<Option<Value>, AllocError> {
-    let found = match name {
-        "Category::VARIANTS" => Category::VARIANTS
-            .get(place)
-            .map(|category| (category.as_str(), category.as_index())),
-        "Reason::VARIANTS" => Reason::VARIANTS
-            .get(place)
-            .map(|reason| (reason.as_str(), reason.as_index())),
+    Ok(Some(match name {
+        "Category::VARIANTS" => match Category::VARIANTS.get(place) {
+            Some(found) => said_place(alloc, found.as_str(), found.as_index())?,
+            None => none(alloc)?,
+        },
+        "Reason::VARIANTS" => match Reason::VARIANTS.get(place) {
+            Some(found) => said_place(alloc, found.as_str(), found.as_index())?,
+            None => none(alloc)?,
+        },
         _ => return Ok(None),
-    };
-    Ok(Some(match found {
-        Some((word, index)) => list(alloc, [text(alloc, word), as_tree(index as u64)])?,
-        None => crate::said::none(alloc)?,
     }))
 }

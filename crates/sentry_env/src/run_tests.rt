@@ -293,10 +293,8 @@ fn runs_end_as_they_should(rt: HostRuntime) {
         let (out, table) = (Full::endless(alloc), Full::endless(alloc));
         let ran = run_on(alloc, source, row.kinds, row.keep, out, table);
         let wrote = wrote(&ran, row.out.as_bytes(), row.table.as_bytes());
-        assert_eq!(rt;
-            (ending(&ran.answer), wrote, ran.failures),
-            (row.ending, true, (0, 0, 0))
-        );
+        let ended = ending(&ran.answer) == row.ending;
+        assert!(rt; ended && wrote && ran.failures == (0, 0, 0));
     }
 }
 
@@ -347,6 +345,11 @@ fn a_failed_write_ends_a_run(rt: HostRuntime) {
     }
 }
 
+const TABLE: &str = concat!(
+    "error none 2\nerror send_error 4\nlog_byte none 18446744073709551615\n",
+    "log_byte before_send 18446744073709551615\nreplay sample_rate 1\n"
+);
+
 #[test]
 fn a_table_of_losses(rt: HostRuntime) -> Result<(), AllocError> {
     let rows = [
@@ -367,10 +370,8 @@ fn a_table_of_losses(rt: HostRuntime) -> Result<(), AllocError> {
             reason,
         });
     }
-    assert_eq!(rt;
-        sums.table(rt.alloc())?.as_str(),
-        "error none 2\nerror send_error 4\nlog_byte none 18446744073709551615\nlog_byte before_send 18446744073709551615\nreplay sample_rate 1\n"
-    );
+    let table = sums.table(rt.alloc())?;
+    assert!(rt; table.as_str() == TABLE);
     Ok(())
 }
 
@@ -406,7 +407,7 @@ fn a_clock_out_of_range_is_second_0(rt: HostRuntime) {
         (Some(Duration::MAX), (0, 0)),
     ] {
         let shown = moment_shown(time);
-        assert_eq!(rt; (shown.secs(), shown.nanos()), moment);
+        assert!(rt; (shown.secs(), shown.nanos()) == moment);
     }
-    assert_eq!(rt; seed_at(Duration::new(1, 2)), 1_000_000_002);
+    assert!(rt; seed_at(Duration::new(1, 2)) == 1_000_000_002);
 }

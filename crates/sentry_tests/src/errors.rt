@@ -16,14 +16,6 @@ fn prints<E: Display + Drop>(alloc: Global, error: E, text: &str) -> bool {
     matches!(error.to_string(alloc), Ok(found) if found.as_str() == text)
 }
 
-fn one_error() -> ItemLoss {
-    ItemLoss {
-        category: Category::Error,
-        quantity: 1,
-        reason: None,
-    }
-}
-
 #[test]
 fn want_of_memory_is_printed(rt: HostRuntime) -> Result<(), Fail> {
     let (alloc, text) = (rt.alloc(), "out of memory");
@@ -45,12 +37,17 @@ fn want_of_memory_is_printed(rt: HostRuntime) -> Result<(), Fail> {
 fn others_are_printed(rt: HostRuntime) -> Result<(), Fail> {
     let alloc = rt.alloc();
     let header = "missing envelope header";
+    let loss = ItemLoss {
+        category: Category::Error,
+        quantity: 1,
+        reason: None,
+    };
     wanted(
         prints(alloc, ApiUrlError::NotAUrl, "NotAUrl")
             && prints(alloc, AttachmentWriteError::Io, "Io")
             && prints(alloc, EnvelopeWriteError::Io, "Io")
             && prints(alloc, EnvelopeWriteError::NotPlain, "NotPlain")
-            && prints(alloc, LedgerFull(one_error()), "LedgerFull")
+            && prints(alloc, LedgerFull(loss), "LedgerFull")
             && prints(
                 alloc,
                 AddRefused::RawEnvelope(EnvelopeItem::Raw),

@@ -5,7 +5,7 @@ ghost use Rattle.sentry_envelope.specs.EnvelopeView.{no_fields};
 ghost use Rattle.sentry_envelope.specs.Filter.{asked_items, chosen, kept, handed, Leaves};
 
 use crate::envelopes::read;
-use crate::wanted::wanted;
+use crate::wanted::{told, wanted};
 use sentry_types::protocol::v7::{Envelope, EnvelopeFilterCallbacks, EnvelopeItem};
 use std::alloc::Global;
 use std::test::Fail;
@@ -52,17 +52,11 @@ fn count_dropped(alloc: Global, envelope: Envelope) -> Result<(Option<Envelope>,
     Ok((left, dropped))
 }
 
-/// The count, and how many items are left.
-fn counts(counted: Result<(Option<Envelope>, u64), Envelope>) -> Option<(u64, usize)> {
-    let (left, count) = counted.ok()?;
-    Some((count, left?.into_items().count()))
-}
-
 #[test]
 fn closures_count(rt: HostRuntime) -> Result<(), Fail> {
     let alloc = rt.alloc();
-    wanted(counts(without_attachments(alloc, read(alloc, THREE)?)) == Some((3, 1)))?;
-    wanted(counts(count_dropped(alloc, read(alloc, THREE)?)) == Some((2, 1)))
+    wanted(told(without_attachments(alloc, read(alloc, THREE)?)) == Some((false, 3)))?;
+    wanted(told(count_dropped(alloc, read(alloc, THREE)?)) == Some((false, 2)))
 }
 
 /// Keeps attachments, which then go without an event. The words of all that goes are noted.

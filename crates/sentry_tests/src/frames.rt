@@ -1,7 +1,7 @@
 //! Frames are asked for again after a refusal of memory; a header alone.
 
-use crate::wanted::{holds, wanted};
-use sentry_types::protocol::v7::{EnvelopeError, Frames, ItemHeader, ItemKind, read_item_header};
+use crate::wanted::wanted;
+use sentry_types::protocol::v7::{EnvelopeError, Frames, ItemKind, read_item_header};
 use std::test::Fail;
 
 #[test]
@@ -22,9 +22,10 @@ fn asks_again(rt: HostRuntime) -> Result<(), Fail> {
 #[test]
 fn an_item_header_is_read(rt: HostRuntime) -> Result<(), Fail> {
     let line = b"{\"length\":3,\"filename\":\"a\",\"type\":\"attachment\"}";
-    wanted(holds(read_item_header(rt.alloc(), line), |header: &ItemHeader| {
+    let header = read_item_header(rt.alloc(), line)?;
+    wanted(
         matches!(&header.filename, Some(name) if name.as_str() == "a")
             && header.kind == ItemKind::Attachment
-            && header.length == Some(3)
-    }))
+            && header.length == Some(3),
+    )
 }

@@ -1,5 +1,4 @@
-//! A ledger of losses: what comes back, what a filter loses, a client that reports, and memory that
-//! is refused.
+//! A ledger of losses: a client that reports, and memory that is refused.
 
 ghost use Rattle.std.specs.Prelude.{◌≡◌, IfErr, IfOk, IfSome, OnErr};
 ghost use Rattle.sentry_reports.specs.ReportSums.{report_sum};
@@ -9,18 +8,16 @@ ghost use Rattle.sentry_ledger.specs.Held.{quantity_held};
 
 use crate::envelopes::memory::read_at_last;
 use crate::envelopes::read;
-use crate::wanted::{is_none, wanted};
+use crate::wanted::{told, wanted};
 use sentry_members::text_of;
 use sentry_types::IndexedEnum;
 use sentry_types::protocol::v7::client_report::{
     Category, ItemLoss, Ledger, LedgerFull, Reason, Report, Step, StepAnswer, filter_recorded,
     run_steps,
 };
-use sentry_types::protocol::v7::{Envelope, EnvelopeFilterCallbacks, EnvelopeItem, Moment};
+use sentry_types::protocol::v7::{Envelope, EnvelopeItem, Moment};
 use std::alloc::{AllocError, Global};
 use std::test::Fail;
-
-const MOST: u64 = 18_446_744_073_709_551_615;
 
 /// An event, and an attachment of twelve bytes.
 const EVENT_AND_ATTACHMENT: &[u8] =
@@ -52,58 +49,6 @@ fn nine_errors() -> Result<Ledger, LedgerFull> {
         ledger.record(errors(1, Some(*reason)), Reason::SampleRate)?;
     }
     Ok(ledger)
-}
-
-#[test]
-fn a_refused_loss_comes_back(_rt: HostRuntime) -> Result<(), Fail> {
-    let mut ledger = Ledger::new();
-    let first = ledger.record(errors(MOST, None), Reason::BeforeSend);
-    let refused = errors(2, Some(Reason::BeforeSend));
-    let Err(LedgerFull(back)) = ledger.record(refused, Reason::SampleRate) else {
-        return Err("accepted".into());
-    };
-    let held = ledger.held(Category::Error, Reason::BeforeSend);
-    let same = back.quantity == 2 && matches!(back.reason, Some(Reason::BeforeSend));
-    wanted(first.is_ok() && same && held == MOST && all_held(&ledger) == MOST)
-}
-
-/// Whether nothing is left, and how many losses are refused, unless memory was refused.
-fn told<T: Drop, E: Drop>(recorded: Result<(Option<T>, u64), E>) -> Option<(bool, u64)> {
-    match recorded {
-        Ok((left, refused)) => Some((left.is_none(), refused)),
-        Err(_) => None,
-    }
-}
-
-/// Takes events out of an envelope, records the losses, and counts the items that go. Gives whether
-/// nothing is left, how many losses are refused, and the count.
-fn counted(alloc: Global, envelope: Envelope, ledger: &mut Ledger) -> Option<(bool, u64, u64)> {
-    let mut gone = 0_u64;
-    let callbacks = EnvelopeFilterCallbacks::new(
-        |item: &EnvelopeItem| !matches!(item, EnvelopeItem::Event(_)),
-        |item: EnvelopeItem| {
-            drop(item);
-            gone = gone.saturating_add(1);
-        },
-    );
-    let recorded = filter_recorded(alloc, envelope, callbacks, Reason::SampleRate, ledger);
-    let (none, refused) = told(recorded)?;
-    Some((none, refused, gone))
-}
-
-/// Whether all is counted where so much is held before, of which so many losses are refused and so
-/// much is held after.
-fn is_counted(alloc: Global, before: u64, refused: u64, held: u64) -> Result<bool, Fail> {
-    let mut ledger = Ledger::new();
-    ledger.record(errors(before, None), Reason::SampleRate)?;
-    let told = counted(alloc, read(alloc, EVENT_AND_ATTACHMENT)?, &mut ledger);
-    let bytes = ledger.held(Category::Attachment, Reason::SampleRate);
-    Ok(told == Some((true, refused, 2)) && bytes == 12 && all_held(&ledger) == held)
-}
-
-#[test]
-fn losses_of_what_a_filter_takes_out(rt: HostRuntime) -> Result<(), Fail> {
-    wanted(is_counted(rt.alloc(), 0, 0, 13)? && is_counted(rt.alloc(), MOST, 1, MOST)?)
 }
 
 /// The losses of a client, which reports them once a minute.
@@ -146,7 +91,7 @@ impl Losses {
 }
 
 /// The texts of the reports that are due at these seconds.
-fn reported(alloc: Global, losses: &mut Losses, seconds: &[u64]) -> Result<String, Fail> {
+fn reported(alloc: Global, losses: &mut Losses, seconds: &[u64]) -> Result<Vec<u8>, Fail> {
     let mut texts = Vec::new(alloc);
     for secs in seconds {
         let now = Moment::new(*secs, 0).ok_or("moment")?;
@@ -154,7 +99,7 @@ fn reported(alloc: Global, losses: &mut Losses, seconds: &[u64]) -> Result<Strin
             texts.extend_from_slice(&text_of(alloc, &report)?)?;
         }
     }
-    Ok(String::from_utf8(texts).map_err(|_| "text")?)
+    Ok(texts)
 }
 
 const REPORT: &str =
@@ -170,7 +115,9 @@ fn a_client_reports_what_it_drops(rt: HostRuntime) -> Result<(), Fail> {
     let envelope = read(alloc, EVENT_AND_ATTACHMENT)?;
     let left = told(losses.without_attachments(alloc, envelope));
     let texts = reported(alloc, &mut losses, &[59, 60, 61, 120])?;
-    let sent = texts.as_str() == REPORT && losses.ledger.is_empty() && losses.due == 180;
+    let sent = texts.as_slice() == REPORT.as_bytes()
+        && losses.ledger.is_empty()
+        && losses.due == 180;
     wanted(left == Some((false, 0)) && sent)
 }
 
@@ -187,7 +134,10 @@ fn flushed_at_last(alloc: Global, ledger: &mut Ledger, now: Moment) -> Result<us
         Err(_) if all_held(ledger) == held => ledger.flush(alloc, now)?,
         Err(_) => return Err("lost".into()),
     };
-    Ok(report.map_or(0, |report| report.discarded_events().len()))
+    match report {
+        Some(report) => Ok(report.discarded_events().len()),
+        None => Ok(0),
+    }
 }
 
 #[test]
@@ -226,24 +176,21 @@ fn refused_when_running_steps(rt: HostRuntime) -> Result<(), Fail> {
     wanted(held == if flushed { 1 } else { 10 })
 }
 
-/// What is told of an envelope of two items that a filter takes out, after a refusal that recorded
-/// nothing at the second try.
-fn recorded_at_last(
-    alloc: Global,
-    envelope: Envelope,
-    ledger: &mut Ledger,
-) -> Option<(bool, u64, u64)> {
+/// What is told of an envelope that a filter takes out, after a refusal that recorded nothing at the
+/// second try.
+fn recorded_at_last(alloc: Global, envelope: Envelope, ledger: &mut Ledger) -> Option<(bool, u64)> {
     let none = |_item: &EnvelopeItem| false;
+    let still = |_item: &EnvelopeItem| false;
     match filter_recorded(alloc, envelope, none, Reason::SampleRate, ledger) {
-        Ok((left, refused)) => Some((is_none(left), refused, 2)),
         Err(envelope) => {
             if ledger.is_empty() {
-                counted(alloc, envelope, ledger)
+                told(filter_recorded(alloc, envelope, still, Reason::SampleRate, ledger))
             } else {
                 drop(envelope);
                 None
             }
         }
+        answer => told(answer),
     }
 }
 
@@ -252,5 +199,5 @@ fn refused_when_recording_a_filter(rt: HostRuntime) -> Result<(), Fail> {
     let mut ledger = Ledger::new();
     let envelope = read_at_last(rt.alloc(), EVENT_AND_ATTACHMENT)?;
     let told = recorded_at_last(rt.alloc(), envelope, &mut ledger);
-    wanted(told == Some((true, 0, 2)) && all_held(&ledger) == 13)
+    wanted(told == Some((true, 0)) && all_held(&ledger) == 13)
 }

@@ -1,5 +1,5 @@
-//! Tests of what no line of text can ask, by public names: drawn ids, orders, memory and writers
-//! that fail, filters with a state. This crate has no code of its own.
+//! Tests of what no line of text can ask, by public names: orders, builders, memory and writers that
+//! fail, filters with a state, programs. This crate has no code of its own.
 //!
 //! A test makes its values and asks them in small calls that answer yes or no, and fails once, by
 //! `wanted`. No call lets a value of a large type go where its scope ends: see `wanted`.
@@ -8,11 +8,7 @@
 #[cfg(test)]
 mod attachments;
 #[cfg(test)]
-mod attributes;
-#[cfg(test)]
 mod counted;
-#[cfg(test)]
-mod drawn;
 #[cfg(test)]
 mod envelopes;
 #[cfg(test)]
@@ -31,12 +27,6 @@ mod ledgers;
 mod losses;
 #[cfg(test)]
 mod main_path;
-#[cfg(test)]
-mod maps;
-#[cfg(test)]
-mod reader;
-#[cfg(test)]
-mod rows;
 #[cfg(test)]
 mod urls;
 #[cfg(test)]

@@ -29,7 +29,7 @@ fn gives<S: LossSource + Drop>(source: S, expected: &[(&'static str, u64, &'stat
 }
 
 #[test]
-fn losses_of_lists(_rt: HostRuntime) -> Result<(), Fail> {
+fn losses_of_sources(rt: HostRuntime) -> Result<(), Fail> {
     let listed = [
         ItemLoss::from(Item::new(Category::Error, Reason::BeforeSend, 2)),
         ItemLoss {
@@ -39,20 +39,15 @@ fn losses_of_lists(_rt: HostRuntime) -> Result<(), Fail> {
         },
     ];
     let rows = [("error", 2, "before_send"), ("session", 0, "none")];
-    wanted(gives(LossSlice(&[]), &[]) && gives(LossSlice(&listed), &rows))
-}
-
-#[test]
-fn losses_of_sources(rt: HostRuntime) -> Result<(), Fail> {
     let buffer = b"twelve bytes".to_vec(rt.alloc())?;
     let mut file = Attachment::default_in(rt.alloc());
     file.buffer = buffer;
+    let recording = ReplayRecording::default_in(rt.alloc());
     wanted(
-        gives(file, &[("attachment", 12, "none")])
-            && gives(
-                ReplayRecording::default_in(rt.alloc()),
-                &[("replay", 1, "none")],
-            )
+        gives(LossSlice(&[]), &[])
+            && gives(LossSlice(&listed), &rows)
+            && gives(file, &[("attachment", 12, "none")])
+            && gives(recording, &[("replay", 1, "none")])
             && gives(EnvelopeItem::Raw, &[]),
     )
 }

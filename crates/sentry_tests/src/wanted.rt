@@ -4,6 +4,7 @@
 //! each of its fields is walked there. So tests hand such values to the generic calls here, which
 //! drop them once for all types, or to `drop`.
 
+use std::alloc::Global;
 use std::test::Fail;
 
 /// Fails where what is wanted doesn't hold.
@@ -12,36 +13,30 @@ pub(crate) fn wanted(holds: bool) -> Result<(), Fail> {
 }
 
 /// Whether a value was made, and is as asked.
-pub(crate) fn holds<T: Drop, E: Drop, F: FnOnce(&T) -> bool>(made: Result<T, E>, ask: F) -> bool
+pub(crate) fn holds<T: Drop, E: Drop, F: FnOnce(Global, &T) -> bool>(
+    alloc: Global,
+    made: Result<T, E>,
+    ask: F,
+) -> bool
     requires { F.IsAlwaysCallable ask }
 {
     match made {
-        Ok(value) => ask(&value),
+        Ok(value) => ask(alloc, &value),
         Err(_) => false,
     }
 }
 
 /// Whether a value was made, and the call that takes it answers yes.
-pub(crate) fn taken<T: Drop, E: Drop, F: FnOnce(T) -> bool>(made: Result<T, E>, call: F) -> bool
+pub(crate) fn taken<T: Drop, E: Drop, F: FnOnce(Global, T) -> bool>(
+    alloc: Global,
+    made: Result<T, E>,
+    call: F,
+) -> bool
     requires { F.IsAlwaysCallable call }
 {
     match made {
-        Ok(value) => call(value),
+        Ok(value) => call(alloc, value),
         Err(_) => false,
-    }
-}
-
-/// Whether two values were made, and are as asked.
-pub(crate) fn both<T: Drop, E: Drop, U: Drop, D: Drop, F: FnOnce(&T, &U) -> bool>(
-    one: Result<T, E>,
-    other: Result<U, D>,
-    ask: F,
-) -> bool
-    requires { F.IsAlwaysCallable ask }
-{
-    match (one, other) {
-        (Ok(one), Ok(other)) => ask(&one, &other),
-        _ => false,
     }
 }
 
@@ -61,4 +56,12 @@ pub(crate) fn is_done<T: Drop, E: Drop>(answer: Result<T, E>) -> bool {
 /// Whether a call found nothing.
 pub(crate) fn is_none<T: Drop>(found: Option<T>) -> bool {
     found.is_none()
+}
+
+/// Whether a filter left nothing, and a count beside, unless memory was refused.
+pub(crate) fn told<T: Drop, E: Drop>(filtered: Result<(Option<T>, u64), E>) -> Option<(bool, u64)> {
+    match filtered {
+        Ok((left, count)) => Some((left.is_none(), count)),
+        Err(_) => None,
+    }
 }

@@ -4,8 +4,8 @@
 //! whichever it is (`rt try --test --fail-alloc N`), they pass too: the answer is then want of
 //! memory, nothing was done, and the next call is answered.
 
-use super::{HELLO, ID_LINE, read};
-use crate::wanted::{holds, is_none, is_same, taken, wanted};
+use super::read;
+use crate::wanted::{holds, is_none, is_same, wanted};
 use sentry_types::protocol::v7::{
     CountedWriter, Envelope, EnvelopeError, EnvelopeFilter, EnvelopeItem, EnvelopeWriteError,
 };
@@ -14,17 +14,16 @@ use std::io;
 use std::io::Write;
 use std::test::Fail;
 
-/// The header line and the event of an envelope, as they are written.
-const EVENT: &str = concat!(
-    "{\"event_id\":\"22d00b3f-d1b1-4b5d-8d20-49d138cd8a9c\"}\n{\"length\":86,\"type\":\"event\"}\n",
-    "{\"event_id\":\"22d00b3fd1b14b5d8d2049d138cd8a9c\",\"timestamp\":\"2020-07-20T14:51:14.296Z\"}\n"
-);
+/// An envelope of an event and an attachment of `helloworld`.
+const TWO: &[u8] =
+    b"{}\n{\"type\":\"event\"}\n{\"event_id\":\"22d00b3fd1b14b5d8d2049d138cd8a9c\",\"timestamp\":\"2020-07-20T14:51:14.296Z\"}\n{\"type\":\"attachment\"}\nhelloworld";
 
-/// The envelope of that event and an attachment of `helloworld`.
-const TWO: &str = concat!(
+/// The text that is written of it.
+const TEXT: &str = concat!(
     "{\"event_id\":\"22d00b3f-d1b1-4b5d-8d20-49d138cd8a9c\"}\n{\"length\":86,\"type\":\"event\"}\n",
     "{\"event_id\":\"22d00b3fd1b14b5d8d2049d138cd8a9c\",\"timestamp\":\"2020-07-20T14:51:14.296Z\"}\n",
-    "{\"type\":\"attachment\"}\nhelloworld"
+    "{\"attachment_type\":\"event.attachment\",\"content_type\":\"application/octet-stream\",",
+    "\"filename\":\"\",\"length\":10,\"type\":\"attachment\"}\nhelloworld\n"
 );
 
 /// Holds what is written, and takes no memory.
@@ -32,27 +31,6 @@ const TWO: &str = concat!(
 struct Page {
     bytes: [u8; 512],
     taken: usize,
-}
-
-impl Page {
-    fn new() -> Page {
-        Page {
-            bytes: [0; 512],
-            taken: 0,
-        }
-    }
-
-    fn text(&self) -> &[u8] {
-        self.bytes.get(..self.taken).unwrap_or(&[])
-    }
-
-    /// Whether it holds the text of the envelope that `TWO` spells.
-    fn holds_all(&self) -> bool {
-        match self.text().split_at_checked(EVENT.len()) {
-            Some((event, item)) => event == EVENT.as_bytes() && item == HELLO.as_bytes(),
-            None => false,
-        }
-    }
 }
 
 impl Write for Page {
@@ -77,19 +55,6 @@ impl Write for Page {
 struct Calls {
     asked: u8,
     handed: u8,
-}
-
-impl Calls {
-    fn none() -> Calls {
-        Calls {
-            asked: 0,
-            handed: 0,
-        }
-    }
-
-    fn are(&self, asked: u8, handed: u8) -> bool {
-        self.asked == asked && self.handed == handed
-    }
 }
 
 impl EnvelopeFilter for Calls {
@@ -124,24 +89,12 @@ pub(crate) fn read_at_last(alloc: Global, bytes: &[u8]) -> Result<Envelope, Enve
     }
 }
 
-/// The envelope that `TWO` spells.
-fn two(alloc: Global) -> Result<Envelope, EnvelopeError> {
-    read_at_last(alloc, TWO.as_bytes())
-}
-
-/// Whether an envelope has an id, an event and another item.
-fn is_read(envelope: &Envelope) -> bool {
-    envelope.uuid().is_some() && envelope.event().is_some() && envelope.items().count() == 2
-}
-
-#[test]
-fn refused_when_reading(rt: HostRuntime) -> Result<(), Fail> {
-    wanted(holds(two(rt.alloc()), is_read))
-}
-
 /// Whether a page gets the whole text, after a refusal that wrote nothing at the second try.
 fn is_written_at_last(alloc: Global, envelope: &Envelope) -> bool {
-    let mut page = Page::new();
+    let mut page = Page {
+        bytes: [0; 512],
+        taken: 0,
+    };
     let written = match envelope.to_writer(alloc, &mut page) {
         Ok(()) => true,
         Err(EnvelopeWriteError::Memory) => {
@@ -149,14 +102,7 @@ fn is_written_at_last(alloc: Global, envelope: &Envelope) -> bool {
         }
         Err(_) => false,
     };
-    written && page.holds_all()
-}
-
-#[test]
-fn refused_when_writing(rt: HostRuntime) -> Result<(), Fail> {
-    wanted(holds(two(rt.alloc()), |envelope: &Envelope| {
-        is_written_at_last(rt.alloc(), envelope)
-    }))
+    written && page.bytes.get(..page.taken).unwrap_or(&[]) == TEXT.as_bytes()
 }
 
 /// The normal form of an envelope. After a refusal it is asked for once more.
@@ -167,13 +113,16 @@ fn normalized_at_last(envelope: &Envelope) -> Result<Envelope, AllocError> {
     }
 }
 
+/// Whether an envelope and its normal form are written, each after a refusal or at once.
+fn is_rewritten_at_last(alloc: Global, envelope: &Envelope) -> bool {
+    is_written_at_last(alloc, envelope)
+        && holds(alloc, normalized_at_last(envelope), is_written_at_last)
+}
+
 #[test]
-fn refused_when_normalizing(rt: HostRuntime) -> Result<(), Fail> {
-    wanted(holds(two(rt.alloc()), |envelope: &Envelope| {
-        holds(normalized_at_last(envelope), |normal: &Envelope| {
-            is_written_at_last(rt.alloc(), normal)
-        })
-    }))
+fn refused_when_rewriting(rt: HostRuntime) -> Result<(), Fail> {
+    let alloc = rt.alloc();
+    wanted(holds(alloc, read_at_last(alloc, TWO), is_rewritten_at_last))
 }
 
 /// Whether an envelope is left after a filter.
@@ -184,10 +133,15 @@ fn is_left<T: Drop, E: Drop>(filtered: Result<Option<T>, E>) -> bool {
 /// Whether all stays, after a refusal that called nothing and left the envelope as it was at the
 /// second try.
 fn stays_at_last(alloc: Global, envelope: Envelope) -> bool {
-    match envelope.filter(alloc, Calls::none()) {
+    let none = Calls {
+        asked: 0,
+        handed: 0,
+    };
+    match envelope.filter(alloc, none) {
         Ok(left) => !is_none(left),
         Err((envelope, calls)) => {
-            let unchanged = calls.are(0, 0) && is_same(read(alloc, TWO.as_bytes()), &envelope);
+            let unchanged = (calls.asked, calls.handed) == (0, 0)
+                && is_same(read(alloc, TWO), &envelope);
             let left = is_left(envelope.filter(alloc, calls));
             unchanged && left
         }
@@ -196,79 +150,39 @@ fn stays_at_last(alloc: Global, envelope: Envelope) -> bool {
 
 #[test]
 fn refused_when_filtering(rt: HostRuntime) -> Result<(), Fail> {
-    wanted(stays_at_last(rt.alloc(), two(rt.alloc())?))
+    wanted(stays_at_last(rt.alloc(), read_at_last(rt.alloc(), TWO)?))
 }
 
-/// A header line, an event, and an attachment of so many bytes, up to those.
-fn beginning(alloc: Global, length: usize) -> Result<String, AllocError> {
-    let event =
-        "{\"type\":\"event\"}\n{\"event_id\":\"22d00b3fd1b14b5d8d2049d138cd8a9c\",\"timestamp\":\"2020-07-20T14:51:14.296Z\"}\n";
-    format!(in alloc; "{ID_LINE}{event}{{\"type\":\"attachment\",\"length\":{length}}}\n")
-}
+const LENGTH: usize = 1_000_000;
 
-/// The bytes of an envelope of an event, an attachment of so many bytes and a recording.
-fn bytes_of(alloc: Global, length: usize) -> Result<Vec<u8>, AllocError> {
-    let mut bytes = beginning(alloc, length)?.as_bytes().to_vec(alloc)?;
-    bytes.extend_from_slice(&vec![in alloc; b'x'; length]?)?;
-    bytes.extend_from_slice(b"\n{\"type\":\"replay_recording\"}\n")?;
+/// The bytes of an envelope of a long attachment.
+fn long_bytes(alloc: Global) -> Result<Vec<u8>, AllocError> {
+    let header = format!(in alloc; "{{}}\n{{\"type\":\"attachment\",\"length\":{LENGTH}}}\n")?;
+    let mut bytes = header.as_bytes().to_vec(alloc)?;
+    bytes.extend_from_slice(&vec![in alloc; b'x'; LENGTH]?)?;
     Ok(bytes)
 }
 
-/// Whether an envelope is written as more bytes than these, and the same by a writer that counts.
-fn is_longer(alloc: Global, envelope: &Envelope, length: usize) -> bool {
+/// Whether an envelope is written as more bytes than its attachment has, and the same by a writer
+/// that counts.
+fn is_long(alloc: Global, envelope: &Envelope) -> bool {
     let mut out = Vec::new(alloc);
     let mut counted = CountedWriter::new(Vec::new(alloc));
     envelope.to_writer(alloc, &mut out).is_ok()
         && envelope.write_counted(alloc, &mut counted).is_ok()
-        && out.len() > length
+        && out.len() > LENGTH
         && counted.into_inner() == out
 }
 
-/// Whether all three items stay where no header field does.
-fn stays_by(alloc: Global, envelope: Envelope) -> bool {
-    let mut calls = Calls::none();
-    is_left(envelope.filter_by(alloc, &mut calls)) && calls.are(3, 0)
+/// Whether an envelope and its normal form are long.
+fn are_long(alloc: Global, envelope: &Envelope) -> bool {
+    is_long(alloc, envelope) && holds(alloc, envelope.normalized(), is_long)
 }
 
-/// Whether all three items stay with the header fields.
-fn stays_with_headers(alloc: Global, envelope: Envelope) -> bool {
-    let mut calls = Calls::none();
-    is_left(envelope.filter_keep_headers(alloc, &mut calls)) && calls.are(3, 0)
-}
-
-/// Whether all items stay by the call that takes its filter.
-fn stays(alloc: Global, envelope: Envelope) -> bool {
-    is_left(envelope.filter(alloc, Calls::none()))
-}
-
-/// Whether all items of an envelope stay by each call that filters.
-fn keeps_all(alloc: Global, envelope: &Envelope) -> bool {
-    taken(envelope.clone(), |copy: Envelope| stays_by(alloc, copy))
-        && taken(
-            envelope.clone(),
-            |copy: Envelope| stays_with_headers(alloc, copy),
-        )
-        && taken(envelope.clone(), |copy: Envelope| stays(alloc, copy))
-}
-
-/// Whether no call wants memory for an envelope of more bytes than these.
-fn none_is_refused(alloc: Global, envelope: &Envelope, length: usize) -> bool {
-    is_longer(alloc, envelope, length)
-        && holds(
-            envelope.normalized(),
-            |normal: &Envelope| is_longer(alloc, normal, length),
-        )
-        && keeps_all(alloc, envelope)
-}
-
+/// No call wants memory for an envelope of a long attachment.
 #[test]
 fn none_refused(rt: HostRuntime) -> Result<(), Fail> {
     let alloc = rt.alloc();
-    for length in [10, 1_000_000] {
-        let bytes = bytes_of(alloc, length)?;
-        wanted(holds(read(alloc, &bytes), |envelope: &Envelope| {
-            none_is_refused(alloc, envelope, length)
-        }))?;
-    }
-    Ok(())
+    let bytes = long_bytes(alloc)?;
+    wanted(holds(alloc, read(alloc, &bytes), are_long))
 }

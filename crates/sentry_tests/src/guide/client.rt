@@ -1,12 +1,13 @@
 //! A client: it builds an event with what was around it, and an envelope that is queued as a file.
 
-use crate::wanted::{holds, wanted};
+use crate::envelopes::is_text;
+use crate::wanted::wanted;
 use rand_pcg::Pcg32;
+use sentry_types::Dsn;
 use sentry_types::protocol::v7::{
     AddRefused, Attachment, Breadcrumb, Context, Envelope, EnvelopeHeaders, EnvelopeItem, Event,
     Level, Moment, OsContext,
 };
-use sentry_types::{Auth, Dsn};
 use std::alloc::{AllocError, Global};
 use std::test::Fail;
 
@@ -75,34 +76,22 @@ fn report(alloc: Global, dsn: Dsn, now: Moment) -> Result<Envelope, Fail> {
     Ok(addressed(alloc, dsn, now, event, log_file(alloc, b"opened\n")?)?)
 }
 
-/// Whether an envelope has an event with a breadcrumb and a context, and gives its id to the header.
-fn is_report(envelope: &Envelope) -> bool {
-    match (envelope.event(), envelope.uuid()) {
-        (Some(event), Some(id)) => {
-            event.event_id == *id
-                && event.breadcrumbs.as_slice().len() == 1
-                && event.contexts.get("os").is_some()
-                && envelope.items().count() == 2
-        }
-        _ => false,
-    }
-}
+/// The report: the event's id is the first one of the generator, and the header's.
+const REPORT: &str = concat!(
+    "{\"dsn\":\"https://key:@sentry.io/1\",\"event_id\":\"b7025ca1-09f4-477b-b033-1dba93f2d283\",",
+    "\"sent_at\":\"2020-07-20T14:51:14Z\"}\n{\"length\":245,\"type\":\"event\"}\n",
+    "{\"breadcrumbs\":{\"values\":[{\"message\":\"document opened\",\"timestamp\":1595256674}]},",
+    "\"contexts\":{\"os\":{\"name\":\"linux\",\"type\":\"os\"}},\"event_id\":\"b7025ca109f4477bb0331dba93f2d283\",",
+    "\"level\":\"fatal\",\"message\":\"index out of bounds\",\"timestamp\":1595256674}\n",
+    "{\"attachment_type\":\"event.attachment\",\"content_type\":\"application/octet-stream\",",
+    "\"filename\":\"app.log\",\"length\":7,\"type\":\"attachment\"}\nopened\n\n"
+);
 
 #[test]
 fn a_panic_is_reported(rt: HostRuntime) -> Result<(), Fail> {
     let alloc = rt.alloc();
-    let (now, start) = (
-        Moment::new(1_595_256_674, 0).ok_or("moment")?,
-        Moment::new(0, 0).ok_or("moment")?,
-    );
+    let now = Moment::new(1_595_256_674, 0).ok_or("moment")?;
     let dsn = Dsn::from_str(alloc, "https://key@sentry.io/1")?;
-    let auth = holds(dsn.to_auth(alloc, start, Some("app/1.0")), |auth: &Auth| {
-        holds(auth.to_string(alloc), |text: &String| {
-            text.as_str().starts_with("Sentry sentry_key=key")
-        })
-    });
-    let envelope = report(alloc, dsn, now)?;
-    let reported = is_report(&envelope);
-    drop(envelope);
-    wanted(auth && reported)
+    let made: Result<Envelope, AllocError> = Ok(report(alloc, dsn, now)?);
+    wanted(is_text(alloc, made, REPORT))
 }

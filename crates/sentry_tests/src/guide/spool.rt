@@ -1,7 +1,7 @@
 //! A spool: it keeps envelopes in files, finds doubles, and reads files that were cut off.
 
 use crate::envelopes::read;
-use crate::wanted::{both, holds, is_done, wanted};
+use crate::wanted::{is_done, wanted};
 use sentry_types::protocol::v7::{Envelope, EnvelopeError, EnvelopeWriteError, Frames};
 use std::alloc::Global;
 use std::fs;
@@ -47,19 +47,12 @@ fn whole_len(alloc: Global, bytes: &[u8]) -> usize {
 
 const STORED: &str = "{}\n{\"length\":3,\"type\":\"replay_recording\"}\nabc\n";
 
-/// Whether two texts spell envelopes of one canonical text.
-fn are_double(alloc: Global, one: &[u8], other: &[u8]) -> bool {
-    both(
-        read(alloc, one),
-        read(alloc, other),
-        |one: &Envelope, other: &Envelope| {
-            both(
-                canonical(alloc, one),
-                canonical(alloc, other),
-                |one: &Vec<u8>, other: &Vec<u8>| { *one == *other },
-            )
-        },
-    )
+/// The canonical text of the envelope that bytes spell.
+fn canonical_text(alloc: Global, bytes: &[u8]) -> Result<Vec<u8>, Fail> {
+    let envelope = read(alloc, bytes)?;
+    let text = canonical(alloc, &envelope);
+    drop(envelope);
+    Ok(text?)
 }
 
 #[test]
@@ -71,14 +64,9 @@ fn doubles_are_found(rt: HostRuntime) -> Result<(), Fail> {
     drop(envelope);
     kept?;
     let stored = fs::read(&rt, "stored")?;
-    wanted(stored.as_slice() == STORED.as_bytes() && are_double(alloc, spelled, &stored))
-}
-
-/// Whether bytes spell an envelope of one item.
-fn is_one_item(alloc: Global, bytes: &[u8]) -> bool {
-    holds(
-        read(alloc, bytes),
-        |envelope: &Envelope| envelope.items().count() == 1,
+    wanted(
+        stored.as_slice() == STORED.as_bytes()
+            && canonical_text(alloc, spelled)? == canonical_text(alloc, &stored)?,
     )
 }
 
@@ -89,7 +77,7 @@ fn a_cut_file_has_whole_items(rt: HostRuntime) -> Result<(), Fail> {
     wanted(!is_done(read(alloc, cut.as_bytes())))?;
     let whole = whole_len(alloc, cut.as_bytes());
     let prefix = cut.as_bytes().get(..whole).unwrap_or(&[]);
-    wanted(whole == STORED.len() && is_one_item(alloc, prefix))?;
+    wanted(prefix == STORED.as_bytes())?;
     let logs = "{}\n{\"type\":\"log\"}\n{\"items\":[";
     wanted(
         whole_len(alloc, logs.as_bytes()) == 3

@@ -1,7 +1,7 @@
 //! A viewer: it lists what an envelope holds and loses, and says where a damaged one fails.
 
 use crate::envelopes::read;
-use crate::wanted::{holds, wanted};
+use crate::wanted::wanted;
 use sentry_types::protocol::v7::client_report::LossSource;
 use sentry_types::protocol::v7::{Envelope, EnvelopeError, EnvelopeItem, Frames};
 use std::alloc::{AllocError, Global};
@@ -47,12 +47,10 @@ fn fault(alloc: Global, bytes: &[u8]) -> Option<(usize, EnvelopeError)> {
 fn items_are_listed(rt: HostRuntime) -> Result<(), Fail> {
     let bytes = b"{}\n{\"type\":\"attachment\"}\nabc\n{\"type\":\"replay_recording\"}\n";
     let text = "attachment -attachment\nreplay_recording -replay\n";
-    wanted(holds(read(rt.alloc(), bytes), |envelope: &Envelope| {
-        holds(
-            list(rt.alloc(), envelope),
-            |lines: &String| lines.as_str() == text,
-        )
-    }))
+    let envelope = read(rt.alloc(), bytes)?;
+    let lines = list(rt.alloc(), &envelope);
+    drop(envelope);
+    wanted(lines?.as_str() == text)
 }
 
 #[test]
