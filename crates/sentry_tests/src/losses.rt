@@ -43,11 +43,13 @@ fn losses_of_sources(rt: HostRuntime) -> Result<(), Fail> {
     let mut file = Attachment::default_in(rt.alloc());
     file.buffer = buffer;
     let recording = ReplayRecording::default_in(rt.alloc());
+    let of_file = gives(file, &[("attachment", 12, "none")]);
+    let of_recording = gives(recording, &[("replay", 1, "none")]);
     wanted(
         gives(LossSlice(&[]), &[])
             && gives(LossSlice(&listed), &rows)
-            && gives(file, &[("attachment", 12, "none")])
-            && gives(recording, &[("replay", 1, "none")])
+            && of_file
+            && of_recording
             && gives(EnvelopeItem::Raw, &[]),
     )
 }
