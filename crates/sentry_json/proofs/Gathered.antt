@@ -1,24 +1,19 @@
 -- Nodes in lists and under keys, gathered one by one.
-use Rattle.std.proofs.Common.{◌≡◌, ℕ, zero, suc, ◌+◌, ◌<◌, arith, sym, false, true, true≢false, bytes_eq, subst, ◌≤◌, ◌-◌, Option, Some, None, option_map, option_and_then, List, [], ◌∷◌, ◌++◌, length, get_or, take, drop, String, Global, Ordering, Less, Equal, Greater, string_bytes, string_cmp, nat_cmp, refl, ap, ◌∙◌}
+use Rattle.std.proofs.Common.{◌≡◌, ℕ, ℤ, pos, negsuc, IfSome, zero, suc, ◌+◌, ◌<◌, arith, sym, false, true, true≢false, bytes_eq, subst, ◌≤◌, ◌-◌, Option, Some, None, option_and_then, List, [], ◌∷◌, ◌++◌, length, get_or, take, string_bytes, string_cmp, refl, ap, ◌∙◌}
 use Rattle.std.proofs.lemmas.List.{take_more}
 use Rattle.std.proofs.lemmas.Option.{same_Some}
-use Rattle.std.specs.Ordering.{match_ordering}
-use Rattle.std.specs.BTreeMap.{insert_entry, is_at}
-use Rattle.std.specs.Prelude.{is_some}
 use Rattle.std.specs.List.Sorted.{IsStrictlySortedBy}
-use Rattle.std.specs.Map.{keys_of, lookup}
-use Rattle.serde_json.specs.Data.{unsigned, negative, float, Data, null, boolean, number, string, array, object, Items, no_items, item, Members, no_members, member, put, depth, items_depth, members_depth}
-use Rattle.serde_json.specs.Find.{get_member, as_array, as_object, as_str, as_bool, as_number, as_u64, as_i64}
+use Rattle.std.specs.Map.{keys_of}
+use Rattle.serde_json.specs.Data.{Num, unsigned, negative, float, Data, null, boolean, number, string, array, object, Items, no_items, item, Members, no_members, put}
+use Rattle.serde_json.specs.Find.{get_member, as_array, as_object, as_str, as_bool, as_number, as_u64, as_i64, of_integer}
 use Rattle.serde_json.specs.Written.{has_float}
-use Rattle.std.specs.Cmp.Lexicographic.{slice_cmp}
 use Rattle.serde_json.specs.View.{view, items_view, members_view}
 use Rattle.serde_json.specs.declared.value.Value.{Value}
-use Rattle.serde_json.proofs.Views.{Entry, put_last, members_view-insert_entry, get_member-put, get_member-put_other, view-lookup}
+use Rattle.serde_json.proofs.Views.{Entry, put_last, get_member-put, get_member-put_other}
 use Rattle.std.proofs.lemmas.Slice.Eq.{bytes_eq-Decides}
 use Rattle.sentry_json.proofs.Beside.{beside_named, beside_put}
-use Rattle.sentry_json.specs.Sound.{IsOrdered}
+use Rattle.sentry_json.specs.Sound.{IsOrdered, IsRanged}
 use Rattle.sentry_json.proofs.Regular.{put_ordered}
-use Rattle.sentry_json.proofs.Latest.{one_put}
 use Rattle.sentry_json.specs.Keys.{is_among, beside}
 use Rattle.sentry_json.specs.Nodes.{items_by, named_after, named_by}
 use Rattle.sentry_json.specs.declared.object.Named.{Named}
@@ -104,37 +99,38 @@ named_sorted f ms new m done e more sorted made named seen h = ap (named_by f) m
 
 -- ---- trees of their own, grown from nodes
 
-pub grown_item : {N : Type 0} (f : N → Data) (xs : List N) (i : ℕ) (x : N) (vs new : List Value) (v : Value) → i < length xs → x ≡ get_or xs i x → new ≡ vs ++ v ∷ [] → items_view vs ≡ items_by f (take i xs) → view v ≡ f x
-    → items_view new ≡ items_by f (take (i + 1) xs)
-grown_item f xs i x vs new v lt at made h s = rw (take_more xs i x lt, ← at, made) (sym (more_items f (take i xs) x vs v (sym h) (sym s)))
+pub items_viewed : (vs : List Value) → items_before view vs no_items ≡ items_view vs
+items_viewed [] = refl
+items_viewed (v ∷ vs) = ap (item (view v)) (items_viewed vs)
 
-pub item_depth : {N : Type 0} (f : N → Data) (xs : List N) (i : ℕ) (x : N) → i < length xs → depth (f (get_or xs i x)) ≤ items_depth (items_by f xs)
-item_depth f [] i x lt = absurd (omega arith)
-item_depth f (y ∷ ys) zero x lt = omega arith
-item_depth f (y ∷ ys) (suc i) x lt = omega (arith, item_depth f ys i x (omega arith))
+-- ---- whole numbers
 
--- a member is not deeper than all of them
-pub member_depth : (k : List ℕ) (ms : Members) (d : Data) → get_member k ms ≡ Some d → depth d ≤ members_depth ms
-member_depth k no_members d is = absurd cc
-member_depth k (member l e ms) d is = at (slice_cmp nat_cmp k l) (member_depth k ms d) is
-  where
-    at : (o : Ordering) → (get_member k ms ≡ Some d → depth d ≤ members_depth ms) → match_ordering o (get_member k ms) (Some e) (get_member k ms) ≡ Some d → depth d ≤ members_depth (member l e ms)
-    at Less more found = omega (arith, more found)
-    at Equal more found = let same : e ≡ d = same_Some _ _ found in rw (← same) (omega arith)
-    at Greater more found = omega (arith, more found)
+number_is : (d : Data) (n : Num) → as_number d ≡ Some n → number n ≡ d
+number_is null n e = absurd cc
+number_is (boolean b) n e = absurd cc
+number_is (number m) n e = let same : m ≡ n = same_Some _ _ e in ap number (sym same)
+number_is (string s) n e = absurd cc
+number_is (array ds) n e = absurd cc
+number_is (object ms) n e = absurd cc
 
-any_viewed : (o : Option Value) → is_some o ≡ is_some (option_map view o)
-any_viewed None = refl
-any_viewed (Some v) = refl
+unsigned_of : (o : Option Num) (n : ℕ) → option_and_then as_u64 o ≡ Some n → o ≡ Some (unsigned n)
+unsigned_of None n e = absurd cc
+unsigned_of (Some (unsigned m)) n e = let same : m ≡ n = same_Some _ _ e in ap (λ k. Some (unsigned k)) same
+unsigned_of (Some (negative z)) n e = absurd cc
+unsigned_of (Some (float x)) n e = absurd cc
 
--- a key stands in a map as it does in what the map shows
-pub key_there : (k : List ℕ) (es : List Entry) (ms : Members) → members_view es ≡ ms → is_some (lookup (is_at (λ l. slice_cmp nat_cmp k (string_bytes l))) es) ≡ is_some (get_member k ms)
-key_there k es ms h = any_viewed _ ∙ ap is_some (view-lookup k es) ∙ ap (λ x. is_some (get_member k x)) h
+signed_of : (o : Option Num) (z : ℤ) → None ≡ option_and_then as_u64 o → option_and_then as_i64 o ≡ Some z → IfSome o IsRanged → o ≡ Some (of_integer z)
+signed_of None z h e ranged = absurd cc
+signed_of (Some (unsigned m)) z h e ranged = absurd cc
+signed_of (Some (negative (pos n))) z h e ranged = absurd ranged
+signed_of (Some (negative (negsuc n))) z h e ranged = let same : negsuc n ≡ z = same_Some _ _ e in ap (λ y. Some (of_integer y)) same
+signed_of (Some (float x)) z h e ranged = absurd cc
 
--- one more member, from the last to the first
-pub grown_member : {N : Type 0} (f : N → Data) (ms : List (Named N)) (n : ℕ) (m : Named N) (es new : List Entry) (k : String Global) (v : Value) → 0 < n → n ≤ length ms → m ≡ get_or ms (n - 1) m
-    → is_some (get_member m.key.now (named_by f (drop n ms))) ≡ false → new ≡ insert_entry string_cmp es k v → string_bytes k ≡ m.key.now → view v ≡ f m.node → members_view es ≡ named_by f (drop n ms) → members_view new ≡ named_by f (drop (n - 1) ms)
-grown_member f ms n m es new k v some within at last made named seen h = ap members_view made ∙ members_view-insert_entry es k v ∙ rw (named, seen, h) (sym (one_put f ms n m some within at last))
+pub is_unsigned : (d : Data) (n : ℕ) → option_and_then as_u64 (as_number d) ≡ Some n → number (unsigned n) ≡ d
+is_unsigned d n e = number_is d (unsigned n) (unsigned_of (as_number d) n e)
+
+pub is_signed : (d : Data) (z : ℤ) → None ≡ option_and_then as_u64 (as_number d) → option_and_then as_i64 (as_number d) ≡ Some z → IfSome (as_number d) IsRanged → number (of_integer z) ≡ d
+is_signed d z h e ranged = number_is d (of_integer z) (signed_of (as_number d) z h e ranged)
 
 pub only_null : (d : Data) → as_array d ≡ None → as_object d ≡ None → None ≡ as_str d → None ≡ as_bool d → None ≡ option_and_then as_u64 (as_number d) → None ≡ option_and_then as_i64 (as_number d) → has_float d ≡ false → null ≡ d
 only_null null a b c e f g h = refl

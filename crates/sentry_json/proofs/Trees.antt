@@ -114,6 +114,14 @@ data_from ts j b = let d = whole_data j b.whole in rw (read_there ts j b.begins 
 pub data_is : (ts : List Token) (j : json.Json) (d : Data) → Begins ts j → of_json j ≡ Some d → data_at ts ≡ d
 data_is ts j d b e = same_Some _ _ (sym (data_from ts j b) ∙ e)
 
+-- how deep the value nests that begins there
+unfoldable pub nesting : List Token → ℕ
+nesting ts = unwrap_or (option_map depth (json_at ts)) 0
+
+nesting_is : (ts : List Token) (j : json.Json) → Begins ts j → nesting ts ≡ depth j
+unfolding nesting
+nesting_is ts j b = rw (read_there ts j b.begins b.shallow) refl
+
 tame_parts : (j : json.Json) → is_tame j ≡ true → (is_whole j ≡ true) × (depth j ≤ max_depth)
 unfolding is_tame
 tame_parts j e = let p = and_parts _ _ e in (p.0, leb-true (depth j) max_depth p.1)
@@ -388,40 +396,43 @@ no_array_seen ts is h = none_is _ (array_seen ts false is (λ j b. ap is_some (s
 pub no_object_seen : (ts : List Token) → is_tree ts ≡ true → ((j : json.Json) → BeginsWith ts j → found.as_object j ≡ None) → None ≡ find.as_object (data_at ts)
 no_object_seen ts is h = none_is _ (object_seen ts false is (λ j b. ap is_some (sym (h j b))))
 
--- the items that are left have this data
-pub record ItemsLeft (ts : List Token) (ds : Items) : Type 0 where
+-- the items that are left have this data, and nest less deep than n
+pub record ItemsLeft (n : ℕ) (ts : List Token) (ds : Items) : Type 0 where
   pub rest : json.Items
   pub there : InItems ts rest
   pub whole : are_whole rest ≡ true
   pub shallow : items_depth rest ≤ max_depth
+  pub under : items_depth rest < n
   pub seen : of_items rest ≡ Some ds
 
 pub items_begin : (ts more : List Token) → is_tree ts ≡ true → ((j : json.Json) → BeginsWith ts j → (js : json.Items) × (j ≡ json.array js) × InItems more js)
-    → (ds : Items) × ItemsLeft more ds × (find.as_array (data_at ts) ≡ Some ds)
+    → (ds : Items) × ItemsLeft (nesting ts) more ds × (find.as_array (data_at ts) ≡ Some ds)
 items_begin ts more is h =
     let p = tree_parts ts is in
     let b = p.1 in
     let a = h p.0 b.begins in
     let read : option_map array (of_items a.0) ≡ Some (data_at ts) = subst (λ j. of_json j ≡ Some (data_at ts)) a.1 (data_from ts p.0 b) in
     let ds = map_some array (of_items a.0) (data_at ts) read in
+    let nests : nesting ts ≡ suc (items_depth a.0) = nesting_is ts p.0 b ∙ ap depth a.1 in
     let low : suc (items_depth a.0) ≤ max_depth = subst (λ j. depth j ≤ max_depth) a.1 b.shallow in (
       ds.0,
-      record { rest = a.0; there = a.2; whole = subst (λ j. is_whole j ≡ true) a.1 b.whole; shallow = omega (arith, low); seen = ds.1 },
+      record { rest = a.0; there = a.2; whole = subst (λ j. is_whole j ≡ true) a.1 b.whole; shallow = omega (arith, low); under = omega (arith, nests); seen = ds.1 },
       ap find.as_array (sym ds.2),
     )
 
-abbrev pub ItemNext : Option (List Token) → Items → List Token → Type 0
-ItemNext None ds new = ds ≡ no_items
-ItemNext (Some ts) ds new = (is_tree ts ≡ true) × (more : Items) × (ds ≡ item (data_at ts) more) × ItemsLeft new more
+abbrev pub ItemNext : ℕ → Option (List Token) → Items → List Token → Type 0
+ItemNext n None ds new = ds ≡ no_items
+ItemNext n (Some ts) ds new = (is_tree ts ≡ true) × (more : Items) × (ds ≡ item (data_at ts) more) × ItemsLeft n new more × (nesting ts < n)
 
-pub item_next : (old new : List Token) (r : Option (List Token)) (ds : Items) → ItemsLeft old ds → NextItem old r new → ItemNext r ds new
+pub item_next : {limit : ℕ} (old new : List Token) (r : Option (List Token)) (ds : Items) → ItemsLeft limit old ds → NextItem old r new → ItemNext limit r ds new
 item_next old new None ds left next =
     let none = next left.rest left.there in
     sym (same_Some _ _ (subst (λ js. of_items js ≡ Some ds) none left.seen))
-item_next old new (Some ts) ds left next =
+item_next {limit} old new (Some ts) ds left next =
     let n = next left.rest left.there in
     let whole = and_parts _ _ (subst (λ js. are_whole js ≡ true) n.2 left.whole) in
     let low : max (depth n.0) (items_depth n.1) ≤ max_depth = subst (λ js. items_depth js ≤ max_depth) n.2 left.shallow in
+    let under : max (depth n.0) (items_depth n.1) < limit = subst (λ js. items_depth js < limit) n.2 left.under in
     let b : Begins ts n.0 = record { begins = n.3; shallow = omega (arith, low); whole = whole.0 } in
     let read = then_some _ (of_json n.0) ds (subst (λ js. of_items js ≡ Some ds) n.2 left.seen) in
     let more = map_some (item read.0) (of_items n.1) ds read.2 in
@@ -429,46 +440,51 @@ item_next old new (Some ts) ds left next =
       tree_from ts n.0 b,
       more.0,
       sym more.2 ∙ ap (λ d. item d more.0) (sym here),
-      record { rest = n.1; there = n.4; whole = whole.1; shallow = omega (arith, low); seen = more.1 },
+      record { rest = n.1; there = n.4; whole = whole.1; shallow = omega (arith, low); under = omega (arith, under); seen = more.1 },
+      omega (arith, nesting_is ts n.0 b, under),
     )
 
--- the members that are left, put among those before, give these
-pub record MembersLeft (ts : List Token) (before all : Members) : Type 0 where
+-- the members that are left, put among those before, give these, and nest less deep than n
+pub record MembersLeft (n : ℕ) (ts : List Token) (before all : Members) : Type 0 where
   pub rest : json.Members
   pub there : InMembers ts rest
   pub whole : members_are_whole rest ≡ true
   pub shallow : members_depth rest ≤ max_depth
+  pub under : members_depth rest < n
   pub seen : of_members rest before ≡ Some all
 
 pub members_begin : (ts more : List Token) → is_tree ts ≡ true → ((j : json.Json) → BeginsWith ts j → (ms : json.Members) × (j ≡ json.object ms) × InMembers more ms)
-    → (all : Members) × MembersLeft more no_members all × (find.as_object (data_at ts) ≡ Some all)
+    → (all : Members) × MembersLeft (nesting ts) more no_members all × (find.as_object (data_at ts) ≡ Some all)
 members_begin ts more is h =
     let p = tree_parts ts is in
     let b = p.1 in
     let a = h p.0 b.begins in
     let read : option_map object (of_members a.0 no_members) ≡ Some (data_at ts) = subst (λ j. of_json j ≡ Some (data_at ts)) a.1 (data_from ts p.0 b) in
     let all = map_some object (of_members a.0 no_members) (data_at ts) read in
+    let nests : nesting ts ≡ suc (members_depth a.0) = nesting_is ts p.0 b ∙ ap depth a.1 in
     let low : suc (members_depth a.0) ≤ max_depth = subst (λ j. depth j ≤ max_depth) a.1 b.shallow in (
       all.0,
-      record { rest = a.0; there = a.2; whole = subst (λ j. is_whole j ≡ true) a.1 b.whole; shallow = omega (arith, low); seen = all.1 },
+      record { rest = a.0; there = a.2; whole = subst (λ j. is_whole j ≡ true) a.1 b.whole; shallow = omega (arith, low); under = omega (arith, nests); seen = all.1 },
       ap find.as_object (sym all.2),
     )
 
-abbrev pub MemberNext : Option (List ℕ × List Token) → Members → Members → List Token → Type 0
-MemberNext None before all new = before ≡ all
-MemberNext (Some m) before all new = (is_tree m.1 ≡ true) × MembersLeft new (put m.0 (data_at m.1) before) all
+abbrev pub MemberNext : ℕ → Option (List ℕ × List Token) → Members → Members → List Token → Type 0
+MemberNext n None before all new = before ≡ all
+MemberNext n (Some m) before all new = (is_tree m.1 ≡ true) × MembersLeft n new (put m.0 (data_at m.1) before) all × (nesting m.1 < n)
 
-pub member_next : (old new : List Token) (r : Option (List ℕ × List Token)) (before all : Members) → MembersLeft old before all → NextMember old r new → MemberNext r before all new
+pub member_next : {limit : ℕ} (old new : List Token) (r : Option (List ℕ × List Token)) (before all : Members) → MembersLeft limit old before all → NextMember old r new → MemberNext limit r before all new
 member_next old new None before all left next =
     let none = next left.rest left.there in
     same_Some _ _ (subst (λ ms. of_members ms before ≡ Some all) none left.seen)
-member_next old new (Some m) before all left next =
+member_next {limit} old new (Some m) before all left next =
     let n = next left.rest left.there in
     let whole = and_parts _ _ (subst (λ ms. members_are_whole ms ≡ true) n.2 left.whole) in
     let low : max (depth n.0) (members_depth n.1) ≤ max_depth = subst (λ ms. members_depth ms ≤ max_depth) n.2 left.shallow in
+    let under : max (depth n.0) (members_depth n.1) < limit = subst (λ ms. members_depth ms < limit) n.2 left.under in
     let b : Begins m.1 n.0 = record { begins = n.3; shallow = omega (arith, low); whole = whole.0 } in
     let read = then_some _ (of_json n.0) all (subst (λ ms. of_members ms before ≡ Some all) n.2 left.seen) in
     let here : data_at m.1 ≡ read.0 = data_is m.1 n.0 read.0 b read.1 in (
       tree_from m.1 n.0 b,
-      record { rest = n.1; there = n.4; whole = whole.1; shallow = omega (arith, low); seen = ap (λ d. of_members n.1 (put m.0 d before)) here ∙ read.2 },
+      record { rest = n.1; there = n.4; whole = whole.1; shallow = omega (arith, low); under = omega (arith, under); seen = ap (λ d. of_members n.1 (put m.0 d before)) here ∙ read.2 },
+      omega (arith, nesting_is m.1 n.0 b, under),
     )

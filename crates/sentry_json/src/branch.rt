@@ -1,9 +1,8 @@
 //! Nodes of the tape of a line.
 
-ghost use Rattle.std.specs.Prelude.{◌≡◌, true, None, IfOk};
+ghost use Rattle.std.specs.Prelude.{◌≡◌, true, None, Some, is_some, IfOk};
 ghost use Rattle.serde_json.specs.Find.{as_array, as_object};
 ghost use Rattle.serde_json.specs.View.{view, items_view, members_view};
-ghost use Rattle.sentry_json.specs.Nodes.{items_by, named_by};
 ghost use Rattle.sentry_json.specs.Tree.{data_at, is_tree};
 
 use crate::keys::place;
@@ -130,44 +129,46 @@ const USUAL: usize = 16;
 fn grow(node: &Branch<'_, '_>, alloc: Global) -> Result<Value, AllocError>
     ensures { IfOk result (λ v. view v ≡ data_at node.now.at) }
 {
-    if let Some(items) = node.items(alloc)? {
-        return Ok(Value::Array(grow_items(&items, alloc)?));
+    if node.is_array() {
+        return Ok(Value::Array(grow_items(node, alloc)?));
     }
-    if let Some(members) = node.members(alloc)? {
-        return Ok(Value::Object(grow_members(&members, alloc)?));
+    if node.is_object() {
+        return Ok(Value::Object(grow_members(node, alloc)?));
     }
     leaf(node, alloc)
 }
 
+// Copies the items of an array.
 #[cycle(grow)]
-fn grow_items(nodes: &[Branch<'_, '_>], alloc: Global) -> Result<Vec<Value>, AllocError>
-    ensures { IfOk result (λ v. items_view v.items ≡ items_by (λ b. data_at b.at) nodes.now) }
+fn grow_items(node: &Branch<'_, '_>, alloc: Global) -> Result<Vec<Value>, AllocError>
+    requires { is_some (as_array (data_at node.now.at)) ≡ true }
+    ensures { IfOk result (λ v. as_array (data_at node.now.at) ≡ Some (items_view v.items)) }
 {
-    let mut values = Vec::with_capacity(alloc, nodes.len())?;
-    for node in nodes {
-        values.push(grow(node, alloc)?)?;
+    let mut values = Vec::new(alloc);
+    let Some(mut items) = node.at.items() else {
+        return Ok(values);
+    };
+    while let Some(at) = items.next() {
+        let item = Branch { at };
+        values.push(grow(&item, alloc)?)?;
     }
     Ok(values)
 }
 
-// Copies the members from the last to the first: of members with equal keys, the last stays.
+// Copies the members of an object: of members with equal keys, the last stays.
 #[cycle(grow)]
-fn grow_members(
-    members: &[Named<'_, Branch<'_, '_>>],
-    alloc: Global,
-) -> Result<Map<String, Value>, AllocError>
-    ensures { IfOk result (λ m. members_view m.entries ≡ named_by (λ b. data_at b.at) members.now) }
+fn grow_members(node: &Branch<'_, '_>, alloc: Global) -> Result<Map<String, Value>, AllocError>
+    requires { is_some (as_object (data_at node.now.at)) ≡ true }
+    ensures { IfOk result (λ m. as_object (data_at node.now.at) ≡ Some (members_view m.entries)) }
 {
     let mut values = Map::new(alloc);
-    let mut left = members.len();
-    while left > 0 {
-        left -= 1;
-        let member = &members[left];
-        if values.contains_key(member.key) {
-            continue;
-        }
-        let name = String::from_str(alloc, member.key)?;
-        drop(values.insert(name, grow(&member.node, alloc)?)?);
+    let Some(mut members) = node.at.members() else {
+        return Ok(values);
+    };
+    while let Some((key, at)) = members.next() {
+        let name = String::from_str(alloc, key)?;
+        let member = Branch { at };
+        drop(values.insert(name, grow(&member, alloc)?)?);
     }
     Ok(values)
 }
@@ -184,11 +185,13 @@ fn leaf(node: &Branch<'_, '_>, alloc: Global) -> Result<Value, AllocError>
     if let Some(truth) = node.as_bool() {
         return Ok(Value::from(truth));
     }
-    if let Some(number) = node.as_u64() {
-        return Ok(Value::from(number));
-    }
-    if let Some(number) = node.as_i64() {
-        return Ok(Value::from(number));
+    if let Some(text) = node.at.as_number() {
+        if let Some(number) = number::parse_unsigned(text) {
+            return Ok(Value::from(number));
+        }
+        if let Some(number) = number::parse_signed(text) {
+            return Ok(Value::from(number));
+        }
     }
     Ok(Value::Null)
 }

@@ -1,71 +1,87 @@
-use Rattle.std.proofs.Common.{◌≡◌, ◌≤◌, length, take, drop, sym, subst, ◌∙◌, refl, arith, true, false, zero}
+use Rattle.std.proofs.Common.{◌≡◌, None, Some, option_map, [], ◌∷◌, ◌++◌, refl, sym, ap, ◌∙◌, subst, arith, rules, true≢false}
 use Rattle.std.specs.Prelude.{is_some}
-use Rattle.std.proofs.lemmas.List.{take_all, drop_all}
-use Rattle.serde_json.specs.Data.{Data, depth, items_depth, members_depth}
-use Rattle.serde_json.specs.Find.{get_member}
-use Rattle.sentry_json.specs.Nodes.{items_by, named_by}
+use Rattle.json.specs.Json.{Json}
+use Rattle.json.specs.Find as found
+use Rattle.json.specs.Find.{BeginsWith, NextItem, NextMember}
+use Rattle.serde_json.specs.Data.{no_items, item, put}
+use Rattle.serde_json.specs.View.{view, members_view}
+use Rattle.serde_json.proofs.Views.{members_view-insert_entry}
 use Rattle.sentry_json.specs.Tree.{data_at}
-use Rattle.sentry_json.specs.declared.branch.Branch.{Branch}
-use Rattle.sentry_json.proofs.Gathered.{grown_item, item_depth, member_depth, key_there, grown_member}
-use Rattle.sentry_json.proofs.Latest.{one_passed_over, one_counts}
+use Rattle.sentry_json.proofs.Gathered.{items_before, items_push, items_viewed}
+use Rattle.sentry_json.proofs.Trees.{nesting, MembersLeft, no_array_seen, no_object_seen, items_begin, item_next, members_begin, member_next}
 use Rattle.sentry_json.proofs.branch.+grow.Goals as goal
 
-abbrev data_of : Branch → Data
-data_of b = data_at b.at
+pub grow_items-returns-in_default : goal.grow_items-returns-in_default
+grow_items-returns-in_default t c =
+    let none : (j : Json) → BeginsWith c.args.node.now.at j → found.as_array j ≡ None = search rules in
+    absurd (true≢false (sym c.requires ∙ ap is_some (sym (no_array_seen c.args.node.now.at c.args.node.now.tame none))))
+
+pub grow_items-loop-at-init : goal.grow_items-loop-at-init
+grow_items-loop-at-init t c =
+    let b = items_begin c.args.node.now.at c.in-Some.items c.args.node.now.tame c.in-Some.ensures in
+    let none : c.new-values.result.items ≡ [] = c.new-values.ensures.items in
+    (b.0, b.1, rw none b.2)
+
+pub grow_items-invariant_of-item : goal.grow_items-invariant_of-item
+grow_items-invariant_of-item t c =
+    let l = c.loop-at in
+    record { tame = (item_next l.items c.next.new.self (Some c.in-Some-next.at) l.invariant.0 l.invariant.1 c.in-Some-next.ensures.value).0 }
 
 pub grow_items-grow-requires : goal.grow_items-grow-requires
 grow_items-grow-requires t c =
-    let xs = c.args.nodes.now in
-    let i = c.loop-node.node-index in
-    let x = c.node-item.result in
-    let low : depth (data_of x) ≤ items_depth (items_by data_of xs) = subst (λ y. depth (data_of y) ≤ items_depth (items_by data_of xs)) (sym c.node-item.is) (item_depth data_of xs i x c.loop-node-test.true) in
-    (omega (arith, low), tt)
+    let l = c.loop-at in
+    let n = item_next l.items c.next.new.self (Some c.in-Some-next.at) l.invariant.0 l.invariant.1 c.in-Some-next.ensures.value in
+    (omega (arith, n.4), tt)
 
-pub grow_items-loop-node-preserved : goal.grow_items-loop-node-preserved
-grow_items-loop-node-preserved t c =
-    grown_item data_of c.args.nodes.now c.loop-node.node-index c.node-item.result _ _ _ c.loop-node-test.true c.node-item.is c.in_ok-push.ensures.items c.loop-node.invariant c.in_ok-grow.ensures
+pub grow_items-loop-at-preserved : goal.grow_items-loop-at-preserved
+grow_items-loop-at-preserved t c =
+    let l = c.loop-at in
+    let vs = l.values.items in
+    let n = item_next l.items c.next.new.self (Some c.in-Some-next.at) l.invariant.0 l.invariant.1 c.in-Some-next.ensures.value in
+    let first : l.invariant.0 ≡ item (view c.in_ok-grow.field-0) n.1 = n.2 ∙ ap (λ d. item d n.1) (sym c.in_ok-grow.ensures) in
+    let more : vs ++ c.in_ok-grow.field-0 ∷ [] ≡ c.push.new.self.items = sym c.in_ok-push.ensures.items in
+    (n.1, n.3, l.invariant.2 ∙ ap (λ ds. Some (items_before view vs ds)) first ∙ ap Some (items_push view vs _ n.1) ∙ ap (λ xs. Some (items_before view xs n.1)) more)
 
 pub grow_items-returns : goal.grow_items-returns
 grow_items-returns t c =
-    let xs = c.args.nodes.now in
-    let ends : take c.loop-node.node-index xs ≡ xs = take_all c.loop-node.node-index xs (omega (arith, c.loop-node-test.false)) in
-    rw ends at c.loop-node.invariant
+    let l = c.loop-at in
+    let next : NextItem l.items None c.next.new.self = subst (λ r. NextItem l.items r c.next.new.self) c.in_default-next.is c.next.ensures.value in
+    let none : l.invariant.0 ≡ no_items = item_next l.items c.next.new.self None l.invariant.0 l.invariant.1 next in
+    l.invariant.2 ∙ ap (λ ds. Some (items_before view l.values.items ds)) none ∙ ap Some (items_viewed l.values.items)
 
-pub grow_members-loop-left-init : goal.grow_members-loop-left-init
-grow_members-loop-left-init t c = (omega arith, rw (drop_all (length c.args.members.now) c.args.members.now (omega arith), c.new-values.ensures.empty) refl)
+pub grow_members-returns-in_default : goal.grow_members-returns-in_default
+grow_members-returns-in_default t c =
+    let none : (j : Json) → BeginsWith c.args.node.now.at j → found.as_object j ≡ None = search rules in
+    absurd (true≢false (sym c.requires ∙ ap is_some (sym (no_object_seen c.args.node.now.at c.args.node.now.tame none))))
 
-pub grow_members-loop-left-preserved-then-contains_key : goal.grow_members-loop-left-preserved-then-contains_key
-grow_members-loop-left-preserved-then-contains_key t c =
-    let l = c.loop-left in
-    let ms = c.args.members.now in
-    let m = c.index-members-left.result in
-    let later : is_some (get_member m.key.now (named_by data_of (drop l.left ms))) ≡ true =
-    sym (c.contains_key.ensures ∙ key_there m.key.now l.values.entries _ l.invariant.1) ∙ c.if-contains_key.true in
-    (omega (arith, l.invariant.0), l.invariant.1 ∙ sym (one_passed_over data_of ms l.left m c.loop-left-test.true l.invariant.0 c.index-members-left.is later))
+pub grow_members-loop-key-init : goal.grow_members-loop-key-init
+grow_members-loop-key-init t c =
+    let b = members_begin c.args.node.now.at c.in-Some.members c.args.node.now.tame c.in-Some.ensures in
+    let none : c.new-values.result.entries ≡ [] = c.new-values.ensures.empty in
+    (b.0, rw none b.1, b.2)
+
+pub grow_members-invariant_of-member : goal.grow_members-invariant_of-member
+grow_members-invariant_of-member t c =
+    let l = c.loop-key in
+    record { tame = (member_next l.members c.next.new.self (Some (c.in-Some-next.key.now, c.in-Some-next.at)) _ l.invariant.0 l.invariant.1 c.in-Some-next.ensures.value).0 }
 
 pub grow_members-grow-requires : goal.grow_members-grow-requires
 grow_members-grow-requires t c =
-    let l = c.loop-left in
-    let ms = c.args.members.now in
-    let m = c.index-members-left.result in
-    let last : is_some (get_member m.key.now (named_by data_of (drop l.left ms))) ≡ false =
-    sym (c.contains_key.ensures ∙ key_there m.key.now l.values.entries _ l.invariant.1) ∙ c.if-contains_key.false in
-    let low : depth (data_of m.node) ≤ members_depth (named_by data_of ms) =
-    member_depth m.key.now (named_by data_of ms) (data_of m.node) (one_counts data_of ms l.left m c.loop-left-test.true l.invariant.0 c.index-members-left.is last) in
-    (omega (arith, low), tt)
+    let l = c.loop-key in
+    let n = member_next l.members c.next.new.self (Some (c.in-Some-next.key.now, c.in-Some-next.at)) _ l.invariant.0 l.invariant.1 c.in-Some-next.ensures.value in
+    (omega (arith, n.2), tt)
 
-pub grow_members-loop-left-preserved : goal.grow_members-loop-left-preserved
-grow_members-loop-left-preserved t c =
-    let l = c.loop-left in
-    let ms = c.args.members.now in
-    let m = c.index-members-left.result in
-    let last : is_some (get_member m.key.now (named_by data_of (drop l.left ms))) ≡ false =
-    sym (c.contains_key.ensures ∙ key_there m.key.now l.values.entries _ l.invariant.1) ∙ c.if-contains_key.false in (
-      omega (arith, l.invariant.0),
-      grown_member data_of ms l.left m l.values.entries _ c.in_ok-name.name _ c.loop-left-test.true l.invariant.0 c.index-members-left.is last c.in_ok-insert.ensures.entries c.in_ok-name.ensures.ok c.in_ok-grow.ensures l.invariant.1,
-    )
+pub grow_members-loop-key-preserved : goal.grow_members-loop-key-preserved
+grow_members-loop-key-preserved t c =
+    let l = c.loop-key in
+    let n = member_next l.members c.next.new.self (Some (c.in-Some-next.key.now, c.in-Some-next.at)) _ l.invariant.0 l.invariant.1 c.in-Some-next.ensures.value in
+    let made : members_view c.insert.new.self.entries ≡ put c.in-Some-next.key.now (data_at c.in-Some-next.at) (members_view l.values.entries) =
+    ap members_view c.in_ok-insert.ensures.entries ∙ members_view-insert_entry l.values.entries c.in_ok-name.name _ ∙ rw (c.in_ok-name.ensures.ok, c.in_ok-grow.ensures) refl in
+    (l.invariant.0, subst (λ ms. MembersLeft (nesting c.args.node.now.at) c.next.new.self ms l.invariant.0) (sym made) n.1, l.invariant.2)
 
 pub grow_members-returns : goal.grow_members-returns
 grow_members-returns t c =
-    let done : c.loop-left.left ≡ zero = omega (arith, c.loop-left-test.false) in
-    rw done at c.loop-left.invariant.1
+    let l = c.loop-key in
+    let next : NextMember l.members None c.next.new.self = subst (λ r. NextMember l.members (option_map (λ m. (m.0.now, m.1)) r) c.next.new.self) c.in_default-next.is c.next.ensures.value in
+    let done : members_view l.values.entries ≡ l.invariant.0 = member_next l.members c.next.new.self None _ l.invariant.0 l.invariant.1 next in
+    l.invariant.2 ∙ ap Some (sym done)

@@ -1,26 +1,29 @@
-use Rattle.std.proofs.Common.{◌≡◌, ◌≤◌, ◌+◌, ◌*◌, length, take, drop}
-use Rattle.serde_json.specs.Data.{depth, items_depth, members_depth}
-use Rattle.serde_json.specs.View.{items_view, members_view}
-use Rattle.sentry_json.specs.Nodes.{items_by, named_by}
+use Rattle.std.proofs.Common.{◌≡◌, ◌+◌, ◌*◌, Some, length}
+use Rattle.serde_json.specs.Data.{Items, Members}
+use Rattle.serde_json.specs.Find.{as_array, as_object}
+use Rattle.serde_json.specs.View.{view, members_view}
 use Rattle.sentry_json.specs.Tree.{data_at}
+use Rattle.sentry_json.proofs.Gathered.{items_before}
+use Rattle.sentry_json.proofs.Trees.{nesting, ItemsLeft, MembersLeft}
 use Rattle.sentry_json.proofs.branch.+grow.Given as goal
 
 abbrev pub decreases-grow : goal.decreases-grow
-decreases-grow l = 2 * depth (data_at l.node.now.at)
+decreases-grow l = 2 * nesting l.node.now.at + 1
 
 abbrev pub decreases-grow_items : goal.decreases-grow_items
-decreases-grow_items l = 2 * items_depth (items_by (λ b. data_at b.at) l.nodes.now) + 1
+decreases-grow_items l = 2 * nesting l.node.now.at
 
 abbrev pub decreases-grow_members : goal.decreases-grow_members
-decreases-grow_members l = 2 * members_depth (named_by (λ b. data_at b.at) l.members.now) + 1
+decreases-grow_members l = 2 * nesting l.node.now.at
 
-abbrev pub invariant-grow_items-loop-node : goal.invariant-grow_items-loop-node
-invariant-grow_items-loop-node l = items_view l.values.items ≡ items_by (λ b. data_at b.at) (take l.node-index l.nodes)
+abbrev pub invariant-grow_items-loop-at : goal.invariant-grow_items-loop-at
+invariant-grow_items-loop-at l = (ds : Items) × ItemsLeft (nesting l.node.at) l.items ds × (as_array (data_at l.node.at) ≡ Some (items_before view l.values.items ds))
 
--- the members from the last to this one are copied
-abbrev pub invariant-grow_members-loop-left : goal.invariant-grow_members-loop-left
-invariant-grow_members-loop-left l =
-    (l.left ≤ length l.members) × (members_view l.values.entries ≡ named_by (λ b. data_at b.at) (drop l.left l.members))
+abbrev pub decreases-grow_items-loop-at : goal.decreases-grow_items-loop-at
+decreases-grow_items-loop-at l = length l.items
 
-abbrev pub decreases-grow_members-loop-left : goal.decreases-grow_members-loop-left
-decreases-grow_members-loop-left l = l.left
+abbrev pub invariant-grow_members-loop-key : goal.invariant-grow_members-loop-key
+invariant-grow_members-loop-key l = (all : Members) × MembersLeft (nesting l.node.at) l.members (members_view l.values.entries) all × (as_object (data_at l.node.at) ≡ Some all)
+
+abbrev pub decreases-grow_members-loop-key : goal.decreases-grow_members-loop-key
+decreases-grow_members-loop-key l = length l.members

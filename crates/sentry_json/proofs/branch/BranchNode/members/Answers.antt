@@ -5,7 +5,7 @@ use Rattle.sentry_json.specs.Nodes.{named_by}
 use Rattle.sentry_json.specs.Tree.{data_at}
 use Rattle.sentry_json.specs.declared.branch.Branch.{Branch}
 use Rattle.sentry_json.proofs.Gathered.{named_last}
-use Rattle.sentry_json.proofs.Trees.{MembersLeft, no_object_seen, members_begin, member_next}
+use Rattle.sentry_json.proofs.Trees.{nesting, MembersLeft, no_object_seen, members_begin, member_next}
 use Rattle.sentry_json.proofs.branch.BranchNode.members.Goals as goal
 
 abbrev data_of : Branch → Data
@@ -31,7 +31,7 @@ loop-key-preserved c =
     let n = member_next l.members c.next.new.self (Some (c.in-Some-next.key.now, c.in-Some-next.at)) _ l.invariant.0 l.invariant.1 c.in-Some-next.ensures.value in
     let made : named_by data_of c.push.new.self.items ≡ put c.in-Some-next.key.now (data_at c.in-Some-next.at) (named_by data_of l.named.items) =
     ap (named_by data_of) c.in_ok-push.ensures.items ∙ named_last data_of l.named.items _ in
-    (l.invariant.0, subst (λ ms. MembersLeft c.next.new.self ms l.invariant.0) (sym made) n.1, l.invariant.2)
+    (l.invariant.0, subst (λ ms. MembersLeft (nesting c.args.self.now.at) c.next.new.self ms l.invariant.0) (sym made) n.1, l.invariant.2)
 
 pub returns : goal.returns
 returns c =
