@@ -124,7 +124,8 @@ impl<'t, 'a> Node for Branch<'t, 'a> {
 // Initial capacity for the members of an object.
 const USUAL: usize = 16;
 
-// Copies the tree at a node.
+// Copies the tree at a node. Lists and maps are grown in functions that aren't inlined: a scalar
+// enters no frame that holds one.
 #[cycle(grow)]
 fn grow(node: &Branch<'_, '_>, alloc: Global) -> Result<Value, AllocError>
     ensures { IfOk result (λ v. view v ≡ data_at node.now.at) }
@@ -140,6 +141,7 @@ fn grow(node: &Branch<'_, '_>, alloc: Global) -> Result<Value, AllocError>
 
 // Copies the items of an array.
 #[cycle(grow)]
+#[inline(never)]
 fn grow_items(node: &Branch<'_, '_>, alloc: Global) -> Result<Vec<Value>, AllocError>
     requires { is_some (as_array (data_at node.now.at)) ≡ true }
     ensures { IfOk result (λ v. as_array (data_at node.now.at) ≡ Some (items_view v.items)) }
@@ -157,6 +159,7 @@ fn grow_items(node: &Branch<'_, '_>, alloc: Global) -> Result<Vec<Value>, AllocE
 
 // Copies the members of an object: of members with equal keys, the last stays.
 #[cycle(grow)]
+#[inline(never)]
 fn grow_members(node: &Branch<'_, '_>, alloc: Global) -> Result<Map<String, Value>, AllocError>
     requires { is_some (as_object (data_at node.now.at)) ≡ true }
     ensures { IfOk result (λ m. as_object (data_at node.now.at) ≡ Some (members_view m.entries)) }
