@@ -7,6 +7,7 @@ use Rattle.std.proofs.lemmas.Bool.Decides.{nat_tests}
 use Rattle.std.proofs.lemmas.List.{append-nil, replicate-append-replicate}
 use Rattle.std.proofs.Math.Nat.{pow-suc}
 use Rattle.sentry_moments.specs.Digits.{digits, digits_without_closing_zeros}
+use Rattle.sentry_moments.specs.Rfc3339.{Civil, date_text, clock_text}
 
 pub differs : (m n : ℕ) → ¬ (m ≡ n) → eqb m n ≡ false
 differs m n h = grind (arith, nat_tests)
@@ -87,3 +88,19 @@ no_zero (suc places) n some e =
 pub cut_below : (places n : ℕ) → 0 < places → n < 10 ^ places → n / 10 < 10 ^ (places - 1)
 cut_below zero n some h = absurd (omega (arith, some))
 cut_below (suc places) n some h = let one : suc places - 1 ≡ places = omega arith in rw one (tenth_below places n h)
+
+-- ---- digits one by one
+
+pub two_digits : (n : ℕ) → digits 2 n ≡ (48 + n / 10 % 10) ∷ (48 + n % 10) ∷ []
+unfolding digits
+two_digits n = refl
+
+pub four_digits : (n : ℕ) → digits 4 n ≡ (48 + n / 1_000 % 10) ∷ (48 + n / 100 % 10) ∷ (48 + n / 10 % 10) ∷ (48 + n % 10) ∷ []
+unfolding digits
+four_digits n =
+    let two : n / 10 / 10 ≡ n / 100 = omega arith in
+    let three : n / 100 / 10 ≡ n / 1_000 = omega arith in
+    rw (two, three) refl
+
+pub after_the_time : (c : Civil) (rest : List ℕ) → (date_text c ++ 84 ∷ clock_text c) ++ rest ≡ date_text c ++ (84 ∷ (clock_text c ++ rest))
+after_the_time c rest = append_assoc (date_text c) (84 ∷ clock_text c) rest

@@ -1,11 +1,11 @@
 -- Numbers in a fixed number of places, and places without closing zeros.
-use Rattle.std.proofs.Common.{◌≡◌, ℕ, zero, suc, ◌+◌, ◌*◌, ◌/◌, ◌%◌, ◌^◌, ◌<◌, Bool, true, false, eqb, List, [], ◌∷◌, ◌++◌, length, replicate, refl, sym, ap, subst, ◌∙◌, append_assoc, arith, add-one, length-append}
+use Rattle.std.proofs.Common.{◌≡◌, ℕ, zero, suc, ◌+◌, ◌*◌, ◌/◌, ◌%◌, ◌^◌, ◌<◌, Bool, true, false, eqb, List, [], ◌∷◌, ◌++◌, ◌-◌, ◌≤◌, take, drop, set, take-add, length, replicate, refl, sym, ap, subst, ◌∙◌, append_assoc, arith, add-one, length-append}
 use Rattle.std.specs.Char.{digit_value}
 use Rattle.std.specs.Str.Parse.{AllDigits, digits_value}
 use Rattle.std.proofs.lemmas.Bool.{eqb-true, eq-eqb}
 use Rattle.std.proofs.lemmas.Bool.Decides.{nat_tests}
 use Rattle.std.proofs.lemmas.Int.Digits.{digits_value_push}
-use Rattle.std.proofs.lemmas.List.{append-nil, replicate-append-replicate}
+use Rattle.std.proofs.lemmas.List.{append-nil, replicate-append-replicate, drop-set}
 use Rattle.std.proofs.Math.Nat.{pow-suc}
 use Rattle.sentry_moments.specs.Digits.{digits, digits_without_closing_zeros}
 use Rattle.sentry_moments.proofs.Padding.{digits-suc}
@@ -72,3 +72,29 @@ pub is_cut : (w n : ℕ) → IsCut w n (digits_without_closing_zeros w n)
 unfolding digits_without_closing_zeros digits
 is_cut zero n = record { zeros = 0; whole = refl; digits_are = tt; count = refl }
 is_cut (suc w) n = cut w n (eqb (n % 10) 0) refl (is_cut w (n / 10))
+
+-- ---- places that are written from the last to the first
+
+pub none_written : (places n : ℕ) (text : List ℕ) → digits places n ++ take (places - places) text ≡ digits places n
+none_written places n text =
+    let none : places - places ≡ 0 = omega arith in
+    rw none (append-nil (digits places n))
+
+pub one_written : (places left rest n d : ℕ) (text : List ℕ) → 0 < left → left ≤ places → left < length text → d ≡ 48 + rest % 10 → digits left rest ++ take (places - left) (drop (left + 1) text) ≡ digits places n
+    → digits (left - 1) (rest / 10) ++ take (places - (left - 1)) (drop (left - 1 + 1) (set text left d)) ≡ digits places n
+one_written places zero rest n d text some fits inside is before = absurd (omega (arith, some))
+one_written places (suc left) rest n d text some fits inside is before =
+    let one : suc left - 1 ≡ left = omega arith in
+    let next : left + 1 ≡ suc left = omega arith in
+    let more : places - left ≡ suc (places - suc left) = omega arith in
+    let written = take (places - suc left) (drop (suc left + 1) text) in
+    rw (one, next, more, drop-set text (suc left) d inside, is) (
+    sym (append_assoc (digits left (rest / 10)) ((48 + rest % 10) ∷ []) written) ∙ ap (λ (t : List ℕ). t ++ written) (sym (digits-suc left rest)) ∙ before
+    )
+
+pub all_written : (places left rest n : ℕ) (text : List ℕ) → left ≤ 0 → take 1 text ≡ 46 ∷ [] → digits left rest ++ take (places - left) (drop (left + 1) text) ≡ digits places n → take (1 + places) text ≡ 46 ∷ digits places n
+unfolding digits
+all_written places zero rest n text none first before =
+    let whole : places ≡ places - 0 = omega arith in
+    take-add 1 places text ∙ ap (λ (t : List ℕ). t ++ take places (drop 1 text)) first ∙ ap (λ (k : ℕ). 46 ∷ take k (drop 1 text)) whole ∙ ap (λ (t : List ℕ). 46 ∷ t) before
+all_written places (suc left) rest n text none first before = absurd (omega (arith, none))

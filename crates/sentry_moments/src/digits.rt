@@ -1,9 +1,10 @@
-//! Splits leading ASCII digits off a text.
+//! ASCII digits: a number's last digit, and the digits that a text begins with.
 
-ghost use Rattle.std.specs.Prelude.{◌≡◌, ◌≤◌, length};
+ghost use Rattle.std.specs.Prelude.{◌≡◌, ◌≤◌, ◌+◌, ◌%◌, length};
 ghost use Rattle.std.specs.Char.{is_ascii_digit};
 ghost use Rattle.std.specs.List.{prefix_len};
 ghost use Rattle.std.specs.Str.Parse.{AllDigits};
+ghost use Rattle.sentry_moments.specs.Characters.{zero_digit};
 ghost use Rattle.sentry_moments.specs.Digits.{front_digits, after_digits};
 
 fn digits_len(text: &[u8]) -> usize
@@ -20,4 +21,12 @@ pub(crate) fn split_digits(text: &[u8]) -> (&[u8], &[u8])
     ensures are_digits { AllDigits 10 result.0.now }
 {
     text.split_at(digits_len(text))
+}
+
+// Returns the last digit of a number.
+#[inline(always)]
+pub(crate) fn last_digit(number: u32) -> u8
+    ensures { result ≡ zero_digit + number % 10 }
+{
+    b'0' + (number % 10) as u8
 }

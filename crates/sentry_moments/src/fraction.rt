@@ -1,9 +1,11 @@
 //! Decimal fractions of at most nine places, printed without trailing zeros.
 
-ghost use Rattle.std.specs.Prelude.{◌≡◌, ◌<◌, ◌^◌, Some};
+ghost use Rattle.std.specs.Prelude.{◌≡◌, ◌≤◌, ◌<◌, ◌^◌, ◌∷◌, ◌+◌, take, Some};
+ghost use Rattle.sentry_moments.specs.Characters.{full_stop};
 ghost use Rattle.sentry_moments.specs.Digits.{digits, digits_without_closing_zeros, fraction_text};
 
-use std::fmt;
+use crate::digits::last_digit;
+use std::{fmt, str};
 
 // A fraction in billionths, printed as a point and places without trailing zeros; 0 prints nothing.
 #[derive(Drop)]
@@ -17,8 +19,7 @@ fn without_closing_zeros(billionths: u32) -> (u32, usize)
     requires some { 0 < billionths }
     requires small { billionths < 10 ^ 9 }
     ensures same { digits result.1 result.0 ≡ digits_without_closing_zeros 9 billionths }
-    ensures fits { result.0 < 10 ^ result.1 }
-    ensures places { 0 < result.1 }
+    ensures within { result.1 ≤ 9 }
 {
     let mut number = billionths;
     let mut places = 9;
@@ -29,7 +30,22 @@ fn without_closing_zeros(billionths: u32) -> (u32, usize)
     (number, places)
 }
 
-#[tactic(auto, using(crate::proofs::Padding::padded_digits))]
+// Returns a point and the last `places` digits of a number; what follows them means nothing.
+fn point_and_digits(number: u32, places: usize) -> [u8; 10]
+    requires { places ≤ 9 }
+    ensures { take (1 + places) result ≡ full_stop ∷ digits places number }
+{
+    let mut text = [b'.'; 10];
+    let mut rest = number;
+    let mut left = places;
+    while left > 0 {
+        text[left] = last_digit(rest);
+        rest /= 10;
+        left -= 1;
+    }
+    text
+}
+
 impl fmt::Display for Fraction {
     ghost output = { λ f. Some (fraction_text f.billionths) };
 
@@ -37,7 +53,8 @@ impl fmt::Display for Fraction {
         if self.billionths == 0 {
             return Ok(());
         }
-        let (digits, places) = without_closing_zeros(self.billionths);
-        write!(f, ".{digits:0places$}")
+        let (number, places) = without_closing_zeros(self.billionths);
+        let text = point_and_digits(number, places);
+        f.write_str(str::from_utf8(&text[..1 + places]).map_err(|_| fmt::Error)?)
     }
 }

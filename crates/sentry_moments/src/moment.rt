@@ -1,16 +1,18 @@
 //! Moments (timestamps), and their RFC 3339 and decimal texts.
 
-ghost use Rattle.std.specs.Prelude.{ℕ, ◌≡◌, ◌↔◌, ◌≤◌, ◌<◌, ◌^◌, ◌*◌, ◌+◌, ◌/◌, IsSome, IfSome, IsSomeAnd, IfOk, Some, pos, string_bytes};
+ghost use Rattle.std.specs.Prelude.{ℕ, ◌≡◌, ◌↔◌, ◌≤◌, ◌<◌, ◌^◌, ◌*◌, ◌+◌, ◌/◌, ◌∷◌, ◌++◌, IsSome, IfSome, IsSomeAnd, IfOk, Some, pos, string_bytes};
+ghost use Rattle.sentry_moments.specs.Characters.{upper_t};
 ghost use Rattle.sentry_moments.specs.Decimal.{IsDecimal, Billionths, decimal_text};
-ghost use Rattle.sentry_moments.specs.Rfc3339.{IsMomentTime, IsRfc3339, date_digits, clock_digits};
-ghost use Rattle.sentry_moments.specs.MomentTexts.{day_after, rfc3339_text};
+ghost use Rattle.sentry_moments.specs.Rfc3339.{IsMomentTime, IsRfc3339, date_text, clock_text};
+ghost use Rattle.sentry_moments.specs.MomentTexts.{civil_at, day_after, rfc3339_text};
 
 use crate::decimal::{self, Decimal};
+use crate::digits::last_digit;
 use crate::fraction::Fraction;
 use crate::rfc3339;
 use jiff_core::civil::Date;
 use std::alloc::{AllocError, Global};
-use std::fmt;
+use std::{fmt, str};
 
 /// A timestamp in nanoseconds, from 1970-01-01T00:00:00Z to 9999-12-31T23:59:59.999999999Z.
 ///
@@ -143,64 +145,60 @@ impl Moment {
             day: date.day,
         }
     }
+
+    // Returns the date and the time in UTC, such as `2020-07-20T14:51:14`.
+    #[inline(always)]
+    #[tactic(auto, using(crate::proofs::Padding::four_digits, crate::proofs::Padding::two_digits), unfolding(crate::specs::Rfc3339::date_text, crate::specs::Rfc3339::clock_text))]
+    fn date_and_time(&self) -> [u8; 19]
+        ensures { result ≡
+            date_text (civil_at self.now.secs) ++ upper_t ∷ clock_text (civil_at self.now.secs) }
+    {
+        let date = self.day();
+        let (year, month) = (u32::from(date.year), u32::from(date.month));
+        let (day, hour) = (u32::from(date.day), (self.secs % 86_400 / 3_600) as u32);
+        let (minute, second) = ((self.secs % 3_600 / 60) as u32, (self.secs % 60) as u32);
+        [
+            last_digit(year / 1_000),
+            last_digit(year / 100),
+            last_digit(year / 10),
+            last_digit(year),
+            b'-',
+            last_digit(month / 10),
+            last_digit(month),
+            b'-',
+            last_digit(day / 10),
+            last_digit(day),
+            b'T',
+            last_digit(hour / 10),
+            last_digit(hour),
+            b':',
+            last_digit(minute / 10),
+            last_digit(minute),
+            b':',
+            last_digit(second / 10),
+            last_digit(second),
+        ]
+    }
 }
 
-// A calendar date, printed as `2020-07-20`.
+// A calendar date.
 #[derive(Drop)]
 struct Day {
     year: u16,
     month: u8,
     day: u8,
-    ghost year_in: { year < 10_000 },
-    ghost month_in: { month < 100 },
-    ghost day_in: { day < 100 },
 }
 
-// A time of day, printed as `14:51:14`.
-#[derive(Drop)]
-struct Clock {
-    hour: u64,
-    minute: u64,
-    second: u64,
-    ghost hour_in: { hour < 24 },
-    ghost minute_in: { minute < 60 },
-    ghost second_in: { second < 60 },
-}
-
-#[tactic(auto, using(crate::proofs::Padding::padded_digits))]
-impl fmt::Display for Clock {
-    ghost output = { λ c. Some (clock_digits c.hour c.minute c.second) };
-
-    fn fmt<W: fmt::Write>(&self, f: &mut fmt::Formatter<W>) -> fmt::Result {
-        let (hour, minute, second) = (self.hour, self.minute, self.second);
-        write!(f, "{hour:02}:{minute:02}:{second:02}")
-    }
-}
-
-#[tactic(auto, using(crate::proofs::Padding::padded_digits))]
-impl fmt::Display for Day {
-    ghost output = { λ d. Some (date_digits d.year d.month d.day) };
-
-    fn fmt<W: fmt::Write>(&self, f: &mut fmt::Formatter<W>) -> fmt::Result {
-        let (year, month, day) = (self.year, self.month, self.day);
-        write!(f, "{year:04}-{month:02}-{day:02}")
-    }
-}
-
-#[tactic(auto, unfolding(crate::specs::Rfc3339::date_text, crate::specs::Rfc3339::clock_text))]
+#[tactic(auto, using(crate::proofs::Padding::after_the_time))]
 impl fmt::Display for Moment {
     ghost output = { λ m. Some (rfc3339_text m.secs m.nanos) };
 
     fn fmt<W: fmt::Write>(&self, f: &mut fmt::Formatter<W>) -> fmt::Result {
-        let day = self.day();
-        let clock = Clock {
-            hour: self.secs % 86_400 / 3_600,
-            minute: self.secs % 3_600 / 60,
-            second: self.secs % 60,
-        };
-        let fraction = Fraction {
+        let text = self.date_and_time();
+        f.write_str(str::from_utf8(&text).map_err(|_| fmt::Error)?)?;
+        f.write(Fraction {
             billionths: self.nanos,
-        };
-        write!(f, "{day}T{clock}{fraction}Z")
+        })?;
+        f.write_str("Z")
     }
 }

@@ -15,4 +15,4 @@ pub returns : goal.returns
 returns c =
     let l = c.loop-number in
     let some = some_place l.places l.number l.invariant.1 l.invariant.2 in
-    record { same = no_zero l.places l.number some c.loop-number-test.false ∙ l.invariant.0; fits = l.invariant.2; places = some }
+    record { same = no_zero l.places l.number some c.loop-number-test.false ∙ l.invariant.0; within = l.invariant.3 }
