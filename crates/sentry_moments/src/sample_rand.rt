@@ -130,10 +130,7 @@ impl Spelled for SampleRand {
 
     #[tactic(auto, using(crate::proofs::SamplingSpellings::not_sample_rand))]
     fn of_text(_alloc: Global, text: &str) -> Result<SampleRand, TreeError> {
-        match text.parse::<SampleRand>() {
-            Ok(value) => Ok(value),
-            Err(_) => Err(TreeError::Misfit),
-        }
+        text.parse().map_err(|_| TreeError::Misfit)
     }
 
     #[tactic(auto, using(crate::proofs::Lengths::sample_rand_fits))]

@@ -60,10 +60,7 @@ impl Spelled for SampleRate {
 
     #[tactic(auto, using(crate::proofs::SamplingSpellings::not_sample_rate))]
     fn of_text(_alloc: Global, text: &str) -> Result<SampleRate, TreeError> {
-        match text.parse::<SampleRate>() {
-            Ok(rate) => Ok(rate),
-            Err(_) => Err(TreeError::Misfit),
-        }
+        text.parse().map_err(|_| TreeError::Misfit)
     }
 
     #[tactic(auto, using(crate::proofs::Lengths::rate_fits))]
