@@ -1,9 +1,10 @@
 -- Units: the table by its parts, and what their spelling owes.
 use Rattle.std.specs.declared.alloc.Global.{Global}
-use Rattle.std.proofs.Common.{◌≡◌, ℕ, zero, suc, Bool, true, false, ◌||◌, cond, List, [], ◌∷◌, ◌++◌, Option, Some, None, unwrap_or, bytes_eq, codes, refl, sym, ap, subst, ◌∙◌, option_map, IsUtf8}
+use Rattle.std.proofs.Common.{◌≡◌, ℕ, zero, suc, Bool, true, false, ◌||◌, ◌&&◌, nat_eq, slice_get, cond, List, [], ◌∷◌, ◌++◌, Option, Some, None, unwrap_or, bytes_eq, codes, refl, sym, ap, subst, ◌∙◌, option_map, IsUtf8}
 use Rattle.std.specs.Prelude.{⊤}
 use Rattle.std.proofs.lemmas.Option.{same_Some}
-use Rattle.std.specs.List.{list_any, AllByRecursion, IsDistinct}
+use Rattle.std.proofs.lemmas.Bool.{and_parts, eqb-true, eq-eqb, ne_eqb, true≢false}
+use Rattle.std.specs.List.{list_any, list_all, AllByRecursion, IsDistinct}
 use Rattle.sentry_tables.specs.Cell.{Cell, text, choice}
 use Rattle.sentry_tables.specs.Lawful.{is_ascii}
 use Rattle.sentry_tables.specs.Norm.{norm}
@@ -38,6 +39,76 @@ pub found-append_none : (rows more : List Row) (word : List ℕ) → found rows 
 found-append_none [] more word e = refl
 found-append_none (row ∷ rows) more word e =
     found_after (list_any (bytes_eq word) row.1) row.0 (found rows word) (found (rows ++ more) word) (found more word) (found-append_none rows more word) e
+
+-- ---- texts by their first byte
+
+-- the byte is one of these
+abbrev pub Among : List ℕ → ℕ → Type 0
+Among [] x = ⊥
+Among (b ∷ bs) x = (x ≡ b → ⊥) → Among bs x
+
+-- the byte is none of these
+abbrev pub Outside : List ℕ → ℕ → Type 0
+Outside [] x = ⊤
+Outside (b ∷ bs) x = (x ≡ b → ⊥) × Outside bs x
+
+-- the rows tell of texts with such a first byte what all tell
+abbrev pub AreAlike : List Row → List ℕ → List ℕ → Type 0
+AreAlike rows [] rest = ⊤
+AreAlike rows (b ∷ bs) rest = (found rows (b ∷ rest) ≡ found units (b ∷ rest)) × AreAlike rows bs rest
+
+one_of : (rows : List Row) (x b : ℕ) (rest bs : List ℕ) (t : Bool) → nat_eq x b ≡ t → found rows (b ∷ rest) ≡ found units (b ∷ rest) → ((x ≡ b → ⊥) → found rows (x ∷ rest) ≡ found units (x ∷ rest)) → found rows (x ∷ rest) ≡ found units (x ∷ rest)
+one_of rows x b rest bs true is h more = subst (λ n. found rows (n ∷ rest) ≡ found units (n ∷ rest)) (sym (eqb-true x b is)) h
+one_of rows x b rest bs false not h more = more (λ same. true≢false (sym (eq-eqb x b same) ∙ not))
+
+alike_after : (rows : List Row) (x : ℕ) (rest bs : List ℕ) → Among bs x → AreAlike rows bs rest → found rows (x ∷ rest) ≡ found units (x ∷ rest)
+alike_after rows x rest [] among h = absurd among
+alike_after rows x rest (b ∷ bs) among h = one_of rows x b rest bs (nat_eq x b) refl h.0 (λ not. alike_after rows x rest bs (among not) h.1)
+
+pub alike : (rows : List Row) (bs : List ℕ) (x : ℕ) (bytes word : List ℕ) → Among bs x → ((rest : List ℕ) → AreAlike rows bs rest) → Some x ≡ slice_get bytes 0 → bytes ≡ word → found rows word ≡ found units word
+alike rows bs x [] word among h first is = absurd cc
+alike rows bs x (z ∷ rest) word among h first is =
+    subst (λ s. found rows s ≡ found units s) is (subst (λ n. found rows (n ∷ rest) ≡ found units (n ∷ rest)) (same_Some x z first) (alike_after rows x rest bs among (h rest)))
+
+abbrev begins : List ℕ → List ℕ → Bool
+begins bs [] = true
+begins bs (y ∷ ys) = list_any (nat_eq y) bs
+
+differs : (x y b : ℕ) (t c : Bool) → nat_eq y b ≡ t → (x ≡ b → ⊥) → (t || c) ≡ true → (c ≡ true → nat_eq x y ≡ false) → nat_eq x y ≡ false
+differs x y b true c is out e h = ne_eqb x y (λ same. out (same ∙ eqb-true y b is))
+differs x y b false c is out e h = h e
+
+unlike : (bs : List ℕ) (x y : ℕ) → Outside bs x → list_any (nat_eq y) bs ≡ true → nat_eq x y ≡ false
+unlike [] x y out e = absurd cc
+unlike (b ∷ bs) x y out e = differs x y b (nat_eq y b) (list_any (nat_eq y) bs) refl out.0 e (unlike bs x y out.1)
+
+no_word : (bs : List ℕ) (x : ℕ) (rest : List ℕ) → Outside bs x → (words : List (List ℕ)) → list_all (begins bs) words ≡ true → list_any (bytes_eq (x ∷ rest)) words ≡ false
+no_word bs x rest out [] e = refl
+no_word bs x rest out ([] ∷ words) e = no_word bs x rest out words e
+no_word bs x rest out ((y ∷ ys) ∷ words) e =
+    let p = and_parts (list_any (nat_eq y) bs) (list_all (begins bs) words) e in
+    ap (λ b. (b && bytes_eq rest ys) || list_any (bytes_eq (x ∷ rest)) words) (unlike bs x y out p.0) ∙ no_word bs x rest out words p.1
+
+no_row : (bs : List ℕ) (x : ℕ) (rest : List ℕ) → Outside bs x → (rows : List Row) → list_all (λ row. list_all (begins bs) row.1) rows ≡ true → found rows (x ∷ rest) ≡ None
+no_row bs x rest out [] e = refl
+no_row bs x rest out (row ∷ rows) e =
+    let p = and_parts (list_all (begins bs) row.1) (list_all (λ row. list_all (begins bs) row.1) rows) e in
+    ap (λ b. cond b (Some (known row.0)) (found rows (x ∷ rest))) (no_word bs x rest out row.1 p.0) ∙ no_row bs x rest out rows p.1
+
+-- the bytes that spellings begin with
+abbrev pub first_bytes : List ℕ
+first_bytes = 206 ∷ 194 ∷ codes "nNwWsSdDhHrRbBkKgGtTeEpP%mM"
+
+pub unknown : (x : ℕ) (bytes word : List ℕ) → Outside first_bytes x → Some x ≡ slice_get bytes 0 → bytes ≡ word → None ≡ found units word
+unfolding times sizes binary_sizes shares
+unknown x [] word out first is = absurd cc
+unknown x (z ∷ rest) word out first is =
+    subst (λ s. None ≡ found units s) is (sym (no_row first_bytes z rest (subst (Outside first_bytes) (same_Some x z first) out) units refl))
+
+pub unknown_empty : (bytes word : List ℕ) → None ≡ slice_get bytes 0 → bytes ≡ word → None ≡ found units word
+unfolding times sizes binary_sizes shares
+unknown_empty [] word e is = ap (found units) is
+unknown_empty (x ∷ xs) word e is = absurd cc
 
 -- ---- names
 

@@ -1,5 +1,5 @@
 -- Units of metrics: their names, and the texts that spell them.
-use Rattle.std.specs.Prelude.{◌≡◌, ℕ, zero, suc, List, [], ◌∷◌, ◌++◌, codes, Option, Some, None, cond, unwrap_or, bytes_eq, IsUtf8}
+use Rattle.std.specs.Prelude.{◌≡◌, ℕ, zero, suc, List, [], ◌∷◌, ◌++◌, codes, Option, Some, None, cond, unwrap_or, filter, take, bytes_eq, IsUtf8}
 use Rattle.std.specs.Char.{to_ascii_uppercase}
 use Rattle.std.specs.Cow.{cow_str_bytes}
 use Rattle.std.specs.List.{list_any}
@@ -75,6 +75,10 @@ shares =
 
 abbrev pub units : List Row
 units = times ++ (sizes ++ (binary_sizes ++ shares))
+
+-- the rows whose names begin with one of the letters
+abbrev pub named : List ℕ → List Row → List Row
+named letters rows = filter (λ row. list_any (λ letter. bytes_eq (take 1 row.0) (letter ∷ [])) letters) rows
 
 abbrev pub spellings : List Row → List (List ℕ)
 spellings [] = []

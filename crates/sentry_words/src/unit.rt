@@ -1,8 +1,8 @@
 //! Units of metrics.
 
-ghost use Rattle.std.specs.Prelude.{◌≡◌, IfOk, option_map, string_bytes};
+ghost use Rattle.std.specs.Prelude.{◌≡◌, ◌++◌, IfOk, codes, drop, take, option_map, string_bytes};
 ghost use Rattle.std.specs.Cow.{cow_str_bytes};
-ghost use Rattle.sentry_words.specs.Units.{times, sizes, binary_sizes, shares, units, found, unit_cell, unit_of, unit_text, unit_spelling};
+ghost use Rattle.sentry_words.specs.Units.{times, sizes, binary_sizes, shares, units, named, found, unit_cell, unit_of, unit_text, unit_spelling};
 
 use sentry_members::{AsText, Formed, Room, Spelled, TreeError, Way};
 use std::alloc::{AllocError, Global};
@@ -71,87 +71,154 @@ pub enum Unit {
 
 impl Unit {
     #[tactic(auto, unfolding(crate::specs::Units::times))]
-    fn time(text: &str) -> Option<Unit>
-        ensures { option_map unit_cell result ≡ found times text.now }
+    fn nanosecond_or_week(text: &str) -> Option<Unit>
+        ensures { option_map unit_cell result ≡ found (named (codes "nw") times) text.now }
     {
         match text {
             "nanosecond" | "Nanosecond" | "nanoseconds" | "Nanoseconds" | "ns" => Some(
                 Unit::Nanosecond,
             ),
-            "microsecond" | "Microsecond" | "microseconds" | "Microseconds" | "μs" | "µs" => Some(
-                Unit::Microsecond,
-            ),
-            "millisecond" | "Millisecond" | "milliseconds" | "Milliseconds" | "ms" => Some(
-                Unit::Millisecond,
-            ),
-            "second" | "Second" | "seconds" | "Seconds" | "s" => Some(Unit::Second),
-            "minute" | "Minute" | "minutes" | "Minutes" | "min" => Some(Unit::Minute),
-            "hour" | "Hour" | "hours" | "Hours" | "h" => Some(Unit::Hour),
-            "day" | "Day" | "days" | "Days" | "d" => Some(Unit::Day),
             "week" | "Week" | "weeks" | "Weeks" => Some(Unit::Week),
             _ => None,
         }
     }
 
-    // bits, bytes and powers of 1000
-    #[tactic(auto, unfolding(crate::specs::Units::sizes))]
-    fn size(text: &str) -> Option<Unit>
-        ensures { option_map unit_cell result ≡ found sizes text.now }
+    #[tactic(auto, unfolding(crate::specs::Units::times))]
+    fn second_or_day(text: &str) -> Option<Unit>
+        ensures { option_map unit_cell result ≡ found (named (codes "sd") times) text.now }
     {
         match text {
-            "bit" | "Bit" | "bits" | "Bits" | "b" => Some(Unit::Bit),
-            "byte" | "Byte" | "bytes" | "Bytes" | "B" => Some(Unit::Byte),
-            "kilobyte" | "Kilobyte" | "kilobytes" | "Kilobytes" | "kB" => Some(Unit::Kilobyte),
-            "megabyte" | "Megabyte" | "megabytes" | "Megabytes" | "MB" => Some(Unit::Megabyte),
-            "gigabyte" | "Gigabyte" | "gigabytes" | "Gigabytes" | "GB" => Some(Unit::Gigabyte),
-            "terabyte" | "Terabyte" | "terabytes" | "Terabytes" | "TB" => Some(Unit::Terabyte),
-            "petabyte" | "Petabyte" | "petabytes" | "Petabytes" | "PB" => Some(Unit::Petabyte),
-            "exabyte" | "Exabyte" | "exabytes" | "Exabytes" | "EB" => Some(Unit::Exabyte),
+            "second" | "Second" | "seconds" | "Seconds" | "s" => Some(Unit::Second),
+            "day" | "Day" | "days" | "Days" | "d" => Some(Unit::Day),
             _ => None,
         }
     }
 
-    // powers of 1024
-    #[tactic(auto, unfolding(crate::specs::Units::binary_sizes))]
-    fn binary_size(text: &str) -> Option<Unit>
-        ensures { option_map unit_cell result ≡ found binary_sizes text.now }
+    #[tactic(auto, unfolding(crate::specs::Units::times))]
+    fn millisecond_or_microsecond(text: &str) -> Option<Unit>
+        ensures { option_map unit_cell result ≡ found (named (codes "m") (take 3 times)) text.now }
     {
         match text {
-            "kibibyte" | "Kibibyte" | "kibibytes" | "Kibibytes" | "KiB" => Some(Unit::Kibibyte),
+            "millisecond" | "Millisecond" | "milliseconds" | "Milliseconds" | "ms" => Some(
+                Unit::Millisecond,
+            ),
+            "microsecond" | "Microsecond" | "microseconds" | "Microseconds" | "μs" | "µs" => Some(
+                Unit::Microsecond,
+            ),
+            _ => None,
+        }
+    }
+
+    #[tactic(auto, unfolding(crate::specs::Units::times, crate::specs::Units::shares))]
+    fn hour_or_ratio(text: &str) -> Option<Unit>
+        ensures { option_map unit_cell result ≡ found (named (codes "hr") (times ++ shares)) text.now }
+    {
+        match text {
+            "hour" | "Hour" | "hours" | "Hours" | "h" => Some(Unit::Hour),
+            "ratio" | "Ratio" => Some(Unit::Ratio),
+            _ => None,
+        }
+    }
+
+    #[tactic(auto, unfolding(crate::specs::Units::sizes))]
+    fn bit_or_byte(text: &str) -> Option<Unit>
+        ensures { option_map unit_cell result ≡ found (named (codes "b") sizes) text.now }
+    {
+        match text {
+            "byte" | "Byte" | "bytes" | "Bytes" | "B" => Some(Unit::Byte),
+            "bit" | "Bit" | "bits" | "Bits" | "b" => Some(Unit::Bit),
+            _ => None,
+        }
+    }
+
+    #[tactic(auto, unfolding(crate::specs::Units::times, crate::specs::Units::sizes, crate::specs::Units::binary_sizes))]
+    fn minute_or_m_size(text: &str) -> Option<Unit>
+        ensures { option_map unit_cell result ≡ found (named (codes "m") (drop 4 times ++ (sizes ++ binary_sizes))) text.now }
+    {
+        match text {
+            "minute" | "Minute" | "minutes" | "Minutes" | "min" => Some(Unit::Minute),
+            "megabyte" | "Megabyte" | "megabytes" | "Megabytes" | "MB" => Some(Unit::Megabyte),
             "mebibyte" | "Mebibyte" | "mebibytes" | "Mebibytes" | "MiB" => Some(Unit::Mebibyte),
+            _ => None,
+        }
+    }
+
+    #[tactic(auto, unfolding(crate::specs::Units::sizes, crate::specs::Units::binary_sizes))]
+    fn k_size(text: &str) -> Option<Unit>
+        ensures { option_map unit_cell result ≡ found (named (codes "k") (sizes ++ binary_sizes)) text.now }
+    {
+        match text {
+            "kilobyte" | "Kilobyte" | "kilobytes" | "Kilobytes" | "kB" => Some(Unit::Kilobyte),
+            "kibibyte" | "Kibibyte" | "kibibytes" | "Kibibytes" | "KiB" => Some(Unit::Kibibyte),
+            _ => None,
+        }
+    }
+
+    #[tactic(auto, unfolding(crate::specs::Units::sizes, crate::specs::Units::binary_sizes))]
+    fn g_size(text: &str) -> Option<Unit>
+        ensures { option_map unit_cell result ≡ found (named (codes "g") (sizes ++ binary_sizes)) text.now }
+    {
+        match text {
+            "gigabyte" | "Gigabyte" | "gigabytes" | "Gigabytes" | "GB" => Some(Unit::Gigabyte),
             "gibibyte" | "Gibibyte" | "gibibytes" | "Gibibytes" | "GiB" => Some(Unit::Gibibyte),
+            _ => None,
+        }
+    }
+
+    #[tactic(auto, unfolding(crate::specs::Units::sizes, crate::specs::Units::binary_sizes))]
+    fn t_size(text: &str) -> Option<Unit>
+        ensures { option_map unit_cell result ≡ found (named (codes "t") (sizes ++ binary_sizes)) text.now }
+    {
+        match text {
+            "terabyte" | "Terabyte" | "terabytes" | "Terabytes" | "TB" => Some(Unit::Terabyte),
             "tebibyte" | "Tebibyte" | "tebibytes" | "Tebibytes" | "TiB" => Some(Unit::Tebibyte),
-            "pebibyte" | "Pebibyte" | "pebibytes" | "Pebibytes" | "PiB" => Some(Unit::Pebibyte),
+            _ => None,
+        }
+    }
+
+    #[tactic(auto, unfolding(crate::specs::Units::sizes, crate::specs::Units::binary_sizes))]
+    fn e_size(text: &str) -> Option<Unit>
+        ensures { option_map unit_cell result ≡ found (named (codes "e") (sizes ++ binary_sizes)) text.now }
+    {
+        match text {
+            "exabyte" | "Exabyte" | "exabytes" | "Exabytes" | "EB" => Some(Unit::Exabyte),
             "exbibyte" | "Exbibyte" | "exbibytes" | "Exbibytes" | "EiB" => Some(Unit::Exbibyte),
             _ => None,
         }
     }
 
-    // fractions
-    #[tactic(auto, unfolding(crate::specs::Units::shares))]
-    fn share(text: &str) -> Option<Unit>
-        ensures { option_map unit_cell result ≡ found shares text.now }
+    #[tactic(auto, unfolding(crate::specs::Units::sizes, crate::specs::Units::binary_sizes, crate::specs::Units::shares))]
+    fn percent_or_p_size(text: &str) -> Option<Unit>
+        ensures { option_map unit_cell result ≡ found (named (codes "p") (sizes ++ (binary_sizes ++ shares))) text.now }
     {
         match text {
-            "ratio" | "Ratio" => Some(Unit::Ratio),
             "percent" | "Percent" | "%" => Some(Unit::Percent),
+            "petabyte" | "Petabyte" | "petabytes" | "Petabytes" | "PB" => Some(Unit::Petabyte),
+            "pebibyte" | "Pebibyte" | "pebibytes" | "Pebibytes" | "PiB" => Some(Unit::Pebibyte),
             _ => None,
         }
     }
 
+    // chosen by the first byte, so that few spellings are compared
     fn known(text: &str) -> Option<Unit>
         ensures { option_map unit_cell result ≡ found units text.now }
     {
-        if let Some(unit) = Unit::time(text) {
-            return Some(unit);
+        match text.as_bytes().first()? {
+            b'n' | b'N' | b'w' | b'W' => Unit::nanosecond_or_week(text),
+            b's' | b'S' | b'd' | b'D' => Unit::second_or_day(text),
+            b'h' | b'H' | b'r' | b'R' => Unit::hour_or_ratio(text),
+            b'b' | b'B' => Unit::bit_or_byte(text),
+            b'k' | b'K' => Unit::k_size(text),
+            b'g' | b'G' => Unit::g_size(text),
+            b't' | b'T' => Unit::t_size(text),
+            b'e' | b'E' => Unit::e_size(text),
+            b'p' | b'P' | b'%' => Unit::percent_or_p_size(text),
+            b'm' | b'M' | 0xce | 0xc2 => match Unit::millisecond_or_microsecond(text) {
+                Some(unit) => Some(unit),
+                None => Unit::minute_or_m_size(text),
+            },
+            _ => None,
         }
-        if let Some(unit) = Unit::size(text) {
-            return Some(unit);
-        }
-        if let Some(unit) = Unit::binary_size(text) {
-            return Some(unit);
-        }
-        Unit::share(text)
     }
 
     /// Returns the text in payloads: a known unit's name in lower case, or the text of `Other`.
