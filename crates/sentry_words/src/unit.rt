@@ -1,8 +1,8 @@
 //! Units of metrics.
 
-ghost use Rattle.std.specs.Prelude.{◌≡◌, ◌++◌, IfOk, codes, drop, take, option_map, string_bytes};
+ghost use Rattle.std.specs.Prelude.{◌≡◌, IfOk, codes, drop, take, option_map, string_bytes};
 ghost use Rattle.std.specs.Cow.{cow_str_bytes};
-ghost use Rattle.sentry_words.specs.Units.{times, sizes, binary_sizes, shares, units, named, found, unit_cell, unit_of, unit_text, unit_spelling};
+ghost use Rattle.sentry_words.specs.Units.{times, units, named, found, unit_cell, unit_of, unit_text, unit_spelling};
 
 use sentry_members::{AsText, Formed, Room, Spelled, TreeError, Way};
 use std::alloc::{AllocError, Global};
@@ -69,10 +69,10 @@ pub enum Unit {
     Other(CowStr<'static>),
 }
 
+#[tactic(auto, unfolding(crate::specs::Units::times, crate::specs::Units::sizes, crate::specs::Units::binary_sizes, crate::specs::Units::shares))]
 impl Unit {
-    #[tactic(auto, unfolding(crate::specs::Units::times))]
     fn nanosecond_or_week(text: &str) -> Option<Unit>
-        ensures { option_map unit_cell result ≡ found (named (codes "nw") times) text.now }
+        ensures { option_map unit_cell result ≡ found (named (codes "nw") units) text.now }
     {
         match text {
             "nanosecond" | "Nanosecond" | "nanoseconds" | "Nanoseconds" | "ns" => Some(
@@ -83,9 +83,8 @@ impl Unit {
         }
     }
 
-    #[tactic(auto, unfolding(crate::specs::Units::times))]
     fn second_or_day(text: &str) -> Option<Unit>
-        ensures { option_map unit_cell result ≡ found (named (codes "sd") times) text.now }
+        ensures { option_map unit_cell result ≡ found (named (codes "sd") units) text.now }
     {
         match text {
             "second" | "Second" | "seconds" | "Seconds" | "s" => Some(Unit::Second),
@@ -94,7 +93,6 @@ impl Unit {
         }
     }
 
-    #[tactic(auto, unfolding(crate::specs::Units::times))]
     fn millisecond_or_microsecond(text: &str) -> Option<Unit>
         ensures { option_map unit_cell result ≡ found (named (codes "m") (take 3 times)) text.now }
     {
@@ -109,9 +107,8 @@ impl Unit {
         }
     }
 
-    #[tactic(auto, unfolding(crate::specs::Units::times, crate::specs::Units::shares))]
     fn hour_or_ratio(text: &str) -> Option<Unit>
-        ensures { option_map unit_cell result ≡ found (named (codes "hr") (times ++ shares)) text.now }
+        ensures { option_map unit_cell result ≡ found (named (codes "hr") units) text.now }
     {
         match text {
             "hour" | "Hour" | "hours" | "Hours" | "h" => Some(Unit::Hour),
@@ -120,9 +117,8 @@ impl Unit {
         }
     }
 
-    #[tactic(auto, unfolding(crate::specs::Units::sizes))]
     fn bit_or_byte(text: &str) -> Option<Unit>
-        ensures { option_map unit_cell result ≡ found (named (codes "b") sizes) text.now }
+        ensures { option_map unit_cell result ≡ found (named (codes "b") units) text.now }
     {
         match text {
             "byte" | "Byte" | "bytes" | "Bytes" | "B" => Some(Unit::Byte),
@@ -131,9 +127,8 @@ impl Unit {
         }
     }
 
-    #[tactic(auto, unfolding(crate::specs::Units::times, crate::specs::Units::sizes, crate::specs::Units::binary_sizes))]
     fn minute_or_m_size(text: &str) -> Option<Unit>
-        ensures { option_map unit_cell result ≡ found (named (codes "m") (drop 4 times ++ (sizes ++ binary_sizes))) text.now }
+        ensures { option_map unit_cell result ≡ found (named (codes "m") (drop 4 units)) text.now }
     {
         match text {
             "minute" | "Minute" | "minutes" | "Minutes" | "min" => Some(Unit::Minute),
@@ -143,9 +138,8 @@ impl Unit {
         }
     }
 
-    #[tactic(auto, unfolding(crate::specs::Units::sizes, crate::specs::Units::binary_sizes))]
     fn k_size(text: &str) -> Option<Unit>
-        ensures { option_map unit_cell result ≡ found (named (codes "k") (sizes ++ binary_sizes)) text.now }
+        ensures { option_map unit_cell result ≡ found (named (codes "k") units) text.now }
     {
         match text {
             "kilobyte" | "Kilobyte" | "kilobytes" | "Kilobytes" | "kB" => Some(Unit::Kilobyte),
@@ -154,9 +148,8 @@ impl Unit {
         }
     }
 
-    #[tactic(auto, unfolding(crate::specs::Units::sizes, crate::specs::Units::binary_sizes))]
     fn g_size(text: &str) -> Option<Unit>
-        ensures { option_map unit_cell result ≡ found (named (codes "g") (sizes ++ binary_sizes)) text.now }
+        ensures { option_map unit_cell result ≡ found (named (codes "g") units) text.now }
     {
         match text {
             "gigabyte" | "Gigabyte" | "gigabytes" | "Gigabytes" | "GB" => Some(Unit::Gigabyte),
@@ -165,9 +158,8 @@ impl Unit {
         }
     }
 
-    #[tactic(auto, unfolding(crate::specs::Units::sizes, crate::specs::Units::binary_sizes))]
     fn t_size(text: &str) -> Option<Unit>
-        ensures { option_map unit_cell result ≡ found (named (codes "t") (sizes ++ binary_sizes)) text.now }
+        ensures { option_map unit_cell result ≡ found (named (codes "t") units) text.now }
     {
         match text {
             "terabyte" | "Terabyte" | "terabytes" | "Terabytes" | "TB" => Some(Unit::Terabyte),
@@ -176,9 +168,8 @@ impl Unit {
         }
     }
 
-    #[tactic(auto, unfolding(crate::specs::Units::sizes, crate::specs::Units::binary_sizes))]
     fn e_size(text: &str) -> Option<Unit>
-        ensures { option_map unit_cell result ≡ found (named (codes "e") (sizes ++ binary_sizes)) text.now }
+        ensures { option_map unit_cell result ≡ found (named (codes "e") units) text.now }
     {
         match text {
             "exabyte" | "Exabyte" | "exabytes" | "Exabytes" | "EB" => Some(Unit::Exabyte),
@@ -187,9 +178,8 @@ impl Unit {
         }
     }
 
-    #[tactic(auto, unfolding(crate::specs::Units::sizes, crate::specs::Units::binary_sizes, crate::specs::Units::shares))]
     fn percent_or_p_size(text: &str) -> Option<Unit>
-        ensures { option_map unit_cell result ≡ found (named (codes "p") (sizes ++ (binary_sizes ++ shares))) text.now }
+        ensures { option_map unit_cell result ≡ found (named (codes "p") units) text.now }
     {
         match text {
             "percent" | "Percent" | "%" => Some(Unit::Percent),
@@ -198,7 +188,9 @@ impl Unit {
             _ => None,
         }
     }
+}
 
+impl Unit {
     // chosen by the first byte, so that few spellings are compared
     fn known(text: &str) -> Option<Unit>
         ensures { option_map unit_cell result ≡ found units text.now }
