@@ -57,13 +57,13 @@ abbrev pub AreAlike : List Row → List ℕ → List ℕ → Type 0
 AreAlike rows [] rest = ⊤
 AreAlike rows (b ∷ bs) rest = (found rows (b ∷ rest) ≡ found units (b ∷ rest)) × AreAlike rows bs rest
 
-one_of : (rows : List Row) (x b : ℕ) (rest bs : List ℕ) (t : Bool) → nat_eq x b ≡ t → found rows (b ∷ rest) ≡ found units (b ∷ rest) → ((x ≡ b → ⊥) → found rows (x ∷ rest) ≡ found units (x ∷ rest)) → found rows (x ∷ rest) ≡ found units (x ∷ rest)
-one_of rows x b rest bs true is h more = subst (λ n. found rows (n ∷ rest) ≡ found units (n ∷ rest)) (sym (eqb-true x b is)) h
-one_of rows x b rest bs false not h more = more (λ same. true≢false (sym (eq-eqb x b same) ∙ not))
+one_of : (rows : List Row) (x b : ℕ) (rest : List ℕ) (t : Bool) → nat_eq x b ≡ t → found rows (b ∷ rest) ≡ found units (b ∷ rest) → ((x ≡ b → ⊥) → found rows (x ∷ rest) ≡ found units (x ∷ rest)) → found rows (x ∷ rest) ≡ found units (x ∷ rest)
+one_of rows x b rest true is h more = subst (λ n. found rows (n ∷ rest) ≡ found units (n ∷ rest)) (sym (eqb-true x b is)) h
+one_of rows x b rest false not h more = more (λ same. true≢false (sym (eq-eqb x b same) ∙ not))
 
 alike_after : (rows : List Row) (x : ℕ) (rest bs : List ℕ) → Among bs x → AreAlike rows bs rest → found rows (x ∷ rest) ≡ found units (x ∷ rest)
 alike_after rows x rest [] among h = absurd among
-alike_after rows x rest (b ∷ bs) among h = one_of rows x b rest bs (nat_eq x b) refl h.0 (λ not. alike_after rows x rest bs (among not) h.1)
+alike_after rows x rest (b ∷ bs) among h = one_of rows x b rest (nat_eq x b) refl h.0 (λ not. alike_after rows x rest bs (among not) h.1)
 
 pub alike : (rows : List Row) (bs : List ℕ) (x : ℕ) (bytes word : List ℕ) → Among bs x → ((rest : List ℕ) → AreAlike rows bs rest) → Some x ≡ slice_get bytes 0 → bytes ≡ word → found rows word ≡ found units word
 alike rows bs x [] word among h first is = absurd cc

@@ -71,6 +71,7 @@ pub enum Unit {
 
 #[tactic(auto, unfolding(crate::specs::Units::times, crate::specs::Units::sizes, crate::specs::Units::binary_sizes, crate::specs::Units::shares))]
 impl Unit {
+    // each reads the units whose names begin with a letter or two
     fn nanosecond_or_week(text: &str) -> Option<Unit>
         ensures { option_map unit_cell result ≡ found (named (codes "nw") units) text.now }
     {

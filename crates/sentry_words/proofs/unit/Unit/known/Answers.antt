@@ -1,4 +1,4 @@
-use Rattle.std.proofs.Common.{◌≡◌, codes, ℕ, List, [], ◌∷◌, ◌++◌, drop, take, refl, sym, ◌∙◌, arith}
+use Rattle.std.proofs.Common.{codes, ◌∷◌, ◌++◌, drop, take, refl, sym, ◌∙◌, arith}
 use Rattle.sentry_words.specs.Units.{named, units, times, sizes, binary_sizes, shares}
 use Rattle.sentry_words.proofs.UnitLaws.{alike, unknown, unknown_empty, found-append_some, found-append_none}
 use Rattle.sentry_words.proofs.unit.Unit.known.Goals as goal
