@@ -37,13 +37,13 @@ returns c =
     let seen = number_seen at (option_map (λ s. s.now) c.as_number.result) c.args.node.now.tame c.as_number.ensures in
     let made : view Null ≡ null = search (rules, the_lemmas) in
     elim c.match-as_number.branch [
-      in-Some-as_number+in_default-parse_unsigned+in_default-parse_signed w ↦ (
-        let read : number_of w.in-Some-as_number.text.now ≡ as_number d = ap (λ r. option_and_then number_of (option_map (λ s. s.now) r)) (sym w.in-Some-as_number.is) ∙ seen in
-        made ∙ only_null d c.requires.no_array c.requires.no_object text truth
-            (sym w.in_default-parse_unsigned.is ∙ w.parse_unsigned.ensures ∙ ap (option_and_then as_u64) read)
-            (sym w.in_default-parse_signed.is ∙ w.parse_signed.ensures ∙ ap (option_and_then as_i64) read)
-            (no_float at c.args.node.now.tame))
+      | in-Some-as_number+in_default-parse_unsigned+in_default-parse_signed w ↦ (
+          let read : number_of w.in-Some-as_number.text.now ≡ as_number d = ap (λ r. option_and_then number_of (option_map (λ s. s.now) r)) (sym w.in-Some-as_number.is) ∙ seen in
+          made ∙ only_null d c.requires.no_array c.requires.no_object text truth
+          (sym w.in_default-parse_unsigned.is ∙ w.parse_unsigned.ensures ∙ ap (option_and_then as_u64) read)
+          (sym w.in_default-parse_signed.is ∙ w.parse_signed.ensures ∙ ap (option_and_then as_i64) read)
+          (no_float at c.args.node.now.tame))
       | in_default-as_number w ↦ (
-        let read : None ≡ as_number d = ap (λ r. option_and_then number_of (option_map (λ s. s.now) r)) (sym w.in_default-as_number.is) ∙ seen in
-        made ∙ only_null d c.requires.no_array c.requires.no_object text truth (ap (option_and_then as_u64) read) (ap (option_and_then as_i64) read) (no_float at c.args.node.now.tame))
+          let read : None ≡ as_number d = ap (λ r. option_and_then number_of (option_map (λ s. s.now) r)) (sym w.in_default-as_number.is) ∙ seen in
+          made ∙ only_null d c.requires.no_array c.requires.no_object text truth (ap (option_and_then as_u64) read) (ap (option_and_then as_i64) read) (no_float at c.args.node.now.tame))
     ]
