@@ -1,6 +1,7 @@
 -- Keys among others, and the members of other keys.
 use Rattle.std.proofs.Common.{◌≡◌, ℕ, zero, suc, ◌<◌, List, [], ◌∷◌, length, get_or, map, bytes_eq, Bor, refl, sym, ap, ◌∙◌, Bool, true, false, cond, ◌||◌, arith, true≢false, Ordering, Less, Equal, Greater, nat_cmp}
 use Rattle.std.proofs.lemmas.Map.Text.{is_eq-slice_cmp}
+use Rattle.std.proofs.lemmas.Bool.{false_from_ne_true}
 use Rattle.std.proofs.lemmas.Slice.Eq.{bytes_eq-Decides}
 use Rattle.std.specs.Ordering.{match_ordering, is_eq}
 use Rattle.std.specs.Cmp.Lexicographic.{slice_cmp}
@@ -15,6 +16,10 @@ pub stands_at : (key : List ℕ) (names : List (Bor (List ℕ))) (i : ℕ) (name
 stands_at key [] i name lt same = absurd (omega arith)
 stands_at key (n ∷ names) zero name lt same = (bytes_eq-Decides key n.now).0 same
 stands_at key (n ∷ names) (suc i) name lt same = stands_at key names i name (omega arith) same
+
+-- texts of different lengths differ
+pub apart : (key other : List ℕ) → ¬ (length key ≡ length other) → bytes_eq key other ≡ false
+apart key other differ = false_from_ne_true (bytes_eq key other) (λ same. differ (ap length ((bytes_eq-Decides key other).0 same)))
 
 pub not_at : (key : List ℕ) (names : List (Bor (List ℕ))) (i : ℕ) (name : Bor (List ℕ)) → i < length names → bytes_eq key (get_or names i name).now ≡ false → StandsAt key i (map (λ n. n.now) names) → ⊥
 not_at key [] i name lt other at = absurd (omega arith)

@@ -1,7 +1,17 @@
 //! Lookup of a key in a list of keys.
 
 ghost use Rattle.std.specs.Prelude.{◌≡◌, ◌<◌, ◌≤◌, ℕ, IfSome, IfNone, false, map, length};
+ghost use Rattle.std.specs.Str.{bytes_eq};
 ghost use Rattle.sentry_json.specs.Keys.{is_among as among, StandsAt};
+
+// Returns whether two keys are equal. Most that differ have another length, which is compared first.
+#[inline(always)]
+#[tactic(auto, using(crate::proofs::Beside::apart))]
+pub(crate) fn is_same(key: &str, other: &str) -> bool
+    ensures { result ≡ bytes_eq key.now other.now }
+{
+    key.len() == other.len() && key == other
+}
 
 fn place_in(keys: &[&str], from: usize, to: usize, key: &str) -> Option<usize>
     requires { to ≤ length keys.now }
@@ -10,7 +20,7 @@ fn place_in(keys: &[&str], from: usize, to: usize, key: &str) -> Option<usize>
         → ¬ StandsAt key.now i (map (λ k. k.now) keys.now)) }
 {
     for i in from..to {
-        if key == keys[i] {
+        if is_same(key, keys[i]) {
             return Some(i);
         }
     }

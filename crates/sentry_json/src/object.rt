@@ -6,7 +6,7 @@ ghost use Rattle.serde_json.specs.View.{members_view};
 ghost use Rattle.sentry_json.specs.Keys.{beside};
 ghost use Rattle.sentry_json.specs.Nodes.{named_by, tree_of};
 
-use crate::keys::is_among;
+use crate::keys::{is_among, is_same};
 use crate::node::Node;
 use serde_json::{Map, Value};
 use std::alloc::{AllocError, Global};
@@ -52,7 +52,7 @@ impl<'n, N: Node> Object<'n, N> {
         while left > 0 {
             left -= 1;
             let member = &self.members[left];
-            if member.key == key {
+            if is_same(member.key, key) {
                 return Some(&member.node);
             }
         }

@@ -13,16 +13,16 @@ loop-left-init g c =
 pub index-member-requires : goal.index-member-requires
 index-member-requires g c = omega (arith, c.loop-left.invariant.0)
 
-pub returns-then-eq : goal.returns-then-eq
-returns-then-eq g c =
+pub returns-then-is_same : goal.returns-then-is_same
+returns-then-is_same g c =
     let ms = c.args.self.now.members.items in
-    let here = named_here g.N.Node.data_of ms c.loop-left.left c.index-member.result.now c.args.key.now (omega arith) c.loop-left.invariant.0 c.index-member.ensures (sym c.eq.ensures ∙ c.if-eq.true) in
+    let here = named_here g.N.Node.data_of ms c.loop-left.left c.index-member.result.now c.args.key.now (omega arith) c.loop-left.invariant.0 c.index-member.ensures (sym c.is_same.ensures ∙ c.if-is_same.true) in
     sym here ∙ c.loop-left.invariant.1
 
 pub loop-left-preserved : goal.loop-left-preserved
 loop-left-preserved g c =
     let ms = c.args.self.now.members.items in
-    let there = named_there g.N.Node.data_of ms c.loop-left.left c.index-member.result.now c.args.key.now (omega arith) c.loop-left.invariant.0 c.index-member.ensures (sym c.eq.ensures ∙ c.if-eq.false) in
+    let there = named_there g.N.Node.data_of ms c.loop-left.left c.index-member.result.now c.args.key.now (omega arith) c.loop-left.invariant.0 c.index-member.ensures (sym c.is_same.ensures ∙ c.if-is_same.false) in
     (omega (arith, c.loop-left.invariant.0), sym there ∙ c.loop-left.invariant.1)
 
 pub returns : goal.returns
