@@ -1,12 +1,12 @@
 -- Flat objects are read as they are written.
-use Rattle.std.proofs.Common.{◌≡◌, ◌≤◌, ◌<◌, ◌^◌, ℕ, zero, suc, List, [], ◌∷◌, ◌++◌, length, get_or, take, drop, IsUtf8, Bool, ◌==◌, eqb-true, true, false, Some, option_map, option_and_then, refl, sym, ap, ◌∙◌, arith, append-nil, append_assoc}
+use Rattle.std.proofs.Common.{◌≡◌, ◌≤◌, ◌<◌, ◌^◌, ◌+◌, ℕ, zero, suc, List, [], ◌∷◌, ◌++◌, length, get_or, take, drop, IsUtf8, ◌==◌, true, false, Some, option_map, option_and_then, refl, sym, ap, ◌∙◌, arith, append-nil, append_assoc}
 use Rattle.std.specs.List.{All}
-use Rattle.std.proofs.lemmas.List.{nil_from_length, take-append-drop, drop_at}
+use Rattle.std.proofs.lemmas.List.{take-append-drop, drop_at}
 use Rattle.std.specs.Str.Parse.{IsNumeral, digits_value}
 use Rattle.std.specs.Prelude.{decimal}
 use Rattle.std.proofs.lemmas.Fmt.{decimal-digits_value}
 use Rattle.std.proofs.lemmas.Str.Parse.{numerals_by_value, tells_digits}
-use Rattle.std.proofs.lemmas.List.Elements.{All-head, All-tail, All-rest, All-same, All-drop}
+use Rattle.std.proofs.lemmas.List.Elements.{All-head, All-tail, All-same, All-drop}
 use Rattle.memchr.specs.Find.{Nowhere, Passes, is_byte}
 use Rattle.json.specs.Json as json
 use Rattle.json.specs.Tree as tree
@@ -28,61 +28,34 @@ use Rattle.sentry_framing.specs.FlatObjects.{IsSimple, IsFlat, AreFlat, put_all}
 
 -- ---- flat values
 
-flat_read : (d : Data) → IsFlat d → of_json (outline d) ≡ Some d
-flat_read null h = refl
-flat_read (boolean b) h = refl
-flat_read (number (unsigned n)) h = ap (option_map number) (number_of-decimal n h)
-flat_read (number (negative z)) h = absurd h
-flat_read (number (float x)) h = absurd h
-flat_read (string s) h = refl
-flat_read (array ds) h = absurd h
-flat_read (object ms) h = absurd h
-
-flat_number : (d : Data) → IsFlat d → tree.HasNumbers (outline d)
-flat_number null h = tt
-flat_number (boolean b) h = tt
-flat_number (number (unsigned n)) h = IsNumber-decimal n h
-flat_number (number (negative z)) h = absurd h
-flat_number (number (float x)) h = absurd h
-flat_number (string s) h = tt
-flat_number (array ds) h = absurd h
-flat_number (object ms) h = absurd h
-
-flat_depth : (d : Data) → IsFlat d → tree.depth (outline d) ≡ 0
-flat_depth null h = refl
-flat_depth (boolean b) h = refl
-flat_depth (number n) h = refl
-flat_depth (string s) h = refl
-flat_depth (array ds) h = absurd h
-flat_depth (object ms) h = absurd h
-
-flat_whole : (d : Data) → IsFlat d → has_float d ≡ false
-flat_whole null h = refl
-flat_whole (boolean b) h = refl
-flat_whole (number (unsigned n)) h = refl
-flat_whole (number (negative z)) h = absurd h
-flat_whole (number (float x)) h = absurd h
-flat_whole (string s) h = refl
-flat_whole (array ds) h = absurd h
-flat_whole (object ms) h = absurd h
+-- it is read from its text, and holds no nesting and no float
+flat_value : (d : Data) → IsFlat d → (of_json (outline d) ≡ Some d) × tree.HasNumbers (outline d) × (tree.depth (outline d) ≡ 0) × (has_float d ≡ false)
+flat_value null h = (refl, tt, refl, refl)
+flat_value (boolean b) h = (refl, tt, refl, refl)
+flat_value (number (unsigned n)) h = (ap (option_map number) (number_of-decimal n h), IsNumber-decimal n h, refl, refl)
+flat_value (number (negative z)) h = absurd h
+flat_value (number (float x)) h = absurd h
+flat_value (string s) h = (refl, tt, refl, refl)
+flat_value (array ds) h = absurd h
+flat_value (object ms) h = absurd h
 
 -- ---- flat members
 
 all_read : (ms before : Members) → AreFlat ms → of_members (members_outline ms) before ≡ Some (put_all ms before)
 all_read no_members before h = refl
-all_read (member k d ms) before h = rw (flat_read d h.0) (all_read ms (put k d before) h.1)
+all_read (member k d ms) before h = rw ((flat_value d h.0).0) (all_read ms (put k d before) h.1)
 
 all_numbers : (ms : Members) → AreFlat ms → tree.MembersHaveNumbers (members_outline ms)
 all_numbers no_members h = tt
-all_numbers (member k d ms) h = (flat_number d h.0, all_numbers ms h.1)
+all_numbers (member k d ms) h = ((flat_value d h.0).1, all_numbers ms h.1)
 
 all_depth : (ms : Members) → AreFlat ms → tree.members_depth (members_outline ms) ≡ 0
 all_depth no_members h = refl
-all_depth (member k d ms) h = rw (flat_depth d h.0, all_depth ms h.1) refl
+all_depth (member k d ms) h = rw ((flat_value d h.0).2, all_depth ms h.1) refl
 
 all_whole : (ms before : Members) → AreFlat ms → members_have_float before ≡ false → members_have_float (put_all ms before) ≡ false
 all_whole no_members before h b = b
-all_whole (member k d ms) before h b = all_whole ms (put k d before) h.1 (put_no_float k d before (flat_whole d h.0) b)
+all_whole (member k d ms) before h b = all_whole ms (put k d before) h.1 (put_no_float k d before (flat_value d h.0).3 b)
 
 -- ---- flat objects
 
@@ -120,10 +93,10 @@ byte_split text more rest first byte is same cut = is ∙ ap (λ b. b ∷ more) 
 pub parted : (xs front back : List ℕ) (n : ℕ) → front ≡ take n xs → back ≡ drop n xs → xs ≡ front ++ back
 parted xs front back n is rest = sym (take-append-drop n xs) ∙ sym (ap (λ f. f ++ drop n xs) is) ∙ ap (λ r. front ++ r) (sym rest)
 
-pub text_split : (bytes inside after text rest : List ℕ) (n : ℕ) → bytes ≡ 34 ∷ inside → text ≡ take n inside → after ≡ drop n inside → after ≡ 34 ∷ rest → All IsSimple bytes → n ≤ length inside → Nowhere (Passes (is_byte 34) inside) 0 n → bytes ≡ quoted text ++ rest
-text_split bytes inside after text rest n first same cut last simple within none =
-    let kept : escape text ≡ text = ap escape same ∙ plain_text inside n (All-rest IsSimple 34 inside bytes first simple) within none ∙ sym same in
-    first ∙ ap (λ s. 34 ∷ s) (parted inside text after n same cut ∙ ap (λ s. text ++ s) last) ∙ rw kept (ap (λ s. 34 ∷ s) (sym (append_assoc text (34 ∷ []) rest)))
+pub text_split : (inside after text rest : List ℕ) (n : ℕ) → text ≡ take n inside → after ≡ drop n inside → length after + n ≡ length inside → after ≡ 34 ∷ rest → All IsSimple (34 ∷ inside) → Nowhere (Passes (is_byte 34) inside) 0 n → 34 ∷ inside ≡ quoted text ++ rest
+text_split inside after text rest n same cut both last simple none =
+    let kept : escape text ≡ text = ap escape same ∙ plain_text inside n (All-tail IsSimple 34 inside simple) (omega (arith, both)) none ∙ sym same in
+    ap (λ s. 34 ∷ s) (parted inside text after n same cut ∙ ap (λ s. text ++ s) last) ∙ rw kept (ap (λ s. 34 ∷ s) (sym (append_assoc text (34 ∷ []) rest)))
 
 pub number_split : (bytes digits rest : List ℕ) (n : ℕ) → bytes ≡ digits ++ rest → IsNumeral 10 digits → n ≡ digits_value 10 digits → digits_value 10 digits < 2 ^ 64 → (get_or digits 0 0 ≡ 48 → length digits ≡ 1) → bytes ≡ decimal n ++ rest
 number_split bytes digits rest n parts numeral is fits lead =
@@ -138,6 +111,3 @@ member_text bytes key rest d ms is more = ap (λ s. 44 ∷ s) (is ∙ ap (λ r. 
 pub object_text : (bytes inside : List ℕ) (ms : Members) → bytes ≡ 123 ∷ inside → 44 ∷ inside ≡ members_text true ms → bytes ≡ compact_text (object ms)
 object_text bytes inside no_members is more = absurd (omega (arith, ap (λ xs. get_or xs 0 0) more))
 object_text bytes inside (member k d ms) is more = is ∙ ap (λ s. 123 ∷ s) (ap (drop 1) more)
-
-pub nothing_left : (xs : List ℕ) (empty : Bool) → empty ≡ (length xs == 0) → empty ≡ true → xs ≡ []
-nothing_left xs empty is h = nil_from_length xs (eqb-true (length xs) 0 (sym is ∙ h))

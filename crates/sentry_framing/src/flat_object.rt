@@ -1,7 +1,7 @@
 //! Flat objects: JSON objects without white space and escapes, whose values are null, booleans,
 //! whole numbers and strings. They need no tape.
 
-ghost use Rattle.std.specs.Prelude.{◌≡◌, ◌++◌, ◌∷◌, ◌≤◌, Some, ℕ, IfSome, IsTrue, true, length, All};
+ghost use Rattle.std.specs.Prelude.{◌≡◌, ◌++◌, ◌∷◌, ◌≤◌, Some, IfSome, IsTrue, true, length, All};
 ghost use Rattle.serde_json.specs.Data.{Members, boolean, no_members, object};
 ghost use Rattle.serde_json.specs.Written.{compact_text, members_text};
 ghost use Rattle.json.specs.Print.{quoted};
@@ -124,10 +124,7 @@ fn take_members<'a>(text: &'a str, most: usize, members: &mut ArrayVec<FlatMembe
     if let Some(after) = after_byte(rest, b',') {
         return most > 0 && take_members(after, most - 1, members);
     }
-    match after_byte(rest, b'}') {
-        Some(after) => after.is_empty(),
-        None => false,
-    }
+    rest == "}"
 }
 
 // Splits off a member.
@@ -137,7 +134,8 @@ fn split_member(text: &str) -> Option<(FlatMember<'_>, &str)>
         ≡ quoted x.0.key.now ++ (58 ∷ (compact_text (value_data x.0.value) ++ x.1.now))) }
     ensures flat { IfSome result (λ x. IsFlat (value_data x.0.value)) }
 {
-    let (key, after) = split_key(text)?;
+    let inside = after_byte(text, b'"')?;
+    let (key, after) = split_text(inside, key_len(inside.as_bytes()))?;
     let (value, rest) = split_value(after_byte(after, b':')?)?;
     Some((FlatMember { key, value }, rest))
 }
@@ -150,7 +148,8 @@ fn split_value(text: &str) -> Option<(FlatValue<'_>, &str)>
 {
     match text.as_bytes().first()? {
         b'"' => {
-            let (text, rest) = split_text(text)?;
+            let inside = after_byte(text, b'"')?;
+            let (text, rest) = split_text(inside, memchr(b'"', inside.as_bytes())?)?;
             Some((FlatValue::Text(text), rest))
         }
         b'n' => Some((FlatValue::Null, after_word(text, "null")?)),
@@ -185,8 +184,7 @@ fn after_word<'a>(text: &'a str, word: &str) -> Option<&'a str>
 
 // Counts the bytes before the first quote, one by one: keys are too short for `memchr` to be faster.
 fn key_len(bytes: &[u8]) -> usize
-    ensures within { result ≤ length bytes.now }
-    ensures none { Nowhere (Passes (is_byte 34) bytes.now) 0 result }
+    ensures { Nowhere (Passes (is_byte 34) bytes.now) 0 result }
 {
     let mut len = 0;
     while len < bytes.len() && bytes[len] != b'"' {
@@ -195,23 +193,14 @@ fn key_len(bytes: &[u8]) -> usize
     len
 }
 
-// Splits off a key in quotes.
-fn split_key(text: &str) -> Option<(&str, &str)>
-    requires { All IsSimple text.now }
-    ensures { IfSome result (λ x. text.now ≡ quoted x.0.now ++ x.1.now) }
+// Splits off a text behind its opening quote: `len` bytes, none of them a quote, and the closing one.
+#[tactic(auto, using(crate::proofs::FlatObjects::text_split))]
+fn split_text(inside: &str, len: usize) -> Option<(&str, &str)>
+    requires simple { All IsSimple (34 ∷ inside.now) }
+    requires none { Nowhere (Passes (is_byte 34) inside.now) 0 len }
+    ensures { IfSome result (λ x. 34 ∷ inside.now ≡ quoted x.0.now ++ x.1.now) }
 {
-    let inside = after_byte(text, b'"')?;
-    let (key, after) = inside.split_at_checked(key_len(inside.as_bytes()))?;
-    Some((key, after_byte(after, b'"')?))
-}
-
-// Splits off a string in quotes.
-fn split_text(text: &str) -> Option<(&str, &str)>
-    requires { All IsSimple text.now }
-    ensures { IfSome result (λ x. text.now ≡ quoted x.0.now ++ x.1.now) }
-{
-    let inside = after_byte(text, b'"')?;
-    let (text, after) = inside.split_at_checked(memchr(b'"', inside.as_bytes())?)?;
+    let (text, after) = inside.split_at_checked(len)?;
     Some((text, after_byte(after, b'"')?))
 }
 
@@ -220,10 +209,7 @@ fn digits_len(bytes: &[u8]) -> usize
     ensures within { result ≤ length bytes.now }
 {
     let mut len = 0;
-    while len < bytes.len() {
-        if !bytes[len].is_ascii_digit() {
-            break;
-        }
+    while len < bytes.len() && bytes[len].is_ascii_digit() {
         len += 1;
     }
     len

@@ -13,7 +13,6 @@ use crate::flat_node::FlatNode;
 use crate::flat_object::FlatObject;
 use crate::kind::ItemKind;
 use crate::lazy_scratch::LazyScratch;
-use json::Scratch;
 use sentry_json::{Branch, Line, LineError, Node};
 use sentry_members::{TreeError, read_tree};
 use std::alloc::Global;
@@ -63,13 +62,9 @@ fn kind<N: Node>(place: &Option<N>) -> Result<ItemKind, TreeError>
     ensures misfit { IfErr result (λ e. (e ≡ TreeError.Misfit)
         × (kind_of item_words (option_map N.data_of place.now) ≡ None)) }
 {
-    match place {
-        None => Err(TreeError::Misfit),
-        Some(node) => match node.as_str() {
-            Some(word) => ItemKind::from_word(word).ok_or(TreeError::Misfit),
-            None => Err(TreeError::Misfit),
-        },
-    }
+    let node = place.as_ref().ok_or(TreeError::Misfit)?;
+    let word = node.as_str().ok_or(TreeError::Misfit)?;
+    ItemKind::from_word(word).ok_or(TreeError::Misfit)
 }
 
 // `None` if the member is absent or null.
@@ -97,10 +92,7 @@ fn optional_text<N: Node>(alloc: Global, place: &Option<N>) -> Result<Option<Str
         None => Ok(None),
         Some(node) if node.is_null() => Ok(None),
         Some(node) => match node.as_str() {
-            Some(text) => match String::from_str(alloc, text) {
-                Ok(text) => Ok(Some(text)),
-                Err(_) => Err(TreeError::Memory),
-            },
+            Some(text) => Ok(Some(String::from_str(alloc, text)?)),
             None => Err(TreeError::Misfit),
         },
     }
@@ -153,18 +145,34 @@ fn fill_from_branch<'t, 'a>(
     fill_header(alloc, root, &mut places, fields)
 }
 
+fn fill_from_object(
+    alloc: Global,
+    object: &FlatObject<'_>,
+    fields: &mut ItemHeader,
+) -> Result<(), TreeError>
+    ensures ok { OnOk result (header_of item_words (object_data object.now) ≡
+        Some (header_view fields.new)) }
+    ensures misfit { result ≡ Err TreeError.Misfit →
+        header_of item_words (object_data object.now) ≡ None }
+{
+    let mut places = [None, None, None, None, None];
+    fill_header(alloc, &FlatNode::Object(object), &mut places, fields)
+}
+
 // Reads the line by a tape, and by a tree of values if a tape can't hold the line.
+#[cold]
+#[inline(never)]
 #[tactic(auto, unfolding(crate::specs::ItemHeader::read_header))]
 fn fill_from_line(
     alloc: Global,
     line: &[u8],
-    scratch: &mut Scratch,
+    scratch: &mut LazyScratch,
     fields: &mut ItemHeader,
 ) -> Result<(), TreeError>
     ensures ok { OnOk result (read_header item_words line.now ≡ Some (header_view fields.new)) }
     ensures misfit { result ≡ Err TreeError.Misfit → read_header item_words line.now ≡ None }
 {
-    match Line::parse(line, scratch, Vec::new(alloc)) {
+    match Line::parse(line, scratch.get()?, Vec::new(alloc)) {
         Ok(read) => {
             let root = read.root();
             fill_from_branch(alloc, &root, fields)
@@ -204,30 +212,8 @@ pub fn read_item_header(alloc: Global, header: &[u8]) -> Result<ItemHeader, Enve
         ⊎ ((e ≡ EnvelopeError.InvalidItemHeader) × (read_header item_words header.now ≡ None))) }
 {
     let mut fields = ItemHeader::new();
-    match read_fields(alloc, header, &mut LazyScratch::new(alloc), &mut fields) {
-        Ok(()) => Ok(fields),
-        Err(error) => Err(error),
-    }
-}
-
-// Parses an item header that is a flat object.
-fn read_object(
-    alloc: Global,
-    object: &FlatObject<'_>,
-    fields: &mut ItemHeader,
-) -> Result<(), EnvelopeError>
-    ensures ok { OnOk result (header_of item_words (object_data object.now) ≡
-        Some (header_view fields.new)) }
-    ensures err { IfErr result (λ e. (e ≡ EnvelopeError.OutOfMemory)
-        ⊎ ((e ≡ EnvelopeError.InvalidItemHeader)
-        × (header_of item_words (object_data object.now) ≡ None))) }
-{
-    let mut places = [None, None, None, None, None];
-    match fill_header(alloc, &FlatNode::Object(object), &mut places, fields) {
-        Ok(()) => Ok(()),
-        Err(TreeError::Misfit) => Err(EnvelopeError::InvalidItemHeader),
-        Err(TreeError::Memory) => Err(EnvelopeError::OutOfMemory),
-    }
+    read_fields(alloc, header, &mut LazyScratch::new(alloc), &mut fields)?;
+    Ok(fields)
 }
 
 // Parses an item header into `fields`; some may be set after an error.
@@ -243,30 +229,12 @@ pub(crate) fn read_fields(
         ⊎ ((e ≡ EnvelopeError.InvalidItemHeader) × (read_header item_words header.now ≡ None))) }
 {
     let mut object = FlatObject::new();
-    if object.read(header) {
-        read_object(alloc, &object, fields)
+    let filled = if object.read(header) {
+        fill_from_object(alloc, &object, fields)
     } else {
-        read_general(alloc, header, scratch, fields)
-    }
-}
-
-// Parses any item header.
-#[cold]
-#[inline(never)]
-fn read_general(
-    alloc: Global,
-    header: &[u8],
-    scratch: &mut LazyScratch,
-    fields: &mut ItemHeader,
-) -> Result<(), EnvelopeError>
-    ensures ok { OnOk result (read_header item_words header.now ≡ Some (header_view fields.new)) }
-    ensures err { IfErr result (λ e. (e ≡ EnvelopeError.OutOfMemory)
-        ⊎ ((e ≡ EnvelopeError.InvalidItemHeader) × (read_header item_words header.now ≡ None))) }
-{
-    let Ok(scratch) = scratch.get() else {
-        return Err(EnvelopeError::OutOfMemory);
+        fill_from_line(alloc, header, scratch, fields)
     };
-    match fill_from_line(alloc, header, scratch, fields) {
+    match filled {
         Ok(()) => Ok(()),
         Err(TreeError::Misfit) => Err(EnvelopeError::InvalidItemHeader),
         Err(TreeError::Memory) => Err(EnvelopeError::OutOfMemory),

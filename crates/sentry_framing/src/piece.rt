@@ -12,10 +12,7 @@ pub fn piece_len(bytes: &[u8]) -> Option<usize>
     ensures none { IfNone result ((piece rest : List ℕ) → IsBalanced piece →
         bytes.now ≡ piece ++ rest → ⊥) }
 {
-    match flat_len(bytes) {
-        Some(len) => Some(len),
-        None => nested_len(bytes),
-    }
+    flat_len(bytes).or_else(|| nested_len(bytes))
 }
 
 // A fast path for pieces without braces and backslashes inside; `None` for all others, even if
@@ -27,9 +24,7 @@ fn flat_len(bytes: &[u8]) -> Option<usize>
     let Some((b'{', inside)) = bytes.split_first() else {
         return None;
     };
-    let Some(end) = memchr3(b'{', b'}', b'\\', inside) else {
-        return None;
-    };
+    let end = memchr3(b'{', b'}', b'\\', inside)?;
     if inside[end] == b'}' && has_even_quotes(&inside[..end]) {
         Some(end + 2)
     } else {
@@ -63,10 +58,7 @@ fn nested_len(bytes: &[u8]) -> Option<usize>
     let mut i = 0usize;
     while i < inside.len() {
         match inside[i] {
-            b'"' => match string_len(&inside[i + 1..]) {
-                Some(len) => i += len + 1,
-                None => return None,
-            },
+            b'"' => i += string_len(&inside[i + 1..])? + 1,
             b'{' => {
                 depth += 1;
                 i += 1;

@@ -1,11 +1,12 @@
-use Rattle.std.proofs.Common.{◌≡◌, ◌∷◌, [], ap, ◌∙◌, arith}
+use Rattle.std.proofs.Common.{◌≡◌, ◌∷◌, [], ap, sym, ◌∙◌, arith}
 use Rattle.std.proofs.lemmas.List.Elements.{All-rest}
+use Rattle.std.proofs.lemmas.Slice.Eq.{bytes_eq-Decides}
 use Rattle.serde_json.specs.Data.{no_members, member}
 use Rattle.serde_json.specs.Written.{compact_text}
 use Rattle.sentry_framing.specs.FlatObjects.{IsSimple, put_all}
 use Rattle.sentry_framing.specs.FlatView.{members_after, value_data}
 use Rattle.sentry_framing.proofs.FlatMembers.{after_last}
-use Rattle.sentry_framing.proofs.FlatObjects.{member_text, nothing_left, simple_member}
+use Rattle.sentry_framing.proofs.FlatObjects.{member_text, simple_member}
 use Rattle.sentry_framing.proofs.flat_object.+take_members.Goals as goal
 
 pub take_members-requires : goal.take_members-requires
@@ -28,15 +29,14 @@ returns-then-most-gt0 t c is =
       λ before. more.3 before ∙ ap (put_all more.0) (ap (members_after before) c.in-Ok.ensures.ok ∙ after_last c.args.members.now.items m before),
     )
 
-pub returns-in-Some-after_byte-2 : goal.returns-in-Some-after_byte-2
-returns-in-Some-after_byte-2 t c is =
+pub returns : goal.returns
+returns t c is =
     let s = c.in-Some in
     let m = s.member in
-    let last = c.in-Some-after_byte-2 in
     let d = value_data m.value in
-    let none : last.after.now ≡ [] = nothing_left last.after.now c.is_empty.result c.is_empty.ensures is in (
+    let last : s.rest.now ≡ 125 ∷ [] = (bytes_eq-Decides _ _).0 (sym c.eq.ensures ∙ is) in (
       member m.key.now d no_members,
-      member_text c.args.text.now m.key.now s.rest.now d no_members s.ensures.text (last.ensures ∙ ap (λ s. 125 ∷ s) none),
+      member_text c.args.text.now m.key.now s.rest.now d no_members s.ensures.text last,
       (s.ensures.flat, tt),
       λ before. ap (members_after before) c.in-Ok.ensures.ok ∙ after_last c.args.members.now.items m before,
     )

@@ -3,22 +3,22 @@ use Rattle.sentry_framing.proofs.Machine.{Plain, rest_after, plain_other, plain_
 use Rattle.sentry_framing.proofs.Scan.{at, found, none, at_end, over_string, no_string}
 use Rattle.sentry_framing.proofs.piece.nested_len.Goals as goal
 
-pub loop-i-preserved-in-Some : goal.loop-i-preserved-in-Some
-loop-i-preserved-in-Some c =
+pub loop-i-preserved-in-34 : goal.loop-i-preserved-in-34
+loop-i-preserved-in-34 c =
     let s = c.in-Some-eq123-default.inside.now in
     let l = c.loop-i in
     record {
       shallow = omega (arith, l.invariant.shallow);
-      same = sym (over_string s l.i l.depth c.in-Some.len c.loop-i-test.true c.in-34.is c.in-Some.ensures.found) ∙ l.invariant.same;
+      same = sym (over_string s l.i l.depth c.in_ok-i-in-34.field-0 c.loop-i-test.true c.in-34.is c.in_ok-i-in-34.ensures.found) ∙ l.invariant.same;
     }
 
-pub returns-in-None-clause-none : goal.returns-in-None-clause-none
-returns-in-None-clause-none c =
+pub returns-in_err-i-in-34-clause-none : goal.returns-in_err-i-in-34-clause-none
+returns-in_err-i-in-34-clause-none c =
     let first = c.in-Some-eq123-default in
     let s = first.inside.now in
     let l = c.loop-i in
     let is : c.args.bytes.now ≡ 123 ∷ s = first.ensures.cases.0 ∙ ap (λ b. b ∷ s) first.field-0-0-test in
-    none c.args.bytes.now s is (sym l.invariant.same ∙ no_string s l.i l.depth c.loop-i-test.true c.in-34.is c.in-None.ensures.none)
+    rw c.from_residual.ensures (none c.args.bytes.now s is (sym l.invariant.same ∙ no_string s l.i l.depth c.loop-i-test.true c.in-34.is c.in_err-i-in-34.ensures.none))
 
 pub loop-i-preserved-in-123 : goal.loop-i-preserved-in-123
 loop-i-preserved-in-123 c =
