@@ -1,12 +1,12 @@
 -- What frames show, and what a reader of them has so far.
 use Rattle.std.proofs.Common.{◌≡◌, ◌≢◌, ℕ, List, [], ◌∷◌, ◌++◌, inl, inr, refl, sym, ap, subst}
-use Rattle.std.specs.Prelude.{◌⊎◌, ⊤, map, Some, Result, Ok, Err, IfOk, OnOk}
+use Rattle.std.specs.Prelude.{◌⊎◌, ⊤, map, Some, Result, Ok, Err, IfErr, OnOk}
 use Rattle.std.proofs.lemmas.List.{map-append}
 use Rattle.sentry_tables.specs.Cell.{Cell}
 use Rattle.sentry_tables.specs.Kind.{Kind}
 use Rattle.sentry_members.specs.Reading.{TextShown, TextRefused, TextShownAt, TextRefusedAt}
 use Rattle.sentry_items.specs.Attached.{Attached}
-use Rattle.sentry_items.specs.View.{value as value_view, attachment_view, item_held}
+use Rattle.sentry_items.specs.View.{attachment_view}
 use Rattle.sentry_items.specs.declared.attachment.Attachment.{Attachment}
 use Rattle.sentry_items.specs.declared.replay_recording.ReplayRecording.{ReplayRecording}
 use Rattle.sentry_items.specs.declared.item.EnvelopeItem.{EnvelopeItem}
@@ -15,7 +15,7 @@ use Rattle.sentry_framing.specs.Framing.{Frame, IsFirstFrame, IsFault}
 use Rattle.sentry_envelope.specs.EnvelopeFault.{BodyIsAtFault, FrameIsRefused}
 use Rattle.sentry_envelope.specs.Envelope.{item, attached, opaque, value, reads, attached_by, ItemShows, ItemsStand}
 use Rattle.sentry_envelope.specs.EnvelopeView.{item_view, placed}
-use Rattle.sentry_envelope.specs.ItemAdded.{IsAdded}
+use Rattle.sentry_envelope.specs.ItemAdded.{IsAdded, IsItemOf, IsValueAdded}
 use Rattle.sentry_framing.specs.HeaderView.{header_view}
 use Rattle.sentry_framing.specs.ItemHeader.{read_header, stated_length}
 use Rattle.sentry_framing.specs.ItemWords.{item_words, kind_place}
@@ -75,32 +75,34 @@ module _ (frame : Frame) (h : ItemHeader) (read : read_header item_words frame.h
 
   -- a payload of JSON that shows a value of the type shows the item, and one that shows none is refused
   module _ (k : ItemKind) (K : Kind) (is : h.kind ≡ k) (json : IsJson k K) where
-    pub value_read_at : (c : Cell) (i : EnvelopeItem) → TextShownAt now K frame.payload c → item_held i ≡ value_view k c → ItemShows profile now frame (item_view i)
+    value_read_at : (c : Cell) (i : EnvelopeItem) → TextShownAt now K frame.payload c → IsItemOf k c i → ItemShows profile now frame (item_view i)
     unfolding profile TextShownAt
     value_read_at c i shown same =
         subst (λ v. ItemShows profile now frame (placed v)) (sym same) (shows_by k K is json c shown)
 
-    pub value_read : (c : Cell) (i : EnvelopeItem) → TextShown K frame.payload c → item_held i ≡ value_view k c → ItemShows profile now frame (item_view i)
-    unfolding TextShown TextShownAt
-    value_read c i shown same = value_read_at c i (shown now) same
+    pub value_added_at : {T : Type 0} (cell : T → Cell) (old new : List EnvelopeItem) (r : Result ⊤ EnvelopeError) → OnOk r (IsValueAdded (λ v. TextShownAt now K frame.payload (cell v)) (λ v. IsItemOf k (cell v)) old new) → OnOk r (IsAdded now frame old new)
+    value_added_at cell old new (Ok x) (v, i, shown, same, more) = item_added now frame old new i more (value_read_at (cell v) i shown same)
+    value_added_at cell old new (Err e) none = tt
 
-    -- the same of a value that is put into a box, if there is memory
-    pub boxed_read_at : (c : Cell) (r : Result EnvelopeItem EnvelopeError) → TextShownAt now K frame.payload c → IfOk r (λ i. item_held i ≡ value_view k c) → IfOk r (λ i. ItemShows profile now frame (item_view i))
-    boxed_read_at c (Ok i) shown same = value_read_at c i shown same
-    boxed_read_at c (Err e) shown same = tt
+    pub value_added : {T : Type 0} (cell : T → Cell) (old new : List EnvelopeItem) (r : Result ⊤ EnvelopeError) → OnOk r (IsValueAdded (λ v. TextShown K frame.payload (cell v)) (λ v. IsItemOf k (cell v)) old new) → OnOk r (IsAdded now frame old new)
+    unfolding TextShown TextShownAt
+    value_added cell old new (Ok x) (v, i, shown, same, more) = value_added_at cell old new (Ok x) (v, i, shown now, same, more)
+    value_added cell old new (Err e) none = tt
 
     abbrev IsRefusal : EnvelopeError → Type 0 → Type 0
     IsRefusal e P = (e ≡ OutOfMemory) ⊎ ((e ≡ InvalidItemPayload) × P)
 
-    pub value_refused_at : (e : EnvelopeError) → IsRefusal e (TextRefusedAt now K frame.payload) → IsRefusal e (FrameIsRefused profile frame)
+    pub value_refused_at : (r : Result ⊤ EnvelopeError) → IfErr r (λ e. IsRefusal e (TextRefusedAt now K frame.payload)) → IfErr r (λ e. IsRefusal e (FrameIsRefused profile frame))
     unfolding profile TextRefusedAt
-    value_refused_at e (inl memory) = inl memory
-    value_refused_at e (inr (misfit, none)) = inr (misfit, refused_by k K is json none)
+    value_refused_at (Ok x) none = tt
+    value_refused_at (Err e) (inl memory) = inl memory
+    value_refused_at (Err e) (inr (misfit, none)) = inr (misfit, refused_by k K is json none)
 
-    pub value_refused : (e : EnvelopeError) → IsRefusal e (TextRefused K frame.payload) → IsRefusal e (FrameIsRefused profile frame)
+    pub value_refused : (r : Result ⊤ EnvelopeError) → IfErr r (λ e. IsRefusal e (TextRefused K frame.payload)) → IfErr r (λ e. IsRefusal e (FrameIsRefused profile frame))
     unfolding TextRefused TextRefusedAt
-    value_refused e (inl memory) = inl memory
-    value_refused e (inr (misfit, none)) = value_refused_at e (inr (misfit, none now))
+    value_refused (Ok x) none = tt
+    value_refused (Err e) (inl memory) = inl memory
+    value_refused (Err e) (inr (misfit, none)) = value_refused_at (Err e) (inr (misfit, none now))
 
 -- a frame by the words of the items is one of the profile
 pub first_of_profile : (body : List ℕ) (frame : Frame) (rest : List ℕ) → IsFirstFrame (stated_length item_words) body frame rest → IsFirstFrame (reads profile) body frame rest

@@ -13,6 +13,7 @@ pub mod items;
 pub mod laws;
 mod lines;
 mod losses;
+mod payload;
 mod plain;
 mod read;
 pub mod reader;

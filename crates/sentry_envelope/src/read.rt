@@ -1,14 +1,12 @@
 //! Reading of envelope items.
 
 ghost use Rattle.std.specs.Prelude.{◌≡◌, ◌≢◌, ◌⊎◌, ◌∷◌, ◌++◌, IfOk, IfErr, OnOk, [], Some, map};
-ghost use Rattle.sentry_event.specs.Events.{event_cell};
-ghost use Rattle.sentry_event.specs.Transactions.{transaction_cell};
-ghost use Rattle.sentry_items.specs.View.{attachment_view, item_held, value};
+ghost use Rattle.sentry_items.specs.View.{attachment_view};
 ghost use Rattle.sentry_members.specs.Reading.{TextShown, TextRefused, TextShownAt, TextRefusedAt};
-ghost use Rattle.sentry_envelope.specs.Envelope.{attached_by, ItemShows, ItemsStand};
+ghost use Rattle.sentry_envelope.specs.Envelope.{attached_by, ItemsStand};
 ghost use Rattle.sentry_envelope.specs.EnvelopeFault.{BodyIsAtFault, FrameIsRefused};
 ghost use Rattle.sentry_envelope.specs.EnvelopeView.{item_view};
-ghost use Rattle.sentry_envelope.specs.ItemAdded.{IsAdded};
+ghost use Rattle.sentry_envelope.specs.ItemAdded.{IsAdded, IsValueAdded};
 ghost use Rattle.sentry_framing.specs.HeaderView.{header_view};
 ghost use Rattle.sentry_framing.specs.ItemHeader.{read_header};
 ghost use Rattle.sentry_framing.specs.ItemWords.{item_words};
@@ -18,17 +16,17 @@ ghost use Rattle.sentry_envelope.specs.SentryProfile.{profile};
 ghost use Rattle.sentry_framing.specs.View.{frame_of};
 
 use crate::lines::read_flat_line;
+use crate::payload::Payload;
 use crate::timed::read_line_at_with;
 use rand_core::Rng;
 use sentry_event::{Event, Transaction};
 use sentry_framing::frames::next_item_into;
 use sentry_framing::{EnvelopeError, Frames, ItemFrame, ItemHeader, ItemKind, LazyScratch};
-use sentry_items::{
-    Attachment, AttachmentType, EnvelopeItem, ItemContainer, Listed, ReplayRecording,
-};
+use sentry_items::{Attachment, AttachmentType, EnvelopeItem, Listed, ReplayRecording};
 use sentry_members::{FromTree, TreeError, read_line_with};
 use sentry_moments::Moment;
-use sentry_records::{Log, Metric};
+use sentry_records::{Log, Metric, MonitorCheckIn, SessionAggregates, SessionUpdate, UserReport};
+use sentry_reports::Report;
 use sentry_rows::FromTreeAt;
 use std::alloc::{AllocError, Global};
 
@@ -56,8 +54,8 @@ pub(crate) fn read_items<R: Rng>(
 // Appends the item of a frame. Strings are moved out of `header`.
 //
 // An item is large, and each stack slot that may hold one is cleared on entry to a function. Each
-// form of payload is therefore read by a function of its own, and a small item doesn't pay for the
-// slots of the others.
+// type of payload is therefore read, and its item appended, by a function of its own, and a small
+// item doesn't pay for the slots of the others.
 fn add_item<R: Rng>(
     alloc: Global,
     frame: &ItemFrame<'_>,
@@ -132,147 +130,101 @@ fn add_json_item<R: Rng>(
     ensures err { IfErr result (λ e. (e ≡ EnvelopeError.OutOfMemory)
         ⊎ ((e ≡ EnvelopeError.InvalidItemPayload) × FrameIsRefused profile (frame_of frame.now))) }
 {
-    let item = read_json_item(alloc, frame, header, now, ids, scratch)?;
-    items.push(item)?;
-    Ok(())
-}
-
-fn read_json_item<R: Rng>(
-    alloc: Global,
-    frame: &ItemFrame<'_>,
-    header: &ItemHeader,
-    now: Moment,
-    ids: &mut R,
-    scratch: &mut LazyScratch,
-) -> Result<EnvelopeItem, EnvelopeError>
-    requires read { read_header item_words (frame_of frame.now).header ≡
-        Some (header_view header.now) }
-    requires no_attachment { header.now.kind ≢ kinds.Attachment }
-    requires no_recording { header.now.kind ≢ kinds.ReplayRecording }
-    ensures ok { IfOk result (λ item.
-        ItemShows profile (moment_cell now) (frame_of frame.now) (item_view item)) }
-    ensures err { IfErr result (λ e. (e ≡ EnvelopeError.OutOfMemory)
-        ⊎ ((e ≡ EnvelopeError.InvalidItemPayload) × FrameIsRefused profile (frame_of frame.now))) }
-{
     let payload = frame.payload;
     match header.kind {
-        ItemKind::Event => event(alloc, read_value_at(alloc, payload, now, ids, scratch)?),
-        ItemKind::SessionUpdate => Ok(EnvelopeItem::SessionUpdate(read_value_at(
-            alloc, payload, now, ids, scratch,
-        )?)),
-        ItemKind::SessionAggregates => Ok(EnvelopeItem::SessionAggregates(read_value(
-            alloc, payload, scratch,
-        )?)),
+        ItemKind::Event => {
+            add_value_at::<Event<'static>, R>(alloc, payload, now, ids, scratch, items)
+        }
+        ItemKind::SessionUpdate => {
+            add_value_at::<SessionUpdate<'static>, R>(alloc, payload, now, ids, scratch, items)
+        }
+        ItemKind::SessionAggregates => {
+            add_value::<SessionAggregates<'static>>(alloc, payload, scratch, items)
+        }
         ItemKind::Transaction => {
-            transaction(alloc, read_value_at(alloc, payload, now, ids, scratch)?)
+            add_value_at::<Transaction<'static>, R>(alloc, payload, now, ids, scratch, items)
         }
-        ItemKind::MonitorCheckIn => Ok(EnvelopeItem::MonitorCheckIn(read_flat_value(
-            alloc, payload, scratch,
-        )?)),
-        ItemKind::UserReport => Ok(EnvelopeItem::UserReport(read_flat_value(
-            alloc, payload, scratch,
-        )?)),
-        ItemKind::Logs => {
-            let logs: Listed<Log> = read_value(alloc, payload, scratch)?;
-            Ok(EnvelopeItem::ItemContainer(ItemContainer::Logs(logs.items)))
+        ItemKind::MonitorCheckIn => {
+            add_flat_value::<MonitorCheckIn>(alloc, payload, scratch, items)
         }
-        ItemKind::Metrics => {
-            let metrics: Listed<Metric> = read_value(alloc, payload, scratch)?;
-            Ok(EnvelopeItem::ItemContainer(ItemContainer::Metrics(metrics.items)))
+        ItemKind::UserReport => add_flat_value::<UserReport>(alloc, payload, scratch, items),
+        ItemKind::Logs => add_value::<Listed<Log>>(alloc, payload, scratch, items),
+        ItemKind::Metrics => add_value::<Listed<Metric>>(alloc, payload, scratch, items),
+        ItemKind::ClientReport => {
+            add_value_at::<Report, R>(alloc, payload, now, ids, scratch, items)
         }
-        ItemKind::ClientReport => Ok(EnvelopeItem::ClientReport(read_value_at(
-            alloc, payload, now, ids, scratch,
-        )?)),
         ItemKind::Attachment | ItemKind::ReplayRecording => unreachable!(),
     }
 }
 
-// Not inlined, to keep the memory of reading out of the caller's frame.
+// Appends the item of a value that a payload holds.
 #[inline(never)]
-fn read_value<T: FromTree>(
+fn add_value<T: FromTree + Payload>(
     alloc: Global,
     payload: &[u8],
     scratch: &mut LazyScratch,
-) -> Result<T, EnvelopeError>
-    ensures ok { IfOk result (λ value. TextShown T.kind payload.now (T.cell_of value)) }
+    items: &mut Vec<EnvelopeItem>,
+) -> Result<(), EnvelopeError>
+    ensures ok { OnOk result (IsValueAdded (λ v. TextShown T.kind payload.now (T.cell_of v))
+        T.holds items.old.items items.new.items) }
     ensures err { IfErr result (λ e. (e ≡ EnvelopeError.OutOfMemory)
         ⊎ ((e ≡ EnvelopeError.InvalidItemPayload) × TextRefused T.kind payload.now)) }
 {
-    let Ok(scratch) = scratch.get() else {
-        return Err(EnvelopeError::OutOfMemory);
-    };
-    match read_line_with(alloc, payload, scratch) {
-        Ok(value) => Ok(value),
-        Err(TreeError::Misfit) => Err(EnvelopeError::InvalidItemPayload),
-        Err(TreeError::Memory) => Err(EnvelopeError::OutOfMemory),
-    }
+    let value: T = read_line_with(alloc, payload, scratch.get()?).map_err(payload_error)?;
+    items.push(value.into_item(alloc)?)?;
+    Ok(())
 }
 
-// Reads a payload that is mostly flat.
+// The same of a payload that is mostly flat.
 #[inline(never)]
-fn read_flat_value<T: FromTree>(
+fn add_flat_value<T: FromTree + Payload>(
     alloc: Global,
     payload: &[u8],
     scratch: &mut LazyScratch,
-) -> Result<T, EnvelopeError>
-    ensures ok { IfOk result (λ value. TextShown T.kind payload.now (T.cell_of value)) }
+    items: &mut Vec<EnvelopeItem>,
+) -> Result<(), EnvelopeError>
+    ensures ok { OnOk result (IsValueAdded (λ v. TextShown T.kind payload.now (T.cell_of v))
+        T.holds items.old.items items.new.items) }
     ensures err { IfErr result (λ e. (e ≡ EnvelopeError.OutOfMemory)
         ⊎ ((e ≡ EnvelopeError.InvalidItemPayload) × TextRefused T.kind payload.now)) }
 {
-    match read_flat_line(alloc, payload, scratch) {
-        Ok(value) => Ok(value),
-        Err(TreeError::Misfit) => Err(EnvelopeError::InvalidItemPayload),
-        Err(TreeError::Memory) => Err(EnvelopeError::OutOfMemory),
-    }
+    let value: T = read_flat_line(alloc, payload, scratch).map_err(payload_error)?;
+    items.push(value.into_item(alloc)?)?;
+    Ok(())
 }
 
+// The same of a payload whose absent moments and ids are filled.
 #[inline(never)]
-fn read_value_at<T: FromTreeAt, R: Rng>(
+fn add_value_at<T: FromTreeAt + Payload, R: Rng>(
     alloc: Global,
     payload: &[u8],
     now: Moment,
     ids: &mut R,
     scratch: &mut LazyScratch,
-) -> Result<T, EnvelopeError>
-    ensures ok { IfOk result (λ value.
-        TextShownAt (moment_cell now) T.kind payload.now (T.cell_of value)) }
+    items: &mut Vec<EnvelopeItem>,
+) -> Result<(), EnvelopeError>
+    ensures ok { OnOk result (IsValueAdded
+        (λ v. TextShownAt (moment_cell now) T.kind payload.now (T.cell_of v))
+        T.holds items.old.items items.new.items) }
     ensures err { IfErr result (λ e. (e ≡ EnvelopeError.OutOfMemory)
         ⊎ ((e ≡ EnvelopeError.InvalidItemPayload) ×
         TextRefusedAt (moment_cell now) T.kind payload.now)) }
 {
-    let Ok(scratch) = scratch.get() else {
-        return Err(EnvelopeError::OutOfMemory);
-    };
-    match read_line_at_with(alloc, payload, now, ids, scratch) {
-        Ok(value) => Ok(value),
-        Err(TreeError::Misfit) => Err(EnvelopeError::InvalidItemPayload),
-        Err(TreeError::Memory) => Err(EnvelopeError::OutOfMemory),
-    }
+    let value: T = read_line_at_with(alloc, payload, now, ids, scratch.get()?).map_err(
+        payload_error,
+    )?;
+    items.push(value.into_item(alloc)?)?;
+    Ok(())
 }
 
-#[inline(never)]
-fn event(alloc: Global, event: Event<'static>) -> Result<EnvelopeItem, EnvelopeError>
-    ensures ok { IfOk result (λ item. item_held item ≡ value kinds.Event (event_cell event.entry)) }
-    ensures err { IfErr result (λ e. e ≡ EnvelopeError.OutOfMemory) }
+// Returns the error of an envelope whose item's payload can't be read.
+fn payload_error(error: TreeError) -> EnvelopeError
+    ensures misfit { error ≡ TreeError.Misfit → result ≡ EnvelopeError.InvalidItemPayload }
+    ensures memory { error ≡ TreeError.Memory → result ≡ EnvelopeError.OutOfMemory }
 {
-    match EnvelopeItem::event(alloc, event) {
-        Ok(item) => Ok(item),
-        Err(_) => Err(EnvelopeError::OutOfMemory),
-    }
-}
-
-#[inline(never)]
-fn transaction(
-    alloc: Global,
-    transaction: Transaction<'static>,
-) -> Result<EnvelopeItem, EnvelopeError>
-    ensures ok { IfOk result (λ item.
-        item_held item ≡ value kinds.Transaction (transaction_cell transaction.entry)) }
-    ensures err { IfErr result (λ e. e ≡ EnvelopeError.OutOfMemory) }
-{
-    match EnvelopeItem::transaction(alloc, transaction) {
-        Ok(item) => Ok(item),
-        Err(_) => Err(EnvelopeError::OutOfMemory),
+    match error {
+        TreeError::Misfit => EnvelopeError::InvalidItemPayload,
+        TreeError::Memory => EnvelopeError::OutOfMemory,
     }
 }
 
