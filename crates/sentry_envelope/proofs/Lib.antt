@@ -32,4 +32,4 @@ pub mod LossLemmas
 pub mod FilterLemmas
 pub mod Equal
 pub mod Accepted
-pub mod FlatLines
+pub mod LineTrees

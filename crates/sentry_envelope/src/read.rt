@@ -15,15 +15,14 @@ ghost use Rattle.sentry_moments.specs.Moments.{moment_cell};
 ghost use Rattle.sentry_envelope.specs.SentryProfile.{profile};
 ghost use Rattle.sentry_framing.specs.View.{frame_of};
 
-use crate::lines::read_flat_line;
+use crate::lines::{read_payload, read_payload_at};
 use crate::payload::Payload;
-use crate::timed::read_line_at_with;
 use rand_core::Rng;
 use sentry_event::{Event, Transaction};
 use sentry_framing::frames::next_item_into;
 use sentry_framing::{EnvelopeError, Frames, ItemFrame, ItemHeader, ItemKind, LazyScratch};
 use sentry_items::{Attachment, AttachmentType, EnvelopeItem, Listed, ReplayRecording};
-use sentry_members::{FromTree, TreeError, read_line_with};
+use sentry_members::{FromTree, TreeError};
 use sentry_moments::Moment;
 use sentry_records::{Log, Metric, MonitorCheckIn, SessionAggregates, SessionUpdate, UserReport};
 use sentry_reports::Report;
@@ -144,10 +143,8 @@ fn add_json_item<R: Rng>(
         ItemKind::Transaction => {
             add_value_at::<Transaction<'static>, R>(alloc, payload, now, ids, scratch, items)
         }
-        ItemKind::MonitorCheckIn => {
-            add_flat_value::<MonitorCheckIn>(alloc, payload, scratch, items)
-        }
-        ItemKind::UserReport => add_flat_value::<UserReport>(alloc, payload, scratch, items),
+        ItemKind::MonitorCheckIn => add_value::<MonitorCheckIn>(alloc, payload, scratch, items),
+        ItemKind::UserReport => add_value::<UserReport>(alloc, payload, scratch, items),
         ItemKind::Logs => add_value::<Listed<Log>>(alloc, payload, scratch, items),
         ItemKind::Metrics => add_value::<Listed<Metric>>(alloc, payload, scratch, items),
         ItemKind::ClientReport => {
@@ -170,25 +167,7 @@ fn add_value<T: FromTree + Payload>(
     ensures err { IfErr result (λ e. (e ≡ EnvelopeError.OutOfMemory)
         ⊎ ((e ≡ EnvelopeError.InvalidItemPayload) × TextRefused T.kind payload.now)) }
 {
-    let value: T = read_line_with(alloc, payload, scratch.get()?).map_err(payload_error)?;
-    items.push(value.into_item(alloc)?)?;
-    Ok(())
-}
-
-// The same of a payload that is mostly flat.
-#[inline(never)]
-fn add_flat_value<T: FromTree + Payload>(
-    alloc: Global,
-    payload: &[u8],
-    scratch: &mut LazyScratch,
-    items: &mut Vec<EnvelopeItem>,
-) -> Result<(), EnvelopeError>
-    ensures ok { OnOk result (IsValueAdded (λ v. TextShown T.kind payload.now (T.cell_of v))
-        T.holds items.old.items items.new.items) }
-    ensures err { IfErr result (λ e. (e ≡ EnvelopeError.OutOfMemory)
-        ⊎ ((e ≡ EnvelopeError.InvalidItemPayload) × TextRefused T.kind payload.now)) }
-{
-    let value: T = read_flat_line(alloc, payload, scratch).map_err(payload_error)?;
+    let value: T = read_payload(alloc, payload, scratch).map_err(payload_error)?;
     items.push(value.into_item(alloc)?)?;
     Ok(())
 }
@@ -210,9 +189,7 @@ fn add_value_at<T: FromTreeAt + Payload, R: Rng>(
         ⊎ ((e ≡ EnvelopeError.InvalidItemPayload) ×
         TextRefusedAt (moment_cell now) T.kind payload.now)) }
 {
-    let value: T = read_line_at_with(alloc, payload, now, ids, scratch.get()?).map_err(
-        payload_error,
-    )?;
+    let value: T = read_payload_at(alloc, payload, now, ids, scratch).map_err(payload_error)?;
     items.push(value.into_item(alloc)?)?;
     Ok(())
 }

@@ -14,9 +14,6 @@ use std::test::Fail;
 const THREE: &[u8] =
     b"{}\n{\"type\":\"replay_recording\"}\n\n{\"type\":\"attachment\"}\na\n{\"type\":\"attachment\"}\nb";
 
-/// An envelope of an attachment and a recording.
-const TWO: &[u8] = b"{}\n{\"type\":\"attachment\"}\na\n{\"type\":\"replay_recording\"}\n";
-
 /// Keeps all but attachments, and counts the items that were asked about.
 fn without_attachments(
     alloc: Global,
@@ -57,29 +54,4 @@ fn closures_count(rt: HostRuntime) -> Result<(), Fail> {
     let alloc = rt.alloc();
     wanted(told(without_attachments(alloc, read(alloc, THREE)?)) == Some((false, 3)))?;
     wanted(told(count_dropped(alloc, read(alloc, THREE)?)) == Some((false, 2)))
-}
-
-/// Keeps attachments, which then go without an event. The words of all that goes are noted.
-fn noted(alloc: Global, envelope: Envelope) -> (bool, String) {
-    let mut words = String::new(alloc);
-    let mut callbacks = EnvelopeFilterCallbacks::new(
-        |item: &EnvelopeItem| matches!(item, EnvelopeItem::Attachment(_)),
-        |item: EnvelopeItem| {
-            let kind = item.kind();
-            drop(item);
-            if let Some(kind) = kind {
-                let _ = words.push_str(kind.as_str());
-            }
-        },
-    );
-    let left = envelope.filter_by(alloc, &mut callbacks);
-    let none = matches!(&left, Ok(None));
-    drop(left);
-    (none, words)
-}
-
-#[test]
-fn callbacks_note_what_goes(rt: HostRuntime) -> Result<(), Fail> {
-    let (none, words) = noted(rt.alloc(), read(rt.alloc(), TWO)?);
-    wanted(none && words.as_str() == "replay_recordingattachment")
 }

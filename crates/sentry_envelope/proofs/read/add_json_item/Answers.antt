@@ -40,19 +40,19 @@ returns-in-Transaction-clause-err g c =
 
 pub returns-in-MonitorCheckIn-clause-ok : goal.returns-in-MonitorCheckIn-clause-ok
 returns-in-MonitorCheckIn-clause-ok g c =
-    value_added (frame_of c.args.frame.now) c.args.header.now c.requires.read (moment_cell c.args.now) kinds.MonitorCheckIn (payload_kind kinds.MonitorCheckIn) c.in-MonitorCheckIn.is (alone refl) _ c.args.items.now.items c.add_flat_value.new.items.items c.add_flat_value.result c.add_flat_value.ensures.ok
+    value_added (frame_of c.args.frame.now) c.args.header.now c.requires.read (moment_cell c.args.now) kinds.MonitorCheckIn (payload_kind kinds.MonitorCheckIn) c.in-MonitorCheckIn.is (alone refl) _ c.args.items.now.items c.add_value-in-MonitorCheckIn.new.items.items c.add_value-in-MonitorCheckIn.result c.add_value-in-MonitorCheckIn.ensures.ok
 
 pub returns-in-MonitorCheckIn-clause-err : goal.returns-in-MonitorCheckIn-clause-err
 returns-in-MonitorCheckIn-clause-err g c =
-    value_refused (frame_of c.args.frame.now) c.args.header.now c.requires.read (moment_cell c.args.now) kinds.MonitorCheckIn (payload_kind kinds.MonitorCheckIn) c.in-MonitorCheckIn.is (alone refl) c.add_flat_value.result c.add_flat_value.ensures.err
+    value_refused (frame_of c.args.frame.now) c.args.header.now c.requires.read (moment_cell c.args.now) kinds.MonitorCheckIn (payload_kind kinds.MonitorCheckIn) c.in-MonitorCheckIn.is (alone refl) c.add_value-in-MonitorCheckIn.result c.add_value-in-MonitorCheckIn.ensures.err
 
 pub returns-in-UserReport-clause-ok : goal.returns-in-UserReport-clause-ok
 returns-in-UserReport-clause-ok g c =
-    value_added (frame_of c.args.frame.now) c.args.header.now c.requires.read (moment_cell c.args.now) kinds.UserReport (payload_kind kinds.UserReport) c.in-UserReport.is (alone refl) _ c.args.items.now.items c.add_flat_value-in-UserReport.new.items.items c.add_flat_value-in-UserReport.result c.add_flat_value-in-UserReport.ensures.ok
+    value_added (frame_of c.args.frame.now) c.args.header.now c.requires.read (moment_cell c.args.now) kinds.UserReport (payload_kind kinds.UserReport) c.in-UserReport.is (alone refl) _ c.args.items.now.items c.add_value-in-UserReport.new.items.items c.add_value-in-UserReport.result c.add_value-in-UserReport.ensures.ok
 
 pub returns-in-UserReport-clause-err : goal.returns-in-UserReport-clause-err
 returns-in-UserReport-clause-err g c =
-    value_refused (frame_of c.args.frame.now) c.args.header.now c.requires.read (moment_cell c.args.now) kinds.UserReport (payload_kind kinds.UserReport) c.in-UserReport.is (alone refl) c.add_flat_value-in-UserReport.result c.add_flat_value-in-UserReport.ensures.err
+    value_refused (frame_of c.args.frame.now) c.args.header.now c.requires.read (moment_cell c.args.now) kinds.UserReport (payload_kind kinds.UserReport) c.in-UserReport.is (alone refl) c.add_value-in-UserReport.result c.add_value-in-UserReport.ensures.err
 
 pub returns-in-Logs-clause-ok : goal.returns-in-Logs-clause-ok
 returns-in-Logs-clause-ok g c =

@@ -1,0 +1,9 @@
+pub mod TokenLists
+pub mod PlainTexts
+pub mod Integers
+pub mod WordsAndTexts
+pub mod Lexemes
+pub mod Escapes
+pub mod SoFar
+pub mod RunLengths
+pub mod StopMasks

@@ -1,0 +1,76 @@
+//! What is left of a line.
+
+ghost use Rattle.std.specs.Prelude.{◌≡◌, ◌++◌, ◌∷◌, IfSome, IsUtf8, true, length, take};
+ghost use Rattle.sentry_tape.specs.PlainTexts.{is_plain_text};
+
+use crate::run::run_len;
+use std::str;
+
+/// What is left of a line, as a text.
+#[derive(Clone, Copy)]
+pub(crate) struct Rest<'a> {
+    pub(crate) text: &'a str,
+}
+
+impl<'a> Rest<'a> {
+    /// Returns the whole line; `None` if it isn't UTF-8.
+    pub fn new(line: &'a [u8]) -> Option<Rest<'a>>
+        ensures text { IfSome result (λ rest. rest.text.now ≡ line.now) }
+        ensures utf8 { IfSome result (λ rest. IsUtf8 line.now) }
+    {
+        match str::from_utf8(line) {
+            Ok(text) => Some(Rest { text }),
+            Err(_) => None,
+        }
+    }
+
+    /// Returns the bytes.
+    #[inline(always)]
+    pub fn bytes(&self) -> &'a [u8]
+        ensures { result.now ≡ self.now.text.now }
+    {
+        self.text.as_bytes()
+    }
+
+    /// Returns what follows a byte of ASCII at the front; `None` if another byte stands there.
+    #[inline(always)]
+    pub fn after(&self, byte: u8) -> Option<Rest<'a>>
+        ensures { IfSome result (λ rest. self.now.text.now ≡ byte ∷ rest.text.now) }
+    {
+        let (first, _) = self.text.as_bytes().split_first()?;
+        if *first != byte {
+            return None;
+        }
+        let (_, text) = self.text.split_at_checked(1)?;
+        Some(Rest { text })
+    }
+
+    /// Splits off the first `len` bytes; `None` if a character doesn't end there.
+    #[inline(always)]
+    pub fn split(&self, len: usize) -> Option<(&'a str, Rest<'a>)>
+        ensures parts { IfSome result (λ x. self.now.text.now ≡ x.0.now ++ x.1.text.now) }
+        ensures len { IfSome result (λ x. length x.0.now ≡ len) }
+        ensures front { IfSome result (λ x. x.0.now ≡ take len self.now.text.now) }
+    {
+        let (front, text) = self.text.split_at_checked(len)?;
+        Some((front, Rest { text }))
+    }
+
+    /// Splits off what stands before the first quote, backslash or control byte.
+    #[inline(always)]
+    pub fn split_run(&self) -> Option<(&'a str, Rest<'a>)>
+        ensures parts { IfSome result (λ x. self.now.text.now ≡ x.0.now ++ x.1.text.now) }
+        ensures plain { IfSome result (λ x. is_plain_text x.0.now ≡ true) }
+    {
+        self.split(run_len(self.text.as_bytes()))
+    }
+
+    /// Returns what follows a word at the front; `None` if another stands there.
+    #[inline]
+    pub fn after_word(&self, word: &str) -> Option<Rest<'a>>
+        ensures { IfSome result (λ rest. self.now.text.now ≡ word.now ++ rest.text.now) }
+    {
+        let (front, rest) = self.split(word.len())?;
+        if front == word { Some(rest) } else { None }
+    }
+}

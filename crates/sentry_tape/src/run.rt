@@ -1,0 +1,47 @@
+//! Runs of bytes that stand for themselves in a string.
+
+ghost use Rattle.std.specs.Prelude.{◌≡◌, ◌≤◌, ◌+◌, map, length, drop};
+ghost use Rattle.std.specs.List.{prefix_len};
+ghost use Rattle.std.specs.Simd.Lanes.{mask_l};
+ghost use Rattle.json.specs.Run.{is_plain, is_stop};
+
+use std::simd::prelude::*;
+
+// The lanes with a quote, a backslash or a control byte.
+#[inline(always)]
+fn stops(lanes: u8x16) -> u64
+    ensures { result ≡ mask_l (map is_stop lanes) }
+{
+    (lanes.simd_eq(u8x16::splat(b'"'))
+        | lanes.simd_eq(u8x16::splat(b'\\'))
+        | lanes.simd_lt(u8x16::splat(0x20))).to_bitmask()
+}
+
+// The same of the last bytes, one by one.
+fn short_run_end(bytes: &[u8], from: usize) -> usize
+    requires { from ≤ length bytes.now }
+    ensures { result ≡ from + prefix_len is_plain (drop from bytes.now) }
+{
+    let mut i = from;
+    while i < bytes.len() && bytes[i] != b'"' && bytes[i] != b'\\' && bytes[i] >= 0x20 {
+        i += 1;
+    }
+    i
+}
+
+/// Returns how many bytes stand before the first quote, backslash or control byte.
+#[inline(always)]
+pub(crate) fn run_len(bytes: &[u8]) -> usize
+    ensures value { result ≡ prefix_len is_plain bytes.now }
+    ensures within { result ≤ length bytes.now }
+{
+    let mut i = 0;
+    while bytes.len() - i >= 16 {
+        let found = stops(u8x16::from_slice(&bytes[i..]));
+        if found != 0 {
+            return i + found.trailing_zeros() as usize;
+        }
+        i += 16;
+    }
+    short_run_end(bytes, i)
+}

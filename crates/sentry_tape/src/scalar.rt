@@ -1,0 +1,23 @@
+//! Words and numbers, at the front of a text.
+
+ghost use Rattle.std.specs.Prelude.{◌≡◌, ◌<◌, [], IfSome, length};
+ghost use Rattle.sentry_tape.specs.Spelled.{Spells};
+
+use crate::number::{split_negative, split_whole};
+use crate::rest::Rest;
+use crate::token::Token;
+
+/// Splits off a value that is no string, no array and no object.
+#[inline(always)]
+pub(crate) fn split_scalar<'a>(text: Rest<'a>) -> Option<(Token<'a>, Rest<'a>)>
+    ensures spelled { IfSome result (λ x. Spells text.entry.text.now x.1.text.now x.0 [] 0) }
+    ensures shorter { IfSome result (λ x. length x.1.text.now < length text.entry.text.now) }
+{
+    match text.bytes().first()? {
+        b'n' => Some((Token::Null, text.after_word("null")?)),
+        b't' => Some((Token::Bool(true), text.after_word("true")?)),
+        b'f' => Some((Token::Bool(false), text.after_word("false")?)),
+        b'-' => split_negative(text),
+        _ => split_whole(text),
+    }
+}
