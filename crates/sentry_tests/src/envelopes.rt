@@ -17,14 +17,19 @@ pub(crate) fn read(alloc: Global, bytes: &[u8]) -> Result<Envelope, EnvelopeErro
     Envelope::from_slice(alloc, bytes, now, &mut Pcg32::new(42, 54))
 }
 
+/// Whether an envelope is written as this text.
+fn is_written(alloc: Global, envelope: &Envelope, text: &str) -> bool {
+    let mut out = Vec::new(alloc);
+    envelope.to_writer(alloc, &mut out).is_ok() && out.as_slice() == text.as_bytes()
+}
+
 /// Whether an envelope was made, and is written as this text.
 pub(crate) fn is_text<E: Drop>(alloc: Global, made: Result<Envelope, E>, text: &str) -> bool {
     match made {
         Ok(envelope) => {
-            let mut out = Vec::new(alloc);
-            let written = envelope.to_writer(alloc, &mut out).is_ok();
+            let written = is_written(alloc, &envelope, text);
             drop(envelope);
-            written && out.as_slice() == text.as_bytes()
+            written
         }
         Err(_) => false,
     }
