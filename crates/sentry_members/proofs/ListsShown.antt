@@ -1,11 +1,11 @@
 -- What trees show as lists and maps.
-use Rattle.std.proofs.Common.{◌≡◌, ℕ, zero, suc, ◌+◌, ◌<◌, List, [], ◌∷◌, ◌++◌, length, get_or, take, Some, None, String, Global, string_bytes, string_cmp, nat_cmp, refl, sym, ap, subst, ◌∙◌, arith, cond, Ordering, Less, Equal, Greater}
+use Rattle.std.proofs.Common.{◌≡◌, ℕ, zero, suc, ◌+◌, ◌<◌, List, [], ◌∷◌, ◌++◌, length, get_or, take, Some, None, String, Global, string_bytes, string_cmp, nat_cmp, refl, sym, ap, subst, ◌∙◌, arith, cond, Ordering, Less, Equal, Greater, Bool}
 use Rattle.std.proofs.lemmas.List.{take_more}
 use Rattle.std.specs.Cmp.Lexicographic.{slice_cmp}
 use Rattle.std.specs.Prelude.{is_some}
 use Rattle.std.specs.Ordering.{is_eq, match_ordering}
 use Rattle.std.specs.Map.{lookup}
-use Rattle.std.specs.BTreeMap.{insert_entry, is_at}
+use Rattle.std.specs.BTreeMap.{BTreeMap, get, insert_entry, is_at}
 use Rattle.std.proofs.lemmas.Option.{same_Some}
 use Rattle.std.proofs.lemmas.Map.Text.{is_eq-slice_cmp}
 use Rattle.std.proofs.lemmas.Slice.Eq.{bytes_eq-Decides}
@@ -50,7 +50,7 @@ mapping_refused Q _ f h = h
 -- ---- maps
 
 -- the map has the keys of the members
-pub shown_key : {A : Type 0} (P : List ℕ → Data → Cell → Type 0) (f : A → Cell) (k : List ℕ) (ms : Members) (es : List (String Global × A)) → MembersShow P ms (entries f es)
+shown_key : {A : Type 0} (P : List ℕ → Data → Cell → Type 0) (f : A → Cell) (k : List ℕ) (ms : Members) (es : List (String Global × A)) → MembersShow P ms (entries f es)
     → is_some (lookup (is_at (λ l. slice_cmp nat_cmp k (string_bytes l))) es) ≡ is_some (get_member k ms)
 shown_key P f k no_members [] h = refl
 shown_key P f k no_members (e ∷ es) h = absurd h
@@ -63,8 +63,17 @@ shown_key P f k (member l d ms) (e ∷ es) h = rw h.0 (at (slice_cmp nat_cmp k (
     at Equal more = refl
     at Greater more = more
 
+-- the map has a key or not as the members have it or not
+pub shown_name : {A : Type 0} (P : List ℕ → Data → Cell → Type 0) (f : A → Cell) (k : List ℕ) (name : String Global) (ms : Members) (m : BTreeMap (String Global) A) (b : Bool) → string_bytes name ≡ k → MembersShow P ms (entries f m.entries) → is_some (get string_cmp m name) ≡ b
+    → is_some (get_member k ms) ≡ b
+shown_name P f k name ms m b named h is = rw (← named) (sym (shown_key P f (string_bytes name) ms m.entries h) ∙ is)
+
+-- they show what the map holds for as long as its entries stay
+pub shown_still : {A : Type 0} (P : List ℕ → Data → Cell → Type 0) (f : A → Cell) (ms : Members) (es after : List (String Global × A)) → after ≡ es → MembersShow P ms (entries f es) → MembersShow P ms (entries f after)
+shown_still P f ms es after same h = rw same h
+
 -- a member that is put among them, and its value among those of the map
-pub shown_put : {A : Type 0} (P : List ℕ → Data → Cell → Type 0) (f : A → Cell) (name : String Global) (d : Data) (x : A) (ms : Members) (es : List (String Global × A)) → P (string_bytes name) d (f x) → MembersShow P ms (entries f es)
+shown_put : {A : Type 0} (P : List ℕ → Data → Cell → Type 0) (f : A → Cell) (name : String Global) (d : Data) (x : A) (ms : Members) (es : List (String Global × A)) → P (string_bytes name) d (f x) → MembersShow P ms (entries f es)
     → MembersShow P (put (string_bytes name) d ms) (entries f (insert_entry string_cmp es name x))
 shown_put P f name d x no_members [] s h = (refl, s, tt)
 shown_put P f name d x no_members (e ∷ es) s h = absurd h
@@ -80,6 +89,11 @@ shown_put P f name d x (member l y ms) (e ∷ es) s h = rw h.0 (at (slice_cmp na
     at Less is more = (refl, s, (refl, here, h.2))
     at Equal is more = (refl, subst (λ k. P k d (f x)) ((bytes_eq-Decides (string_bytes name) (string_bytes e.0)).0 (sym (is_eq-slice_cmp (string_bytes name) (string_bytes e.0)) ∙ ap is_eq is)) s, h.2)
     at Greater is more = (refl, here, more)
+
+-- the same of a key that the name spells, and of the entries that came of it
+pub shown_put_as : {A : Type 0} (P : List ℕ → Data → Cell → Type 0) (f : A → Cell) (k : List ℕ) (name : String Global) (d : Data) (x : A) (ms : Members) (es after : List (String Global × A)) → string_bytes name ≡ k → after ≡ insert_entry string_cmp es name x → P k d (f x) → MembersShow P ms (entries f es)
+    → MembersShow P (put k d ms) (entries f after)
+shown_put_as P f k name d x ms es after named made s h = rw (← named, made) (shown_put P f name d x ms es (subst (λ l. P l d (f x)) (sym named) s) h)
 
 -- where one of them shows nothing, all show nothing
 pub shown_nowhere : (P : List ℕ → Data → Cell → Type 0) (k : List ℕ) (d : Data) (ms : Members) (es : Entries) → get_member k ms ≡ Some d → ((c : Cell) → P k d c → ⊥) → MembersShow P ms es → ⊥

@@ -17,6 +17,7 @@ use sentry_json::Node;
 use serde_json::{Map, Value};
 use std::alloc::Global;
 use std::borrow::CowStr;
+use std::collections::btree_map::Entry;
 
 /// A type whose values are read from JSON trees, without the caller's `now` or a generator of ids.
 pub trait FromTree: Member {
@@ -231,11 +232,11 @@ impl<T: FromTree> FromTree for Map<String, T> {
         while left > 0 {
             left -= 1;
             let member = &members[left];
-            if map.contains_key(member.key) {
-                continue;
-            }
             let name = String::from_str(alloc, member.key)?;
-            drop(map.insert(name, T::from_node(alloc, &member.node)?)?);
+            // A member whose key comes again later isn't even read.
+            if let Entry::Vacant(place) = map.entry(name)? {
+                place.insert(T::from_node(alloc, &member.node)?);
+            }
         }
         Ok(map)
     }

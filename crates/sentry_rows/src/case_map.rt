@@ -19,6 +19,7 @@ use sentry_members::{Codec, Formed, Member, TreeError, Way};
 use sentry_moments::Moment;
 use serde_json::{Map, Value};
 use std::alloc::{AllocError, Global};
+use std::collections::btree_map::Entry;
 
 /// A type of several cases whose maps name a case by the key if the tag is absent.
 pub trait CasedByKey: Cased + Formed<Form = AsCase> {
@@ -154,14 +155,11 @@ pub fn read_case_map<T: ReadCasedAt, N: Node, R: Rng>(
     while left > 0 {
         left -= 1;
         let member = &members[left];
-        if map.contains_key(member.key) {
-            continue;
-        }
         let name = String::from_str(alloc, member.key)?;
-        drop(map.insert(
-            name,
-            read_entry(alloc, &member.node, member.key, fallback, now, ids)?,
-        )?);
+        // A member whose key comes again later isn't even read.
+        if let Entry::Vacant(place) = map.entry(name)? {
+            place.insert(read_entry(alloc, &member.node, member.key, fallback, now, ids)?);
+        }
     }
     Ok(map)
 }

@@ -1,4 +1,4 @@
-use Rattle.std.proofs.Common.{◌≡◌, Some, drop, arith, rules, true, false, zero, subst, sym, ◌∙◌, string_bytes}
+use Rattle.std.proofs.Common.{◌≡◌, drop, arith, rules, true, false, zero, subst}
 use Rattle.std.specs.Prelude.{is_some}
 use Rattle.std.proofs.lemmas.List.{drop_all}
 use Rattle.serde_json.specs.Find.{get_member}
@@ -8,7 +8,7 @@ use Rattle.sentry_tables.specs.Kind.{tagged_map}
 use Rattle.sentry_tables.specs.Shows.{MembersShow}
 use Rattle.sentry_members.specs.Cells.{entries}
 use Rattle.sentry_members.specs.Reading.{Only, RefusedAt}
-use Rattle.sentry_members.proofs.ListsShown.{shown_key, shown_put}
+use Rattle.sentry_members.proofs.ListsShown.{shown_name, shown_still, shown_put_as}
 use Rattle.sentry_moments.specs.Moments.{moment_cell}
 use Rattle.sentry_rows.specs.Cased.{ShowsEntry}
 use Rattle.sentry_rows.proofs.CaseMaps.{no_map, map_fails, map_shown, entry_shown}
@@ -23,40 +23,43 @@ loop-left-init g c = (omega arith, rw (drop_all c.len-left.result c.in-Some.memb
 pub index-member-requires : goal.index-member-requires
 index-member-requires g c = omega (arith, c.loop-left.invariant.0)
 
-pub loop-left-preserved-then-contains_key : goal.loop-left-preserved-then-contains_key
-loop-left-preserved-then-contains_key g c =
-    let l = c.loop-left in
-    let ms = c.in-Some.members.items in
-    let m = c.index-member.result.now in
-    let later : is_some (get_member m.key.now (named_by g.N.Node.data_of (drop l.left ms))) ≡ true =
-    sym (shown_key (ShowsEntry g.T.Cased.cases c.args.fallback.now (moment_cell c.args.now)) g.T.Cased.choice_of m.key.now _ l.map.entries l.invariant.1) ∙ sym c.contains_key.ensures ∙ c.if-contains_key.true in
-    (omega (arith, l.invariant.0), rw (one_passed_over g.N.Node.data_of ms l.left m (omega arith) l.invariant.0 c.index-member.ensures later) l.invariant.1)
-
-pub returns-in_err-read_entry : goal.returns-in_err-read_entry
-returns-in_err-read_entry g c =
-    let l = c.loop-left in
-    let ms = c.in-Some.members.items in
-    let m = c.index-member.result.now in
-    let last : is_some (get_member m.key.now (named_by g.N.Node.data_of (drop l.left ms))) ≡ false =
-    sym (shown_key (ShowsEntry g.T.Cased.cases c.args.fallback.now (moment_cell c.args.now)) g.T.Cased.choice_of m.key.now _ l.map.entries l.invariant.1) ∙ sym c.contains_key.ensures ∙ c.if-contains_key.false in
-    let at = one_counts g.N.Node.data_of ms l.left m (omega arith) l.invariant.0 c.index-member.ensures last in
-    let h : Only c.in_err-read_entry.field-0.0 (RefusedAt (moment_cell c.args.now) (tagged_map g.T.Cased.cases c.args.fallback.now) (g.N.Node.data_of c.args.node.now)) =
-    map_fails _ _ _ _ (named_by g.N.Node.data_of ms) m.key.now (g.N.Node.data_of m.node) _ (search rules) at c.in_err-read_entry.ensures in
-    search rules
-
 pub loop-left-preserved : goal.loop-left-preserved
 loop-left-preserved g c =
     let l = c.loop-left in
     let ms = c.in-Some.members.items in
     let m = c.index-member.result.now in
     let P = ShowsEntry g.T.Cased.cases c.args.fallback.now (moment_cell c.args.now) in
-    let last : is_some (get_member m.key.now (named_by g.N.Node.data_of (drop l.left ms))) ≡ false =
-    sym (shown_key P g.T.Cased.choice_of m.key.now _ l.map.entries l.invariant.1) ∙ sym c.contains_key.ensures ∙ c.if-contains_key.false in
-    let named : string_bytes c.in_ok-name.name ≡ m.key.now = c.in_ok-name.ensures.ok in
-    let shown = entry_shown _ _ _ _ _ _ c.in_ok-read_entry.ensures in (
+    let later : is_some (get_member m.key.now (named_by g.N.Node.data_of (drop l.left ms))) ≡ true =
+    shown_name P g.T.Cased.choice_of m.key.now c.in_ok-name.name _ l.map true c.in_ok-name.ensures.ok l.invariant.1 (search rules) in (
       omega (arith, l.invariant.0),
-      rw (one_put g.N.Node.data_of ms l.left m (omega arith) l.invariant.0 c.index-member.ensures last, ← named, c.in_ok-insert.ensures.entries)
-          (shown_put P g.T.Cased.choice_of c.in_ok-name.name _ c.in_ok-read_entry.field-0 _ l.map.entries (subst (λ k. P k (g.N.Node.data_of m.node) (g.T.Cased.choice_of c.in_ok-read_entry.field-0)) (sym named) shown) l.invariant.1),
+      rw (one_passed_over g.N.Node.data_of ms l.left m (omega arith) l.invariant.0 c.index-member.ensures later)
+          (shown_still P g.T.Cased.choice_of _ l.map.entries _ (search rules) l.invariant.1),
+    )
+
+pub returns-in_err-read_entry : goal.returns-in_err-read_entry
+returns-in_err-read_entry g c =
+    let l = c.loop-left in
+    let ms = c.in-Some.members.items in
+    let m = c.index-member.result.now in
+    let P = ShowsEntry g.T.Cased.cases c.args.fallback.now (moment_cell c.args.now) in
+    let last : is_some (get_member m.key.now (named_by g.N.Node.data_of (drop l.left ms))) ≡ false =
+    shown_name P g.T.Cased.choice_of m.key.now c.in_ok-name.name _ l.map false c.in_ok-name.ensures.ok l.invariant.1 (search rules) in
+    let at = one_counts g.N.Node.data_of ms l.left m (omega arith) l.invariant.0 c.index-member.ensures last in
+    let h : Only c.in_err-read_entry.field-0.0 (RefusedAt (moment_cell c.args.now) (tagged_map g.T.Cased.cases c.args.fallback.now) (g.N.Node.data_of c.args.node.now)) =
+    map_fails _ _ _ _ (named_by g.N.Node.data_of ms) m.key.now (g.N.Node.data_of m.node) _ (search rules) at c.in_err-read_entry.ensures in
+    search rules
+
+pub loop-left-preserved-in-Vacant : goal.loop-left-preserved-in-Vacant
+loop-left-preserved-in-Vacant g c =
+    let l = c.loop-left in
+    let ms = c.in-Some.members.items in
+    let m = c.index-member.result.now in
+    let P = ShowsEntry g.T.Cased.cases c.args.fallback.now (moment_cell c.args.now) in
+    let last : is_some (get_member m.key.now (named_by g.N.Node.data_of (drop l.left ms))) ≡ false =
+    shown_name P g.T.Cased.choice_of m.key.now c.in_ok-name.name _ l.map false c.in_ok-name.ensures.ok l.invariant.1 (search rules) in (
+      omega (arith, l.invariant.0),
+      rw (one_put g.N.Node.data_of ms l.left m (omega arith) l.invariant.0 c.index-member.ensures last)
+          (shown_put_as P g.T.Cased.choice_of _ c.in_ok-name.name _ c.in_ok-read_entry.field-0 _ l.map.entries _ c.in_ok-name.ensures.ok (search rules) (entry_shown _ _ _ _ _ _ c.in_ok-read_entry.ensures) l.invariant.1),
     )
 
 pub returns : goal.returns

@@ -1,4 +1,4 @@
-use Rattle.std.proofs.Common.{◌≡◌, Some, None, drop, arith, rules, true, false, zero, subst, sym, ◌∙◌, string_bytes}
+use Rattle.std.proofs.Common.{◌≡◌, drop, arith, rules, true, false, zero, subst}
 use Rattle.std.specs.Prelude.{is_some}
 use Rattle.std.proofs.lemmas.List.{drop_all}
 use Rattle.serde_json.specs.Find.{get_member}
@@ -9,7 +9,7 @@ use Rattle.sentry_members.specs.Reading.{Only, Refused}
 use Rattle.sentry_tables.specs.Cell.{absent}
 use Rattle.sentry_tables.specs.Kind.{map}
 use Rattle.sentry_tables.specs.Shows.{Shows, MembersShow}
-use Rattle.sentry_members.proofs.ListsShown.{not_map, map_fails, map_shown, shown_key, shown_put, shown_when}
+use Rattle.sentry_members.proofs.ListsShown.{not_map, map_fails, map_shown, shown_name, shown_still, shown_put_as, shown_when}
 use Rattle.sentry_members.proofs.read.MapStringFromTree.from_node.Goals as goal
 
 pub returns-in-None : goal.returns-in-None
@@ -21,14 +21,18 @@ loop-left-init g c = (omega arith, λ now. rw (drop_all c.len-left.result c.in-S
 pub index-member-requires : goal.index-member-requires
 index-member-requires g c = omega (arith, c.loop-left.invariant.0)
 
-pub loop-left-preserved-then-contains_key : goal.loop-left-preserved-then-contains_key
-loop-left-preserved-then-contains_key g c =
+pub loop-left-preserved : goal.loop-left-preserved
+loop-left-preserved g c =
     let l = c.loop-left in
     let ms = c.in-Some.members.items in
     let m = c.index-member.result.now in
     let later : is_some (get_member m.key.now (named_by g.N.Node.data_of (drop l.left ms))) ≡ true =
-    sym (shown_key (λ k. Shows g.T.Member.kind absent) g.T.Member.cell_of m.key.now _ l.map.entries (l.invariant.1 absent)) ∙ sym c.contains_key.ensures ∙ c.if-contains_key.true in
-    (omega (arith, l.invariant.0), λ now. rw (one_passed_over g.N.Node.data_of ms l.left m (omega arith) l.invariant.0 c.index-member.ensures later) (l.invariant.1 now))
+    shown_name (λ k. Shows g.T.Member.kind absent) g.T.Member.cell_of m.key.now c.in_ok-name.name _ l.map true c.in_ok-name.ensures.ok (l.invariant.1 absent) (search rules) in (
+      omega (arith, l.invariant.0),
+      λ now.
+          rw (one_passed_over g.N.Node.data_of ms l.left m (omega arith) l.invariant.0 c.index-member.ensures later)
+          (shown_still (λ k. Shows g.T.Member.kind now) g.T.Member.cell_of _ l.map.entries _ (search rules) (l.invariant.1 now)),
+    )
 
 pub returns-in_err-from_node : goal.returns-in_err-from_node
 returns-in_err-from_node g c =
@@ -36,24 +40,23 @@ returns-in_err-from_node g c =
     let ms = c.in-Some.members.items in
     let m = c.index-member.result.now in
     let last : is_some (get_member m.key.now (named_by g.N.Node.data_of (drop l.left ms))) ≡ false =
-    sym (shown_key (λ k. Shows g.T.Member.kind absent) g.T.Member.cell_of m.key.now _ l.map.entries (l.invariant.1 absent)) ∙ sym c.contains_key.ensures ∙ c.if-contains_key.false in
+    shown_name (λ k. Shows g.T.Member.kind absent) g.T.Member.cell_of m.key.now c.in_ok-name.name _ l.map false c.in_ok-name.ensures.ok (l.invariant.1 absent) (search rules) in
     let at = one_counts g.N.Node.data_of ms l.left m (omega arith) l.invariant.0 c.index-member.ensures last in
     let h : Only c.in_err-from_node.field-0.0 (Refused (map g.T.Member.kind) (g.N.Node.data_of c.args.node.now)) =
     map_fails _ _ (named_by g.N.Node.data_of ms) m.key.now (g.N.Node.data_of m.node) _ (search rules) at c.in_err-from_node.ensures in
     search rules
 
-pub loop-left-preserved : goal.loop-left-preserved
-loop-left-preserved g c =
+pub loop-left-preserved-in-Vacant : goal.loop-left-preserved-in-Vacant
+loop-left-preserved-in-Vacant g c =
     let l = c.loop-left in
     let ms = c.in-Some.members.items in
     let m = c.index-member.result.now in
     let last : is_some (get_member m.key.now (named_by g.N.Node.data_of (drop l.left ms))) ≡ false =
-    sym (shown_key (λ k. Shows g.T.Member.kind absent) g.T.Member.cell_of m.key.now _ l.map.entries (l.invariant.1 absent)) ∙ sym c.contains_key.ensures ∙ c.if-contains_key.false in
-    let named : string_bytes c.in_ok-name.name ≡ m.key.now = c.in_ok-name.ensures.ok in (
+    shown_name (λ k. Shows g.T.Member.kind absent) g.T.Member.cell_of m.key.now c.in_ok-name.name _ l.map false c.in_ok-name.ensures.ok (l.invariant.1 absent) (search rules) in (
       omega (arith, l.invariant.0),
       λ now.
-          rw (one_put g.N.Node.data_of ms l.left m (omega arith) l.invariant.0 c.index-member.ensures last, ← named, c.in_ok-insert.ensures.entries)
-          (shown_put (λ k. Shows g.T.Member.kind now) g.T.Member.cell_of c.in_ok-name.name _ c.in_ok-from_node.field-0 _ l.map.entries (shown_when now _ _ _ c.in_ok-from_node.ensures) (l.invariant.1 now)),
+          rw (one_put g.N.Node.data_of ms l.left m (omega arith) l.invariant.0 c.index-member.ensures last)
+          (shown_put_as (λ k. Shows g.T.Member.kind now) g.T.Member.cell_of _ c.in_ok-name.name _ c.in_ok-from_node.field-0 _ l.map.entries _ c.in_ok-name.ensures.ok (search rules) (shown_when now _ _ _ c.in_ok-from_node.ensures) (l.invariant.1 now)),
     )
 
 pub returns : goal.returns
