@@ -23,6 +23,9 @@ use sentry_members::{Member, write_text};
 use std::alloc::{AllocError, Global};
 use std::mem;
 
+// Room for the text of a small envelope: a buffer that has it needn't grow step by step.
+const ROOM: usize = 512;
+
 pub(crate) fn write_envelope(
     alloc: Global,
     headers: &EnvelopeHeaders,
@@ -34,11 +37,11 @@ pub(crate) fn write_envelope(
         envelope_text profile
         (record { header = headers_cell headers.now; items = map item_view items.now })) }
 {
-    let mut out = Vec::new(alloc);
+    let mut out = Vec::with_capacity(alloc, ROOM)?;
     write_headers(headers, &mut out)?;
     out.push(b'\n')?;
-    let mut line = Vec::new(alloc);
-    let mut payload = Vec::new(alloc);
+    let mut line = Vec::with_capacity(alloc, ROOM)?;
+    let mut payload = Vec::with_capacity(alloc, ROOM)?;
     for item in items {
         write_item(alloc, item, &mut line, &mut payload, &mut out)?;
     }

@@ -1,3 +1,4 @@
+use Rattle.std.proofs.Common.{rules, ◌≡◌, []}
 use Rattle.std.specs.Prelude.{map}
 use Rattle.sentry_envelope.specs.EnvelopeView.{item_view}
 use Rattle.sentry_envelope.specs.HeaderFields.{headers_cell}
@@ -5,11 +6,12 @@ use Rattle.sentry_envelope.proofs.Sent.{envelope_begun, item_written}
 use Rattle.sentry_envelope.proofs.write.write_envelope.Goals as goal
 
 pub loop-item-init : goal.loop-item-init
-loop-item-init c = λ ready. (
-  ready.1,
-  envelope_begun (headers_cell c.args.headers.now) (map item_view c.args.items.now) _ c.push.new.self.items
-      (rw c.new-out.ensures.items at c.in_ok-write_headers.ensures ready.0) c.in_ok-push.ensures.items,
-)
+loop-item-init c = λ ready.
+    let none : c.in_ok-out.out.items ≡ [] = search rules in (
+      ready.1,
+      envelope_begun (headers_cell c.args.headers.now) (map item_view c.args.items.now) _ c.push.new.self.items
+          (rw none at c.in_ok-write_headers.ensures ready.0) c.in_ok-push.ensures.items,
+    )
 
 pub loop-item-preserved : goal.loop-item-preserved
 loop-item-preserved c = λ ready.
