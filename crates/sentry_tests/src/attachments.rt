@@ -1,7 +1,7 @@
 //! Attachments, recordings and containers by themselves: clones and normal forms, and writers that
 //! fail.
 
-use crate::wanted::{is_same, wanted};
+use crate::wanted::{holds, is_same, wanted};
 use crate::writers::Full;
 use sentry_types::protocol::v7::{
     Attachment, AttachmentWriteError, ItemContainer, Log, ReplayRecording,
@@ -12,12 +12,15 @@ use std::test::Fail;
 const HELLO: &[u8] =
     b"{\"attachment_type\":\"event.attachment\",\"content_type\":\"application/octet-stream\",\"filename\":\"\",\"length\":10,\"type\":\"attachment\"}\nhelloworld";
 
-/// An attachment of `helloworld`.
-fn hello(alloc: Global) -> Result<Attachment, AllocError> {
-    let buffer = b"helloworld".to_vec(alloc)?;
-    let mut attachment = Attachment::default_in(alloc);
-    attachment.buffer = buffer;
-    Ok(attachment)
+/// An attachment of these bytes.
+pub(crate) fn attachment(alloc: Global, bytes: &[u8]) -> Result<Attachment, AllocError> {
+    let buffer = bytes.to_vec(alloc)?;
+    Ok(Attachment {
+        buffer,
+        filename: String::new(alloc),
+        content_type: None,
+        ty: None,
+    })
 }
 
 /// Whether a writer with so much room, which takes so many bytes at once, gets that much of the
@@ -38,13 +41,16 @@ fn is_cut(
     ended && out.holds(HELLO, room)
 }
 
-/// Whether a writer that takes so many bytes at once gets as much of the text as it has room for.
-fn is_written(alloc: Global, attachment: &Attachment, at_once: usize) -> bool {
-    for room in 0..HELLO.len() + 1 {
-        if !is_cut(alloc, attachment, room, at_once, false)
-            || !is_cut(alloc, attachment, room, at_once, true)
-        {
-            return false;
+/// Whether a writer, however many bytes it takes at once, gets as much of the text as it has room
+/// for.
+fn is_written(alloc: Global, attachment: &Attachment) -> bool {
+    for at_once in [1, 7, 1000] {
+        for room in 0..HELLO.len() + 1 {
+            if !is_cut(alloc, attachment, room, at_once, false)
+                || !is_cut(alloc, attachment, room, at_once, true)
+            {
+                return false;
+            }
         }
     }
     true
@@ -52,12 +58,8 @@ fn is_written(alloc: Global, attachment: &Attachment, at_once: usize) -> bool {
 
 #[test]
 fn a_failed_write_ends_an_attachment(rt: HostRuntime) -> Result<(), Fail> {
-    let attachment = hello(rt.alloc())?;
-    let written = is_written(rt.alloc(), &attachment, 1)
-        && is_written(rt.alloc(), &attachment, 7)
-        && is_written(rt.alloc(), &attachment, 1000);
-    drop(attachment);
-    wanted(written)
+    let alloc = rt.alloc();
+    wanted(holds(alloc, attachment(alloc, b"helloworld"), is_written))
 }
 
 /// Whether a recording of one byte is its clone and its normal form.
@@ -74,10 +76,17 @@ fn recordings(rt: HostRuntime) -> Result<(), Fail> {
     wanted(is_steady(&recording))
 }
 
+/// A container without logs.
+fn no_logs(alloc: Global) -> Result<ItemContainer, AllocError> {
+    Ok(ItemContainer::from(Vec::<Log>::new(alloc)))
+}
+
+/// Whether a container of logs is empty, and is its clone.
+fn is_empty(_alloc: Global, logs: &ItemContainer) -> bool {
+    is_same(logs.clone(), logs) && logs.is_empty() && logs.ty() == "log"
+}
+
 #[test]
 fn containers(rt: HostRuntime) -> Result<(), Fail> {
-    let logs = ItemContainer::from(Vec::<Log>::new(rt.alloc()));
-    let same = is_same(logs.clone(), &logs) && logs.is_empty() && logs.ty() == "log";
-    drop(logs);
-    wanted(same)
+    wanted(holds(rt.alloc(), no_logs(rt.alloc()), is_empty))
 }

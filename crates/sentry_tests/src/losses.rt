@@ -1,10 +1,11 @@
 //! What is lost with sources that no line of text gives: lists of losses, and items alone.
 
+use crate::attachments::attachment;
 use crate::wanted::wanted;
 use sentry_types::protocol::v7::client_report::{
     Category, Item, ItemLoss, LossSlice, LossSource, Reason,
 };
-use sentry_types::protocol::v7::{Attachment, EnvelopeItem, ReplayRecording};
+use sentry_types::protocol::v7::{EnvelopeItem, ReplayRecording};
 use std::test::Fail;
 
 /// What a loss says, as one text.
@@ -39,11 +40,9 @@ fn losses_of_sources(rt: HostRuntime) -> Result<(), Fail> {
         },
     ];
     let rows = [("error", 2, "before_send"), ("session", 0, "none")];
-    let buffer = b"twelve bytes".to_vec(rt.alloc())?;
-    let mut file = Attachment::default_in(rt.alloc());
-    file.buffer = buffer;
-    let recording = ReplayRecording::default_in(rt.alloc());
+    let file = attachment(rt.alloc(), b"twelve bytes")?;
     let of_file = gives(file, &[("attachment", 12, "none")]);
+    let recording = ReplayRecording::default_in(rt.alloc());
     let of_recording = gives(recording, &[("replay", 1, "none")]);
     wanted(
         gives(LossSlice(&[]), &[])
