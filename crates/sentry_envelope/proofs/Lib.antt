@@ -32,4 +32,3 @@ pub mod LossLemmas
 pub mod FilterLemmas
 pub mod Equal
 pub mod Accepted
-pub mod LineTrees

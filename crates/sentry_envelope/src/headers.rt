@@ -4,12 +4,11 @@ ghost use Rattle.std.specs.Prelude.{◌≡◌, ◌⊎◌, IfOk, IfErr};
 ghost use Rattle.sentry_members.specs.Reading.{TextShown, TextRefused};
 ghost use Rattle.sentry_envelope.specs.HeaderFields.{header_fields, header_in_order, header_kind, headers_cell};
 
-use crate::lines::read_flat_line;
-use sentry_framing::{EnvelopeError, LazyScratch};
+use sentry_framing::EnvelopeError;
 use sentry_identifiers::Hyphenated;
 use sentry_json::Node;
 use sentry_keys::Dsn;
-use sentry_members::{Formed, Member, TreeError};
+use sentry_members::{Formed, LineReader, Member, TreeError};
 use sentry_moments::{Moment, Rfc3339};
 use sentry_parts::ClientSdkInfo;
 use sentry_records::DynamicSamplingContext;
@@ -240,16 +239,15 @@ impl CopyTable for EnvelopeHeaders {
     }
 }
 
-pub(crate) fn read_header_line(
-    alloc: Global,
-    line: &[u8],
-    scratch: &mut LazyScratch,
+pub(crate) fn read_header_line<'a>(
+    lines: &mut LineReader<'_, 'a>,
+    line: &'a [u8],
 ) -> Result<EnvelopeHeaders, EnvelopeError>
     ensures ok { IfOk result (λ headers. TextShown header_kind line.now (headers_cell headers)) }
     ensures err { IfErr result (λ e. (e ≡ EnvelopeError.OutOfMemory)
         ⊎ ((e ≡ EnvelopeError.InvalidHeader) × TextRefused header_kind line.now)) }
 {
-    match read_flat_line::<EnvelopeHeaders>(alloc, line, scratch) {
+    match lines.read::<EnvelopeHeaders>(line) {
         Ok(headers) => Ok(headers),
         Err(TreeError::Misfit) => Err(EnvelopeError::InvalidHeader),
         Err(TreeError::Memory) => Err(EnvelopeError::OutOfMemory),

@@ -11,7 +11,6 @@ mod filtering;
 pub mod headers;
 pub mod items;
 pub mod laws;
-mod lines;
 mod losses;
 mod payload;
 mod plain;

@@ -15,37 +15,37 @@ ghost use Rattle.sentry_moments.specs.Moments.{moment_cell};
 ghost use Rattle.sentry_envelope.specs.SentryProfile.{profile};
 ghost use Rattle.sentry_framing.specs.View.{frame_of};
 
-use crate::lines::{read_payload, read_payload_at};
 use crate::payload::Payload;
+use crate::timed::read_at;
 use rand_core::Rng;
 use sentry_event::{Event, Transaction};
 use sentry_framing::frames::next_item_into;
-use sentry_framing::{EnvelopeError, Frames, ItemFrame, ItemHeader, ItemKind, LazyScratch};
+use sentry_framing::{EnvelopeError, Frames, ItemFrame, ItemHeader, ItemKind};
 use sentry_items::{Attachment, AttachmentType, EnvelopeItem, Listed, ReplayRecording};
-use sentry_members::{FromTree, TreeError};
+use sentry_members::{FromTree, LineReader, TreeError};
 use sentry_moments::Moment;
 use sentry_records::{Log, Metric, MonitorCheckIn, SessionAggregates, SessionUpdate, UserReport};
 use sentry_reports::Report;
 use sentry_rows::FromTreeAt;
 use std::alloc::{AllocError, Global};
 
-pub(crate) fn read_items<R: Rng>(
-    alloc: Global,
-    frames: &mut Frames<'_>,
+pub(crate) fn read_items<'a, R: Rng>(
+    lines: &mut LineReader<'_, 'a>,
+    frames: &mut Frames<'a>,
     now: Moment,
     ids: &mut R,
-    scratch: &mut LazyScratch,
 ) -> Result<Vec<EnvelopeItem>, EnvelopeError>
     ensures ok { IfOk result (λ items.
         ItemsStand profile (moment_cell now) frames.old.rest (map item_view items.items) []) }
     ensures err { IfErr result (λ e. e ≢ EnvelopeError.OutOfMemory →
         BodyIsAtFault profile frames.old.rest e) }
 {
-    let mut items = Vec::new(alloc);
+    // Most envelopes have one item, and few bytes are asked for more cheaply than room for four.
+    let mut items = Vec::with_capacity(lines.alloc(), 1)?;
     let mut header = ItemHeader::new();
-    while let Some(answer) = next_item_into(frames, alloc, scratch, &mut header) {
+    while let Some(answer) = next_item_into(frames, lines, &mut header) {
         let frame = answer?;
-        add_item(alloc, &frame, &mut header, now, ids, scratch, &mut items)?;
+        add_item(lines, &frame, &mut header, now, ids, &mut items)?;
     }
     Ok(items)
 }
@@ -55,13 +55,12 @@ pub(crate) fn read_items<R: Rng>(
 // An item is large, and each stack slot that may hold one is cleared on entry to a function. Each
 // type of payload is therefore read, and its item appended, by a function of its own, and a small
 // item doesn't pay for the slots of the others.
-fn add_item<R: Rng>(
-    alloc: Global,
-    frame: &ItemFrame<'_>,
+fn add_item<'a, R: Rng>(
+    lines: &mut LineReader<'_, 'a>,
+    frame: &ItemFrame<'a>,
     header: &mut ItemHeader,
     now: Moment,
     ids: &mut R,
-    scratch: &mut LazyScratch,
     items: &mut Vec<EnvelopeItem>,
 ) -> Result<(), EnvelopeError>
     requires { read_header item_words (frame_of frame.now).header ≡ Some (header_view header.old) }
@@ -71,9 +70,9 @@ fn add_item<R: Rng>(
         ⊎ ((e ≡ EnvelopeError.InvalidItemPayload) × FrameIsRefused profile (frame_of frame.now))) }
 {
     match header.kind {
-        ItemKind::Attachment => add_attachment(alloc, frame.payload, header, items),
-        ItemKind::ReplayRecording => add_recording(alloc, frame.payload, items),
-        _ => add_json_item(alloc, frame, header, now, ids, scratch, items),
+        ItemKind::Attachment => add_attachment(lines.alloc(), frame.payload, header, items),
+        ItemKind::ReplayRecording => add_recording(lines.alloc(), frame.payload, items),
+        _ => add_json_item(lines, frame, header, now, ids, items),
     }
 }
 
@@ -111,13 +110,12 @@ fn add_recording(
 }
 
 #[inline(never)]
-fn add_json_item<R: Rng>(
-    alloc: Global,
-    frame: &ItemFrame<'_>,
+fn add_json_item<'a, R: Rng>(
+    lines: &mut LineReader<'_, 'a>,
+    frame: &ItemFrame<'a>,
     header: &ItemHeader,
     now: Moment,
     ids: &mut R,
-    scratch: &mut LazyScratch,
     items: &mut Vec<EnvelopeItem>,
 ) -> Result<(), EnvelopeError>
     requires read { read_header item_words (frame_of frame.now).header ≡
@@ -131,35 +129,30 @@ fn add_json_item<R: Rng>(
 {
     let payload = frame.payload;
     match header.kind {
-        ItemKind::Event => {
-            add_value_at::<Event<'static>, R>(alloc, payload, now, ids, scratch, items)
-        }
+        ItemKind::Event => { add_value_at::<Event<'static>, R>(lines, payload, now, ids, items) }
         ItemKind::SessionUpdate => {
-            add_value_at::<SessionUpdate<'static>, R>(alloc, payload, now, ids, scratch, items)
+            add_value_at::<SessionUpdate<'static>, R>(lines, payload, now, ids, items)
         }
         ItemKind::SessionAggregates => {
-            add_value::<SessionAggregates<'static>>(alloc, payload, scratch, items)
+            add_value::<SessionAggregates<'static>>(lines, payload, items)
         }
         ItemKind::Transaction => {
-            add_value_at::<Transaction<'static>, R>(alloc, payload, now, ids, scratch, items)
+            add_value_at::<Transaction<'static>, R>(lines, payload, now, ids, items)
         }
-        ItemKind::MonitorCheckIn => add_value::<MonitorCheckIn>(alloc, payload, scratch, items),
-        ItemKind::UserReport => add_value::<UserReport>(alloc, payload, scratch, items),
-        ItemKind::Logs => add_value::<Listed<Log>>(alloc, payload, scratch, items),
-        ItemKind::Metrics => add_value::<Listed<Metric>>(alloc, payload, scratch, items),
-        ItemKind::ClientReport => {
-            add_value_at::<Report, R>(alloc, payload, now, ids, scratch, items)
-        }
+        ItemKind::MonitorCheckIn => add_value::<MonitorCheckIn>(lines, payload, items),
+        ItemKind::UserReport => add_value::<UserReport>(lines, payload, items),
+        ItemKind::Logs => add_value::<Listed<Log>>(lines, payload, items),
+        ItemKind::Metrics => add_value::<Listed<Metric>>(lines, payload, items),
+        ItemKind::ClientReport => { add_value_at::<Report, R>(lines, payload, now, ids, items) }
         ItemKind::Attachment | ItemKind::ReplayRecording => unreachable!(),
     }
 }
 
 // Appends the item of a value that a payload holds.
 #[inline(never)]
-fn add_value<T: FromTree + Payload>(
-    alloc: Global,
-    payload: &[u8],
-    scratch: &mut LazyScratch,
+fn add_value<'a, T: FromTree + Payload>(
+    lines: &mut LineReader<'_, 'a>,
+    payload: &'a [u8],
     items: &mut Vec<EnvelopeItem>,
 ) -> Result<(), EnvelopeError>
     ensures ok { OnOk result (IsValueAdded (λ v. TextShown T.kind payload.now (T.cell_of v))
@@ -167,19 +160,18 @@ fn add_value<T: FromTree + Payload>(
     ensures err { IfErr result (λ e. (e ≡ EnvelopeError.OutOfMemory)
         ⊎ ((e ≡ EnvelopeError.InvalidItemPayload) × TextRefused T.kind payload.now)) }
 {
-    let value: T = read_payload(alloc, payload, scratch).map_err(payload_error)?;
-    items.push(value.into_item(alloc)?)?;
+    let value: T = lines.read(payload).map_err(payload_error)?;
+    items.push(value.into_item(lines.alloc())?)?;
     Ok(())
 }
 
 // The same of a payload whose absent moments and ids are filled.
 #[inline(never)]
-fn add_value_at<T: FromTreeAt + Payload, R: Rng>(
-    alloc: Global,
-    payload: &[u8],
+fn add_value_at<'a, T: FromTreeAt + Payload, R: Rng>(
+    lines: &mut LineReader<'_, 'a>,
+    payload: &'a [u8],
     now: Moment,
     ids: &mut R,
-    scratch: &mut LazyScratch,
     items: &mut Vec<EnvelopeItem>,
 ) -> Result<(), EnvelopeError>
     ensures ok { OnOk result (IsValueAdded
@@ -189,8 +181,8 @@ fn add_value_at<T: FromTreeAt + Payload, R: Rng>(
         ⊎ ((e ≡ EnvelopeError.InvalidItemPayload) ×
         TextRefusedAt (moment_cell now) T.kind payload.now)) }
 {
-    let value: T = read_payload_at(alloc, payload, now, ids, scratch).map_err(payload_error)?;
-    items.push(value.into_item(alloc)?)?;
+    let value: T = read_at(lines, payload, now, ids).map_err(payload_error)?;
+    items.push(value.into_item(lines.alloc())?)?;
     Ok(())
 }
 

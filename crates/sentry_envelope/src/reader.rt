@@ -12,15 +12,17 @@ use crate::filtering::first_id;
 use crate::headers::read_header_line;
 use crate::read::read_items;
 use rand_core::Rng;
-use sentry_framing::{EnvelopeError, Frames, LazyScratch};
+use sentry_framing::{EnvelopeError, Frames};
+use sentry_members::{LazyScratch, LineReader};
 use sentry_moments::Moment;
 use std::alloc::Global;
 
 /// A reader that keeps its working memory from one envelope to the next.
 ///
-/// Whoever reads many envelopes makes one reader: [`Envelope::from_slice`] clears 16 KiB of working
-/// memory for each envelope with a line that isn't flat, and asks for more where a line is long. The
-/// reader holds on to some four bytes for each byte of the longest line it has read.
+/// Whoever reads many envelopes with white space in their JSON makes one reader:
+/// [`Envelope::from_slice`] clears 16 KiB of working memory for each envelope with such a line, and
+/// asks for more where it is long. The reader holds on to some four bytes for each byte of the
+/// longest of these lines.
 #[derive(Drop)]
 pub struct EnvelopeReader {
     alloc: Global,
@@ -77,9 +79,10 @@ pub(crate) fn read_with<R: Rng>(
         envelope_text profile m ≡ envelope_text profile (envelope_norm profile m))) }
     ensures fault { IfErr result (λ x. x ≢ EnvelopeError.OutOfMemory → Fault profile bytes.now x) }
 {
+    let mut lines = LineReader::new(alloc, scratch);
     let mut frames = Frames::new(bytes);
-    let headers = read_header_line(alloc, frames.header_line(), scratch)?;
-    let items = read_items(alloc, &mut frames, now, ids, scratch)?;
+    let headers = read_header_line(&mut lines, frames.header_line())?;
+    let items = read_items(&mut lines, &mut frames, now, ids)?;
     Ok(Envelope {
         headers: headers.fill_id(first_id(&items)),
         contents: Contents::Items(items),

@@ -3,10 +3,9 @@
 ghost use Rattle.sentry_members.specs.Reading.{ReadsTextAt, ShownAt, RefusedAt};
 ghost use Rattle.sentry_moments.specs.Moments.{moment_cell};
 
-use json::Scratch;
 use rand_core::Rng;
-use sentry_json::{Node, scratch};
-use sentry_members::{ReadsNode, TreeError, read_line_by};
+use sentry_json::Node;
+use sentry_members::{LazyScratch, LineReader, ReadsNode, TreeError};
 use sentry_moments::Moment;
 use sentry_rows::FromTreeAt;
 use std::alloc::Global;
@@ -28,9 +27,26 @@ impl<'r, T: FromTreeAt, R: Rng> ReadsNode<T> for AtMoment<'r, R> {
     }
 }
 
-/// Reads a value from a JSON line; `now` fills absent timestamps, `ids` absent ids.
+/// Reads a value from a line with the caller's reader; `now` fills absent timestamps, `ids` absent
+/// ids.
 ///
-/// To read many lines, create one `Scratch` and call [`read_line_at_with`].
+/// # Errors
+///
+/// - `Misfit` if the line isn't one JSON text without floats that reads as the type.
+/// - `Memory` if an allocation fails.
+#[tactic(auto, using(sentry_members::proofs::Texts::text_read_by_at))]
+pub(crate) fn read_at<'a, T: FromTreeAt, R: Rng>(
+    lines: &mut LineReader<'_, 'a>,
+    line: &'a [u8],
+    now: Moment,
+    ids: &mut R,
+) -> Result<T, TreeError>
+    ensures { ReadsTextAt (moment_cell now) T.kind T.cell_of line.now result }
+{
+    lines.read_by(line, AtMoment { now, ids })
+}
+
+/// Reads a value from a JSON line; `now` fills absent timestamps, `ids` absent ids.
 ///
 /// # Errors
 ///
@@ -45,25 +61,6 @@ pub fn read_line_at<T: FromTreeAt, R: Rng>(
 ) -> Result<T, TreeError>
     ensures { ReadsTextAt (moment_cell now) T.kind T.cell_of line.now result }
 {
-    let mut scratch = scratch(alloc);
-    read_line_at_with(alloc, line, now, ids, &mut scratch)
-}
-
-/// Reads a value from a JSON line as [`read_line_at`] does, with the caller's working memory.
-///
-/// # Errors
-///
-/// - `Misfit` if the line isn't one JSON text without floats that reads as the type.
-/// - `Memory` if an allocation fails.
-#[tactic(auto, using(sentry_members::proofs::Texts::text_read_by_at))]
-pub fn read_line_at_with<T: FromTreeAt, R: Rng>(
-    alloc: Global,
-    line: &[u8],
-    now: Moment,
-    ids: &mut R,
-    scratch: &mut Scratch,
-) -> Result<T, TreeError>
-    ensures { ReadsTextAt (moment_cell now) T.kind T.cell_of line.now result }
-{
-    read_line_by(alloc, line, scratch, AtMoment { now, ids })
+    let mut scratch = LazyScratch::new(alloc);
+    read_at(&mut LineReader::new(alloc, &mut scratch), line, now, ids)
 }

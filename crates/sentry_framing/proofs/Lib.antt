@@ -12,5 +12,3 @@ pub mod StatedLengths
 pub mod Written
 pub mod Flat
 pub mod Words
-pub mod FlatObjects
-pub mod FlatMembers

@@ -1,5 +1,3 @@
-pub mod FlatObjects
-pub mod FlatView
 pub mod Framing
 pub mod HeaderView
 pub mod ItemHeader

@@ -8,9 +8,9 @@ ghost use Rattle.sentry_framing.specs.View.{frame_of};
 
 use crate::error::EnvelopeError;
 use crate::header::{ItemHeader, read_fields};
-use crate::lazy_scratch::LazyScratch;
 use crate::lines::{end_line, skip_space, split_line};
 use crate::piece::piece_len;
+use sentry_members::{LazyScratch, LineReader};
 use std::alloc::Global;
 use std::marker::Model;
 
@@ -107,8 +107,7 @@ impl<'a> Frames<'a> {
 
     /// Returns the next frame with its parsed item header; `None` if no bytes are left.
     ///
-    /// A header without white space and escapes is read without working memory. To read many
-    /// others, create one [`LazyScratch`] and call [`next_item_into`].
+    /// To read many, make one [`LineReader`] and call [`next_item_into`].
     ///
     /// # Errors
     ///
@@ -132,7 +131,8 @@ impl<'a> Frames<'a> {
         ensures memory { result ≡ Some (Err EnvelopeError.OutOfMemory) → self.new ≡ self.old }
     {
         let mut header = ItemHeader::new();
-        match next_item_into(self, alloc, &mut LazyScratch::new(alloc), &mut header) {
+        let mut scratch = LazyScratch::new(alloc);
+        match next_item_into(self, &mut LineReader::new(alloc, &mut scratch), &mut header) {
             None => None,
             Some(Ok(frame)) => Some(Ok((frame, header))),
             Some(Err(error)) => Some(Err(error)),
@@ -141,7 +141,7 @@ impl<'a> Frames<'a> {
 }
 
 /// Returns the next frame, and parses its item header into `header`; `None` if no bytes are left.
-/// `scratch` is the working memory for headers that need some.
+/// `lines` reads the headers.
 ///
 /// # Errors
 ///
@@ -149,8 +149,7 @@ impl<'a> Frames<'a> {
 /// may be set.
 pub fn next_item_into<'a>(
     frames: &mut Frames<'a>,
-    alloc: Global,
-    scratch: &mut LazyScratch,
+    lines: &mut LineReader<'_, 'a>,
     header: &mut ItemHeader,
 ) -> Option<Result<ItemFrame<'a>, EnvelopeError>>
     ensures header_line { frames.new.header_line ≡ frames.old.header_line }
@@ -169,7 +168,7 @@ pub fn next_item_into<'a>(
     if frames.rest.is_empty() {
         return None;
     }
-    match first_item(alloc, frames.rest, scratch, header) {
+    match first_item(lines, frames.rest, header) {
         Ok((frame, rest)) => {
             frames.rest = rest;
             Some(Ok(frame))
@@ -213,9 +212,8 @@ fn split_header(body: &[u8]) -> Result<(&[u8], &[u8]), EnvelopeError>
 
 // Returns the first frame and the bytes after the frame, and parses the item header into `fields`.
 fn first_item<'a>(
-    alloc: Global,
+    lines: &mut LineReader<'_, 'a>,
     body: &'a [u8],
-    scratch: &mut LazyScratch,
     fields: &mut ItemHeader,
 ) -> Result<(ItemFrame<'a>, &'a [u8]), EnvelopeError>
     ensures frame { IfOk result (λ x.
@@ -226,7 +224,7 @@ fn first_item<'a>(
         → IsFault (stated_length item_words) body.now e) }
 {
     let (header, after) = split_header(body)?;
-    read_fields(alloc, header, scratch, fields)?;
+    read_fields(lines, header, fields)?;
     let left = end_line(after)?;
     let (payload, tail) = split_payload(fields.length, left)?;
     let rest = end_line(tail)?;

@@ -6,15 +6,13 @@ ghost use Rattle.sentry_framing.specs.ItemHeader.{header_of, kind_of, read_heade
 ghost use Rattle.sentry_framing.specs.ItemWords.{item_words, kind_place};
 ghost use Rattle.sentry_framing.specs.declared.kind.ItemKind.TheVariants as kinds;
 ghost use Rattle.sentry_framing.specs.HeaderView.{header_view};
-ghost use Rattle.sentry_framing.specs.FlatView.{object_data};
+ghost use Rattle.sentry_tape.specs.TapeView.{node_data};
 
 use crate::error::EnvelopeError;
-use crate::flat_node::FlatNode;
-use crate::flat_object::FlatObject;
 use crate::kind::ItemKind;
-use crate::lazy_scratch::LazyScratch;
 use sentry_json::{Branch, Line, LineError, Node};
-use sentry_members::{TreeError, read_tree};
+use sentry_members::{LazyScratch, LineReader, TreeError, read_tree};
+use sentry_tape::TapeNode;
 use std::alloc::Global;
 
 /// The fields of an item header.
@@ -145,34 +143,34 @@ fn fill_from_branch<'t, 'a>(
     fill_header(alloc, root, &mut places, fields)
 }
 
-fn fill_from_object(
+fn fill_from_tape<'t, 'a>(
     alloc: Global,
-    object: &FlatObject<'_>,
+    root: &TapeNode<'t, 'a>,
     fields: &mut ItemHeader,
 ) -> Result<(), TreeError>
-    ensures ok { OnOk result (header_of item_words (object_data object.now) ≡
+    ensures ok { OnOk result (header_of item_words (node_data root.now) ≡
         Some (header_view fields.new)) }
     ensures misfit { result ≡ Err TreeError.Misfit →
-        header_of item_words (object_data object.now) ≡ None }
+        header_of item_words (node_data root.now) ≡ None }
 {
-    let mut places = [None, None, None, None, None];
-    fill_header(alloc, &FlatNode::Object(object), &mut places, fields)
+    let mut places: [Option<TapeNode<'t, 'a>>; 5] = [None, None, None, None, None];
+    fill_header(alloc, root, &mut places, fields)
 }
 
-// Reads the line by a tape, and by a tree of values if a tape can't hold the line.
+// Reads any line: by the tape of a `Line`, and by a tree of values if a tape can't hold it.
 #[cold]
 #[inline(never)]
 #[tactic(auto, unfolding(crate::specs::ItemHeader::read_header))]
 fn fill_from_line(
-    alloc: Global,
+    lines: &mut LineReader<'_, '_>,
     line: &[u8],
-    scratch: &mut LazyScratch,
     fields: &mut ItemHeader,
 ) -> Result<(), TreeError>
     ensures ok { OnOk result (read_header item_words line.now ≡ Some (header_view fields.new)) }
     ensures misfit { result ≡ Err TreeError.Misfit → read_header item_words line.now ≡ None }
 {
-    match Line::parse(line, scratch.get()?, Vec::new(alloc)) {
+    let alloc = lines.alloc();
+    match Line::parse(line, lines.scratch()?, Vec::new(alloc)) {
         Ok(read) => {
             let root = read.root();
             fill_from_branch(alloc, &root, fields)
@@ -196,8 +194,6 @@ fn fill_from_tree(alloc: Global, line: &[u8], fields: &mut ItemHeader) -> Result
 
 /// Parses an item header. Members that [`ItemHeader`] has no field for are ignored.
 ///
-/// A header without white space and escapes is mostly read without working memory.
-///
 /// # Errors
 ///
 /// - `InvalidItemHeader` if the bytes aren't one JSON object without floats, with a known `type`,
@@ -212,27 +208,30 @@ pub fn read_item_header(alloc: Global, header: &[u8]) -> Result<ItemHeader, Enve
         ⊎ ((e ≡ EnvelopeError.InvalidItemHeader) × (read_header item_words header.now ≡ None))) }
 {
     let mut fields = ItemHeader::new();
-    read_fields(alloc, header, &mut LazyScratch::new(alloc), &mut fields)?;
+    let mut scratch = LazyScratch::new(alloc);
+    read_fields(
+        &mut LineReader::new(alloc, &mut scratch),
+        header,
+        &mut fields,
+    )?;
     Ok(fields)
 }
 
 // Parses an item header into `fields`; some may be set after an error.
 #[tactic(auto, unfolding(crate::specs::ItemHeader::read_header))]
-pub(crate) fn read_fields(
-    alloc: Global,
-    header: &[u8],
-    scratch: &mut LazyScratch,
+pub(crate) fn read_fields<'a>(
+    lines: &mut LineReader<'_, 'a>,
+    header: &'a [u8],
     fields: &mut ItemHeader,
 ) -> Result<(), EnvelopeError>
     ensures ok { OnOk result (read_header item_words header.now ≡ Some (header_view fields.new)) }
     ensures err { IfErr result (λ e. (e ≡ EnvelopeError.OutOfMemory)
         ⊎ ((e ≡ EnvelopeError.InvalidItemHeader) × (read_header item_words header.now ≡ None))) }
 {
-    let mut object = FlatObject::new();
-    let filled = if object.read(header) {
-        fill_from_object(alloc, &object, fields)
-    } else {
-        fill_from_line(alloc, header, scratch, fields)
+    let alloc = lines.alloc();
+    let filled = match lines.root(header) {
+        Some(root) => fill_from_tape(alloc, &root, fields),
+        None => fill_from_line(lines, header, fields),
     };
     match filled {
         Ok(()) => Ok(()),

@@ -1,20 +1,23 @@
 //! Reading of values from lines of JSON.
 
-ghost use Rattle.std.specs.Prelude.{◌≡◌, ◌↔◌, IsTrue, IfOk, IfErr, Some, None, false};
+ghost use Rattle.std.specs.Prelude.{◌≡◌, ◌↔◌, IsTrue, IfOk, IfErr, IfSome, Some, None, false};
 ghost use Rattle.serde_json.specs.Data.{Data};
 ghost use Rattle.serde_json.specs.View.{view};
 ghost use Rattle.serde_json.specs.Written.{has_float};
 ghost use Rattle.sentry_json.specs.Line.{tree_of};
 ghost use Rattle.sentry_json.specs.Sound.{IsSound};
+ghost use Rattle.sentry_tape.specs.TapeView.{node_data};
 ghost use Rattle.sentry_members.specs.Reading.{Only, LineShows, LineRefused, ReadsText, Shown, Refused};
 
 use crate::error::TreeError;
+use crate::lazy_scratch::LazyScratch;
 use crate::read::FromTree;
 use crate::tree::has_float;
 use json::Scratch;
-use sentry_json::{Line, LineError, Node, scratch};
+use sentry_json::{Line, LineError, Node};
+use sentry_tape::{Tape, TapeNode};
 use serde_json::Value;
-use std::alloc::Global;
+use std::alloc::{AllocError, Global};
 
 /// Returns whether no number in a tree, at any depth, is a float.
 pub fn whole(tree: &Value) -> bool
@@ -64,25 +67,93 @@ pub trait ReadsNode<T>: Drop {
         ensures err { IfErr result (λ e. Only e (refused self (N.data_of node.now))) };
 }
 
-/// Reads a value from a line with `reader`, in working memory that the caller lends.
+/// A reader of lines of JSON, which keeps its working memory from line to line.
 ///
-/// The line is parsed onto a tape, or as a tree if a tape doesn't serve ([`LineError::Unfit`]).
-///
-/// # Errors
-///
-/// - `Misfit` if [`read_tree`] rejects the line, or the tree is not a value of the type.
-/// - `Memory` if an allocation fails.
+/// A line as clients write it, without white space between its values, is read in one pass onto a
+/// tape of its own ([`Tape::parse`]); any other goes the general way, onto the tape of a [`Line`]
+/// or, if a tape doesn't serve ([`LineError::Unfit`]), into a tree.
+#[derive(Drop)]
+pub struct LineReader<'s, 'a> {
+    alloc: Global,
+    tape: Tape<'a>,
+    scratch: &'s mut LazyScratch,
+}
+
+impl<'s, 'a> LineReader<'s, 'a> {
+    /// Creates a reader with the caller's working memory for lines that go the general way.
+    pub fn new(alloc: Global, scratch: &'s mut LazyScratch) -> LineReader<'s, 'a> {
+        LineReader {
+            alloc,
+            tape: Tape::new(alloc),
+            scratch,
+        }
+    }
+
+    /// Returns the allocator of the reader.
+    #[inline]
+    pub fn alloc(&self) -> Global {
+        self.alloc
+    }
+
+    /// Returns the root node of a line as clients write it; `None` if another way has to serve.
+    #[inline]
+    pub fn root(&mut self, line: &'a [u8]) -> Option<TapeNode<'_, 'a>>
+        ensures { IfSome result (λ root. tree_of line.now ≡ Some (node_data root)) }
+    {
+        self.tape.parse(line)
+    }
+
+    /// Returns working memory for lines that go the general way. `AllocError` if it isn't made yet
+    /// and an allocation fails.
+    pub fn scratch(&mut self) -> Result<&mut Scratch, AllocError> {
+        self.scratch.get()
+    }
+
+    /// Reads a value from a line with `reader`.
+    ///
+    /// # Errors
+    ///
+    /// - `Misfit` if [`read_tree`] rejects the line, or the tree is not a value of the type.
+    /// - `Memory` if an allocation fails.
+    #[tactic(auto, using(crate::proofs::Texts::line_shows, crate::proofs::Texts::line_refused))]
+    pub fn read_by<T, R: ReadsNode<T>>(&mut self, line: &'a [u8], reader: R) -> Result<T, TreeError>
+        ensures ok { IfOk result (λ value. LineShows (λ d. R.shown reader d value) line.now) }
+        ensures err { IfErr result (λ e. Only e (LineRefused (λ d. R.refused reader d) line.now)) }
+    {
+        match self.tape.parse(line) {
+            Some(root) => reader.read(self.alloc, &root),
+            None => read_any(self.alloc, line, self.scratch, reader),
+        }
+    }
+
+    /// Reads a value from a line.
+    ///
+    /// # Errors
+    ///
+    /// As of [`LineReader::read_by`].
+    #[tactic(auto, using(crate::proofs::Texts::text_read_by))]
+    pub fn read<T: FromTree>(&mut self, line: &'a [u8]) -> Result<T, TreeError>
+        ensures { ReadsText T.kind T.cell_of line.now result }
+    {
+        self.read_by(line, Plainly)
+    }
+}
+
+// Reads any line: onto the tape of a `Line`, or as a tree if a tape doesn't serve. Not inlined: few
+// lines come here.
+#[cold]
+#[inline(never)]
 #[tactic(auto, using(crate::proofs::Texts::line_shows, crate::proofs::Texts::line_refused, crate::proofs::Texts::no_line))]
-pub fn read_line_by<T, R: ReadsNode<T>>(
+fn read_any<T, R: ReadsNode<T>>(
     alloc: Global,
     line: &[u8],
-    scratch: &mut Scratch,
+    scratch: &mut LazyScratch,
     reader: R,
 ) -> Result<T, TreeError>
     ensures ok { IfOk result (λ value. LineShows (λ d. R.shown reader d value) line.now) }
     ensures err { IfErr result (λ e. Only e (LineRefused (λ d. R.refused reader d) line.now)) }
 {
-    match Line::parse(line, scratch, Vec::new(alloc)) {
+    match Line::parse(line, scratch.get()?, Vec::new(alloc)) {
         Ok(read) => {
             let root = read.root();
             reader.read(alloc, &root)
@@ -93,7 +164,6 @@ pub fn read_line_by<T, R: ReadsNode<T>>(
     }
 }
 
-// Not inlined: lines that a tape doesn't serve for are rare.
 #[cold]
 #[inline(never)]
 #[tactic(auto, using(crate::proofs::Texts::line_shows, crate::proofs::Texts::line_refused, crate::proofs::Texts::no_line))]
@@ -121,7 +191,7 @@ impl<T: FromTree> ReadsNode<T> for Plainly {
 
 /// Reads a value from a line.
 ///
-/// To read many lines, make one [`Scratch`] and call [`read_line_with`].
+/// To read many lines, make one [`LineReader`].
 ///
 /// # Errors
 ///
@@ -131,23 +201,5 @@ impl<T: FromTree> ReadsNode<T> for Plainly {
 pub fn read_line<T: FromTree>(alloc: Global, line: &[u8]) -> Result<T, TreeError>
     ensures { ReadsText T.kind T.cell_of line.now result }
 {
-    let mut scratch = scratch(alloc);
-    read_line_with(alloc, line, &mut scratch)
-}
-
-/// Reads a value from a line, in working memory that the caller lends.
-///
-/// # Errors
-///
-/// - `Misfit` if [`read_tree`] rejects the line, or the tree is not a value of the type.
-/// - `Memory` if an allocation fails.
-#[tactic(auto, using(crate::proofs::Texts::text_read_by))]
-pub fn read_line_with<T: FromTree>(
-    alloc: Global,
-    line: &[u8],
-    scratch: &mut Scratch,
-) -> Result<T, TreeError>
-    ensures { ReadsText T.kind T.cell_of line.now result }
-{
-    read_line_by(alloc, line, scratch, Plainly)
+    LineReader::new(alloc, &mut LazyScratch::new(alloc)).read(line)
 }

@@ -1,12 +1,7 @@
--- What a tape and its nodes mean.
+-- What nodes of a tape mean.
 use Rattle.serde_json.specs.Data.{Data}
-use Rattle.sentry_tape.specs.declared.tape.Tape.{Tape}
 use Rattle.sentry_tape.specs.declared.tape_node.TapeNode.{TapeNode}
 use Rattle.sentry_tape.specs.Tokens.{tokens_value}
-
--- the tree of the line
-abbrev pub tape_data : Tape → Data
-tape_data tape = tokens_value tape.tokens.items
 
 -- the tree at the node
 abbrev pub node_data : TapeNode → Data

@@ -4,7 +4,7 @@ ghost use Rattle.std.specs.Prelude.{◌≡◌, ◌++◌, ◌∷◌, ◌<◌, [],
 ghost use Rattle.sentry_json.specs.Line.{tree_of};
 ghost use Rattle.sentry_tape.specs.Spelled.{IsQuoted, Spells, SpellsMember};
 ghost use Rattle.sentry_tape.specs.Tokens.{text_of};
-ghost use Rattle.sentry_tape.specs.TapeView.{node_data, tape_data};
+ghost use Rattle.sentry_tape.specs.TapeView.{node_data};
 ghost use Rattle.sentry_tape.specs.declared.token.Token.{Token};
 
 use crate::escape::split_escaped;
@@ -17,32 +17,41 @@ use std::alloc::Global;
 // As deep as a line may nest.
 const DEEPEST: u8 = 127;
 
-/// The tokens of a line of JSON, in the order of the line.
+// Room is made for a token in so many bytes, which is what payloads mostly have, and for a few more.
+const BYTES: usize = 8;
+
+const FEW: usize = 8;
+
+/// The tokens of a line of JSON, in the order of the line; its memory serves line after line.
 #[derive(Drop)]
 pub struct Tape<'a> {
-    pub(crate) tokens: Vec<Token<'a>>,
+    alloc: Global,
+    tokens: Vec<Token<'a>>,
 }
 
 impl<'a> Tape<'a> {
-    /// Reads a line that has no white space between its values and whose numbers are integers of at
-    /// most 19 digits; `None` if it isn't one, or if memory is refused.
-    pub fn parse(alloc: Global, line: &'a [u8]) -> Option<Tape<'a>>
-        ensures { IfSome result (λ tape. tree_of line.now ≡ Some (tape_data tape)) }
+    /// Creates an empty tape, without allocating yet.
+    pub fn new(alloc: Global) -> Tape<'a> {
+        Tape {
+            alloc,
+            tokens: Vec::new(alloc),
+        }
+    }
+
+    /// Reads a line, in place of the one before, and returns its root node. The line has no white
+    /// space between its values, and its numbers are integers of at most 19 digits; `None` if it
+    /// isn't such a line, or if memory is refused.
+    pub fn parse(&mut self, line: &'a [u8]) -> Option<TapeNode<'_, 'a>>
+        ensures { IfSome result (λ root. tree_of line.now ≡ Some (node_data root)) }
     {
+        self.tokens.clear();
         let text = Rest::new(line)?;
-        let mut tokens = Vec::with_capacity(alloc, line.len() / 4 + 8).ok()?;
-        let rest = take_value(alloc, text, DEEPEST, &mut tokens)?;
+        self.tokens.reserve(line.len() / BYTES + FEW).ok()?;
+        let rest = take_value(self.alloc, text, DEEPEST, &mut self.tokens)?;
         if !rest.text.is_empty() {
             return None;
         }
-        Some(Tape { tokens })
-    }
-
-    /// Returns the root node.
-    pub fn root(&self) -> TapeNode<'_, 'a>
-        ensures { node_data result ≡ tape_data self.now }
-    {
-        TapeNode::new(&self.tokens)
+        Some(TapeNode::new(&self.tokens))
     }
 }
 

@@ -9,7 +9,7 @@ use Rattle.sentry_envelope.proofs.read.read_items.Goals as goal
 
 pub returns-in_err-frame-clause-err : goal.returns-in_err-frame-clause-err
 returns-in_err-frame-clause-err g c =
-    let p = err_from_is_err_and c.from_residual.result c.from_residual.ensures.1 in
+    let p = err_from_is_err_and c.from_residual-in_err-frame.result c.from_residual-in_err-frame.ensures.1 in
     let remains : c.loop-answer.frames.rest ≢ [] = λ e. true≢false (c.in-Some.ensures.none.1 e) in
     let fault = rw c.in_err-frame.was at c.in-Some.ensures.fault in
     rw (p.1, p.2) (λ ne. framing_at_fault (moment_cell c.args.now) c.args.frames.now.rest c.loop-answer.items.items c.loop-answer.frames.rest c.loop-answer.invariant _ remains (fault ne))

@@ -7,5 +7,6 @@ returns c =
     let v = c.in_ok-rest.ensures.spelled in
     let line = c.args.line.now in
     let none : c.in_ok-rest.rest.text.now ≡ [] = no_bytes c.in_ok-rest.rest.text.now (c.if-not-is_empty.ensures) in
-    let start : c.in_ok-tokens.tokens.items ≡ [] = search rules in
-    parsed line c.in_ok-text.text.text.now c.in_ok-rest.rest.text.now c.take_value.new.tokens.items v.0 v.1 c.in_ok-text.ensures.text c.in_ok-text.ensures.utf8 none (v.2 ∙ ap (λ ts. ts ++ (v.0 ∷ v.1)) start) v.3
+    let start : c.reserve.new.self.items ≡ [] = search rules in
+    let held : c.new-2.result.tokens.now ≡ c.take_value.new.tokens.items = search rules in
+    parsed line c.in_ok-text.text.text.now c.in_ok-rest.rest.text.now c.new-2.result.tokens.now v.0 v.1 c.in_ok-text.ensures.text c.in_ok-text.ensures.utf8 none (held ∙ v.2 ∙ ap (λ ts. ts ++ (v.0 ∷ v.1)) start) v.3
