@@ -6,23 +6,28 @@ use rand_pcg::Pcg32;
 use sentry_types::Dsn;
 use sentry_types::protocol::v7::{
     AddRefused, Attachment, Breadcrumb, Context, Envelope, EnvelopeHeaders, EnvelopeItem, Event,
-    Level, Moment, OsContext,
+    Level, Map, Moment, OsContext, Values,
 };
 use std::alloc::{AllocError, Global};
 use std::test::Fail;
 
-/// Returns a breadcrumb: a document was opened.
-fn opened(alloc: Global, now: Moment) -> Result<Breadcrumb, AllocError> {
+/// Returns the breadcrumbs: a document was opened.
+fn opened(alloc: Global, now: Moment) -> Result<Values<Breadcrumb>, AllocError> {
     let mut breadcrumb = Breadcrumb::new(alloc, now)?;
     breadcrumb.message = Some(String::from_str(alloc, "document opened")?);
-    Ok(breadcrumb)
+    let mut trail = Vec::new(alloc);
+    trail.push(breadcrumb)?;
+    Ok(Values::from(trail))
 }
 
-/// Returns the context of the operating system.
-fn system(alloc: Global, name: &str) -> Result<Context, AllocError> {
+/// Returns the contexts: the operating system.
+fn system(alloc: Global, name: &str) -> Result<Map<String, Context>, AllocError> {
     let mut system = OsContext::default_in(alloc);
     system.name = Some(String::from_str(alloc, name)?);
-    Context::os(alloc, system).map_err(|_| AllocError)
+    let system = Context::os(alloc, system).map_err(|_| AllocError)?;
+    let mut contexts = Map::new(alloc);
+    drop(contexts.insert(String::from_str(alloc, "os")?, system)?);
+    Ok(contexts)
 }
 
 /// Returns an event for a panic, with what was around it.
@@ -32,13 +37,12 @@ fn panicked(
     ids: &mut Pcg32,
     message: String,
 ) -> Result<Event<'static>, AllocError> {
-    let breadcrumb = opened(alloc, now)?;
-    let (key, system) = (String::from_str(alloc, "os")?, system(alloc, "linux")?);
+    let (breadcrumbs, contexts) = (opened(alloc, now)?, system(alloc, "linux")?);
     let mut event = Event::new(alloc, now, ids)?;
     event.level = Level::Fatal;
     event.message = Some(message);
-    event.breadcrumbs.as_vec_mut().push(breadcrumb)?;
-    drop(event.contexts.insert(key, system)?);
+    event.breadcrumbs = breadcrumbs;
+    event.contexts = contexts;
     Ok(event)
 }
 
@@ -65,15 +69,21 @@ fn addressed(
     Ok(envelope)
 }
 
-/// Returns the envelope of a panic.
-fn report(alloc: Global, dsn: Dsn, now: Moment) -> Result<Envelope, Fail> {
+/// Returns the item of a panic's event.
+fn panic_item(alloc: Global, now: Moment) -> Result<EnvelopeItem, AllocError> {
     let mut ids = Pcg32::new(42, 54);
     let message = String::from_str(alloc, "index out of bounds")?;
-    let event = panicked(alloc, now, &mut ids, message)?;
-    let Ok(event) = EnvelopeItem::event(alloc, event) else {
-        return Err("out of memory".into());
-    };
-    Ok(addressed(alloc, dsn, now, event, log_file(alloc, b"opened\n")?)?)
+    match EnvelopeItem::event(alloc, panicked(alloc, now, &mut ids, message)?) {
+        Ok(item) => Ok(item),
+        Err(_) => Err(AllocError),
+    }
+}
+
+/// Returns the envelope of a panic.
+fn report(alloc: Global, dsn: Dsn, now: Moment) -> Result<Envelope, Fail> {
+    let event = panic_item(alloc, now)?;
+    let file = log_file(alloc, b"opened\n")?;
+    Ok(addressed(alloc, dsn, now, event, file)?)
 }
 
 /// The report: the event's id is the first one of the generator, and the header's.

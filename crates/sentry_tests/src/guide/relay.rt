@@ -31,6 +31,13 @@ impl Quota {
     }
 }
 
+/// Returns the text of an envelope.
+fn text_of(alloc: Global, envelope: &Envelope) -> Result<Vec<u8>, EnvelopeWriteError> {
+    let mut text = Vec::new(alloc);
+    envelope.to_writer(alloc, &mut text)?;
+    Ok(text)
+}
+
 /// Returns the text of what a quota admits of an envelope, with its header; `None` if nothing is
 /// left.
 fn forward(
@@ -42,12 +49,10 @@ fn forward(
     let Ok(left) = envelope.filter_keep_headers(alloc, &mut filter) else {
         return Err(EnvelopeWriteError::Memory);
     };
-    let Some(left) = left else {
-        return Ok(None);
-    };
-    let mut text = Vec::new(alloc);
-    left.to_writer(alloc, &mut text)?;
-    Ok(Some(text))
+    match left {
+        Some(left) => Ok(Some(text_of(alloc, &left)?)),
+        None => Ok(None),
+    }
 }
 
 const EVENTS: &str = concat!(
