@@ -15,7 +15,7 @@ use Rattle.serde_json.specs.Data.{number, string}
 use Rattle.serde_json.proofs.Numbers.{number_of-decimal, number_of-negative}
 use Rattle.sentry_tape.specs.declared.token.Token.{Token}
 use Rattle.sentry_tape.specs.declared.token.Token.TheVariants as variants
-use Rattle.sentry_tape.specs.Spelled.{Spells, IsQuoted}
+use Rattle.sentry_tape.specs.Spelled.{Spells, SpellsString, IsQuoted}
 use Rattle.sentry_tape.specs.Tokens.{width, text_of, value_of, value_at}
 use Rattle.sentry_tape.proofs.Integers.{power_below}
 
@@ -83,16 +83,15 @@ text_value (variants.Unescaped x) s e = (ap (option_map string) (sym e), refl)
 text_value (variants.Array n) s e = absurd (cc)
 text_value (variants.Object n) s e = absurd (cc)
 
-pub text_spelled : (text inside rest s : List ℕ) (t : Token) → text ≡ 34 ∷ inside → text_of t ≡ Some s → IsQuoted inside s rest → Spells text rest t [] 0
+pub string_spelled : (text inside rest s : List ℕ) (t : Token) → text ≡ 34 ∷ inside → text_of t ≡ Some s → IsQuoted inside s rest → SpellsString text rest t
 unfolding lex
-text_spelled text inside rest s t is named quoted =
-    record {
-      json = json.string s;
-      lexed = λ ended. ap (lex between) is ∙ ap₂ (λ o l. token (string_token o) ∷ l) quoted.read quoted.lexed;
-      meant = (text_value t s named).0;
-      closed = (text_value t s named).1;
-      shallow = omega arith;
-    }
+string_spelled text inside rest s t is named quoted =
+    record { name = s; named = named; lexed = ap (lex between) is ∙ ap₂ (λ o l. token (string_token o) ∷ l) quoted.read quoted.lexed }
+
+pub text_spelled : (text rest : List ℕ) (t : Token) (most : ℕ) → SpellsString text rest t → Spells text rest t [] most
+text_spelled text rest t most s =
+    let same = text_value t s.name s.named in
+    record { json = json.string s.name; lexed = λ ended. s.lexed; meant = same.0; closed = same.1; shallow = omega arith }
 
 -- ---- words
 

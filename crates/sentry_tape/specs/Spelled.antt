@@ -47,12 +47,8 @@ pub record Spells (text rest : List ℕ) (first : Token) (inside : List Token) (
   pub closed : width first ≡ length inside
   pub shallow : depth json ≤ most
 
--- The text begins with the key of a member, a colon and a value.
-pub record SpellsMember (text rest : List ℕ) (key first : Token) (inside : List Token) (most : ℕ) : Type 0 where
+-- The text begins with a string, and `rest` follows. The token has that string.
+pub record SpellsString (text rest : List ℕ) (first : Token) : Type 0 where
   pub name : List ℕ
-  pub named : text_of key ≡ Some name
-  pub json : Json
-  pub lexed : ends_word rest ≡ true → lex between text ≡ token (json_token.string name) ∷ colon ∷ (lexemes json ++ lex between rest)
-  pub meant : of_json json ≡ Some (value_of first inside)
-  pub closed : width first ≡ length inside
-  pub shallow : depth json ≤ most
+  pub named : text_of first ≡ Some name
+  pub lexed : lex between text ≡ token (json_token.string name) ∷ lex between rest

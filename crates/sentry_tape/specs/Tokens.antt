@@ -22,7 +22,7 @@ text_of (token.Bool b) = None
 text_of (token.Whole n) = None
 text_of (token.Negative z) = None
 text_of (token.Text s) = Some s.now
-text_of (token.Unescaped s) = Some (string_bytes s)
+text_of (token.Unescaped s) = Some (string_bytes s.value)
 text_of (token.Array n) = None
 text_of (token.Object n) = None
 
@@ -38,7 +38,7 @@ value_with items members (token.Bool b) ts = boolean b
 value_with items members (token.Whole n) ts = number (unsigned n)
 value_with items members (token.Negative z) ts = number (integer z)
 value_with items members (token.Text s) ts = string s.now
-value_with items members (token.Unescaped s) ts = string (string_bytes s)
+value_with items members (token.Unescaped s) ts = string (string_bytes s.value)
 value_with items members (token.Array n) ts = array (items ts)
 value_with items members (token.Object n) ts = object (members ts)
 

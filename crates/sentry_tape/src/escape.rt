@@ -17,12 +17,7 @@ const USUAL: usize = 64;
 fn hex_digit(byte: u8) -> Option<u32>
     ensures { IfSome result (λ digit. (digit ≡ digit_value byte) × (digit < 16)) }
 {
-    match byte {
-        b'0'..=b'9' => Some(u32::from(byte - b'0')),
-        b'a'..=b'f' => Some(u32::from(byte - b'a') + 10),
-        b'A'..=b'F' => Some(u32::from(byte - b'A') + 10),
-        _ => None,
-    }
+    char::from(byte).to_digit(16)
 }
 
 // Splits off four hex digits.

@@ -1,11 +1,12 @@
 //! The tape of a line.
 
-ghost use Rattle.std.specs.Prelude.{◌≡◌, ◌++◌, ◌∷◌, ◌<◌, [], ℕ, IfSome, List, Some, length};
+ghost use Rattle.std.specs.Prelude.{◌≡◌, ◌++◌, ◌∷◌, ◌<◌, [], ℕ, IfSome, List, Some, if◌then◌else◌, length, true};
 ghost use Rattle.sentry_json.specs.Line.{tree_of};
-ghost use Rattle.sentry_tape.specs.Spelled.{IsQuoted, Spells, SpellsMember};
+ghost use Rattle.sentry_tape.specs.Spelled.{IsQuoted, Spells, SpellsString};
 ghost use Rattle.sentry_tape.specs.Tokens.{text_of};
 ghost use Rattle.sentry_tape.specs.TapeView.{node_data};
 ghost use Rattle.sentry_tape.specs.declared.token.Token.{Token};
+ghost use Rattle.sentry_tape.specs.declared.token.Token.TheVariants as token;
 
 use crate::escape::split_escaped;
 use crate::rest::Rest;
@@ -17,10 +18,11 @@ use std::alloc::Global;
 // As deep as a line may nest.
 const DEEPEST: u8 = 127;
 
-// Room is made for a token in so many bytes, which is what payloads mostly have, and for a few more.
+// Room is made for a token in so many bytes, which is what payloads mostly have.
 const BYTES: usize = 8;
 
-const FEW: usize = 8;
+// The least room: a tape serves line after line, and the lines of a small envelope fit at once.
+const LEAST: usize = 40;
 
 /// The tokens of a line of JSON, in the order of the line; its memory serves line after line.
 #[derive(Drop)]
@@ -46,13 +48,28 @@ impl<'a> Tape<'a> {
     {
         self.tokens.clear();
         let text = Rest::new(line)?;
-        self.tokens.reserve(line.len() / BYTES + FEW).ok()?;
-        let rest = take_value(self.alloc, text, DEEPEST, &mut self.tokens)?;
+        self.tokens.reserve((line.len() / BYTES).max(LEAST)).ok()?;
+        let rest = take_value(self.alloc, text, false, DEEPEST, &mut self.tokens)?;
         if !rest.text.is_empty() {
             return None;
         }
         Some(TapeNode::new(&self.tokens))
     }
+}
+
+// Splits off a string behind its opening quote.
+#[inline(always)]
+fn split_string<'a>(alloc: Global, inside: Rest<'a>) -> Option<(Token<'a>, Rest<'a>)>
+    ensures spelled { IfSome result (λ x. (s : List ℕ) × (text_of x.0 ≡ Some s)
+        × IsQuoted inside.entry.text.now s x.1.text.now) }
+    ensures shorter { IfSome result (λ x. length x.1.text.now < length inside.entry.text.now) }
+{
+    let (text, stop) = inside.split_run()?;
+    if let Some(rest) = stop.after(b'"') {
+        return Some((Token::Text(text), rest));
+    }
+    let (text, rest) = split_escaped(alloc, inside)?;
+    Some((Token::Unescaped(Box::new(alloc, text).ok()?), rest))
 }
 
 // Appends the token of a string, behind its opening quote, and returns what follows it.
@@ -63,13 +80,8 @@ fn take_string<'a>(alloc: Global, inside: Rest<'a>, tokens: &mut Vec<Token<'a>>)
         × IsQuoted inside.entry.text.now s rest.text.now) }
     ensures shorter { IfSome result (λ rest. length rest.text.now < length inside.entry.text.now) }
 {
-    let (text, stop) = inside.split_run()?;
-    if let Some(rest) = stop.after(b'"') {
-        tokens.push(Token::Text(text)).ok()?;
-        return Some(rest);
-    }
-    let (text, rest) = split_escaped(alloc, inside)?;
-    tokens.push(Token::Unescaped(text)).ok()?;
+    let (token, rest) = split_string(alloc, inside)?;
+    tokens.push(token).ok()?;
     Some(rest)
 }
 
@@ -86,109 +98,93 @@ fn take_scalar<'a>(text: Rest<'a>, tokens: &mut Vec<Token<'a>>) -> Option<Rest<'
     Some(rest)
 }
 
-// Appends the tokens of the value at the front, and returns what follows it.
+// Appends the tokens of the value at the front, and returns what follows it; a key is a string.
 #[cycle(take)]
 #[inline(always)]
 fn take_value<'a>(
     alloc: Global,
     text: Rest<'a>,
+    key: bool,
     depth: u8,
     tokens: &mut Vec<Token<'a>>,
 ) -> Option<Rest<'a>>
     ensures spelled { IfSome result (λ rest. (first : Token) × (inside : List Token)
         × (tokens.new.items ≡ tokens.old.items ++ first ∷ inside)
         × Spells text.entry.text.now rest.text.now first inside depth) }
+    ensures string { IfSome result (λ rest. key ≡ true → (name : Token)
+        × (tokens.new.items ≡ tokens.old.items ++ name ∷ [])
+        × SpellsString text.entry.text.now rest.text.now name) }
     ensures shorter { IfSome result (λ rest. length rest.text.now < length text.entry.text.now) }
 {
     match text.bytes().first()? {
         b'"' => take_string(alloc, text.after(b'"')?, tokens),
-        b'{' => take_members(alloc, text.after(b'{')?, depth, tokens),
-        b'[' => take_items(alloc, text.after(b'[')?, depth, tokens),
+        _ if key => None,
+        b'{' => take_inside(alloc, text.after(b'{')?, true, depth, tokens),
+        b'[' => take_inside(alloc, text.after(b'[')?, false, depth, tokens),
         _ => take_scalar(text, tokens),
     }
 }
 
-// The same of an array, behind its opening bracket.
+// The same of an object or an array, behind its opening bracket. A key and its value are one turn
+// of the loop each, so that what takes a string stands in it once.
 #[cycle(take)]
 #[inline(never)]
-fn take_items<'a>(
+fn take_inside<'a>(
     alloc: Global,
     text: Rest<'a>,
+    object: bool,
     depth: u8,
     tokens: &mut Vec<Token<'a>>,
 ) -> Option<Rest<'a>>
     ensures spelled { IfSome result (λ rest. (first : Token) × (inside : List Token)
         × (tokens.new.items ≡ tokens.old.items ++ first ∷ inside)
-        × Spells (91 ∷ text.entry.text.now) rest.text.now first inside depth) }
+        × Spells ((if object then 123 else 91) ∷ text.entry.text.now)
+        rest.text.now first inside depth) }
     ensures shorter { IfSome result (λ rest. length rest.text.now < length text.entry.text.now) }
 {
     let depth = depth.checked_sub(1)?;
     let place = tokens.len();
-    tokens.push(Token::Array(0)).ok()?;
-    if let Some(rest) = text.after(b']') {
+    tokens.push(bracket(object, 0)).ok()?;
+    let close = closing(object);
+    if let Some(rest) = text.after(close) {
         return Some(rest);
     }
     let mut left = text;
+    let mut key = object;
     loop {
-        let rest = take_value(alloc, left, depth, tokens)?;
-        if let Some(next) = rest.after(b',') {
-            left = next;
+        let rest = take_value(alloc, left, key, depth, tokens)?;
+        if key {
+            left = rest.after(b':')?;
+            key = false;
             continue;
         }
-        let rest = rest.after(b']')?;
-        tokens[place] = Token::Array(tokens.len() - place - 1);
+        if let Some(next) = rest.after(b',') {
+            left = next;
+            key = object;
+            continue;
+        }
+        let rest = rest.after(close)?;
+        tokens[place] = bracket(object, tokens.len() - place - 1);
         return Some(rest);
     }
 }
 
-// The same of an object, behind its opening brace.
-#[cycle(take)]
-#[inline(never)]
-fn take_members<'a>(
-    alloc: Global,
-    text: Rest<'a>,
-    depth: u8,
-    tokens: &mut Vec<Token<'a>>,
-) -> Option<Rest<'a>>
-    ensures spelled { IfSome result (λ rest. (first : Token) × (inside : List Token)
-        × (tokens.new.items ≡ tokens.old.items ++ first ∷ inside)
-        × Spells (123 ∷ text.entry.text.now) rest.text.now first inside depth) }
-    ensures shorter { IfSome result (λ rest. length rest.text.now < length text.entry.text.now) }
-{
-    let depth = depth.checked_sub(1)?;
-    let place = tokens.len();
-    tokens.push(Token::Object(0)).ok()?;
-    if let Some(rest) = text.after(b'}') {
-        return Some(rest);
-    }
-    let mut left = text;
-    loop {
-        let rest = take_member(alloc, left, depth, tokens)?;
-        if let Some(next) = rest.after(b',') {
-            left = next;
-            continue;
-        }
-        let rest = rest.after(b'}')?;
-        tokens[place] = Token::Object(tokens.len() - place - 1);
-        return Some(rest);
-    }
-}
-
-// Appends the tokens of a member: its key, and its value.
-#[cycle(take)]
+// The token of an object or an array.
 #[inline(always)]
-fn take_member<'a>(
-    alloc: Global,
-    text: Rest<'a>,
-    depth: u8,
-    tokens: &mut Vec<Token<'a>>,
-) -> Option<Rest<'a>>
-    ensures spelled { IfSome result (λ rest. (key first : Token) × (inside : List Token)
-        × (tokens.new.items ≡ tokens.old.items ++ key ∷ first ∷ inside)
-        × SpellsMember text.entry.text.now rest.text.now key first inside depth) }
-    ensures shorter { IfSome result (λ rest. length rest.text.now < length text.entry.text.now) }
+fn bracket<'a>(object: bool, width: usize) -> Token<'a>
+    ensures { result ≡ (if object then token.Object width else token.Array width) }
 {
-    let after = take_string(alloc, text.after(b'"')?, tokens)?;
-    let rest = take_value(alloc, after.after(b':')?, depth, tokens)?;
-    Some(rest)
+    if object {
+        Token::Object(width)
+    } else {
+        Token::Array(width)
+    }
+}
+
+// The byte that ends an object or an array.
+#[inline(always)]
+fn closing(object: bool) -> u8
+    ensures { result ≡ (if object then 125 else 93) }
+{
+    if object { b'}' } else { b']' }
 }

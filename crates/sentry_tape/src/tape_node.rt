@@ -161,7 +161,7 @@ impl<'t, 'a> Node for TapeNode<'t, 'a> {
         let Some(inside) = self.inside_array() else {
             return Ok(None);
         };
-        let mut nodes = Vec::new(alloc);
+        let mut nodes = Vec::with_capacity(alloc, inside.len().min(USUAL))?;
         let mut rest = inside;
         while let Some((node, after)) = split_item(rest) {
             nodes.push(node)?;
@@ -177,7 +177,7 @@ impl<'t, 'a> Node for TapeNode<'t, 'a> {
         let Some(inside) = self.inside_object() else {
             return Ok(None);
         };
-        let mut named = Vec::with_capacity(alloc, USUAL)?;
+        let mut named = Vec::with_capacity(alloc, inside.len().min(USUAL))?;
         let mut rest = inside;
         while let Some((key, node, after)) = split_member(rest) {
             named.push(Named { key, node })?;
@@ -191,7 +191,7 @@ impl<'t, 'a> Node for TapeNode<'t, 'a> {
     }
 }
 
-// Initial capacity for the members of an object.
+// The most room that is made at once for items or members.
 const USUAL: usize = 16;
 
 // Copies the tree at a node. Lists and maps are grown in functions that aren't inlined: a scalar

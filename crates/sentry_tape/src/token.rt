@@ -20,8 +20,8 @@ pub enum Token<'a> {
     Negative(i64),
     /// A string or a key that stands in the line as it is.
     Text(&'a str),
-    /// A string or a key that has escapes in the line.
-    Unescaped(String),
+    /// A string or a key that has escapes in the line; boxed, so that a token has 24 bytes.
+    Unescaped(Box<String>),
     /// An array.
     Array(usize),
     /// An object.

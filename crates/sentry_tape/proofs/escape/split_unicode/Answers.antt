@@ -1,3 +1,4 @@
+use Rattle.std.proofs.Common.{rules}
 use Rattle.sentry_tape.proofs.Escapes.{unit_passes, pair_passes}
 use Rattle.sentry_tape.proofs.escape.split_unicode.Goals as goal
 
@@ -14,4 +15,4 @@ returns-clause-escape c =
     let next = c.in_ok-after-2 in
     let low = c.in_ok-low in
     pair_passes c.args.text.text.now u.rest.text.now slash.field-0.text.now next.field-0.text.now low.rest.text.now u.unit low.low c.in_ok-character.character
-    u.ensures.unit slash.ensures next.ensures low.ensures.unit c.if-unit-lt55296.false c.if-unit-ge56320.false c.if-low-lt56320.false c.if-low-ge57344.false c.in_ok-character.ensures.value.1
+    u.ensures.unit slash.ensures next.ensures low.ensures.unit c.if-unit-lt55296.false c.if-unit-ge56320.false c.if-low-lt56320.false (search rules) c.in_ok-character.ensures.value.1
