@@ -19,10 +19,9 @@ use Rattle.sentry_envelope.specs.Envelope.{Item, item, raw, Envelope as Model, e
 use Rattle.sentry_envelope.specs.EnvelopeMade.{stands, items_made, header_made, IsMadeBy, IsMade, IsNormalForm, SpellsAlone}
 use Rattle.sentry_envelope.specs.EnvelopeView.{Held, items, bytes, bytes_in, held, header_of, placed, item_view, structured, structured_by, raw_bytes, IsSame}
 use Rattle.sentry_envelope.specs.Filter.{first_id_of}
-use Rattle.sentry_envelope.specs.HeaderFields.{header_fields, header_kind, headers_cell, fill_id, given_id, put_id}
+use Rattle.sentry_envelope.specs.HeaderFields.{header_kind, fill_id, given_id}
 use Rattle.sentry_envelope.specs.SentryProfile.{profile}
 use Rattle.sentry_envelope.specs.declared.envelope.Envelope.{Envelope}
-use Rattle.sentry_envelope.specs.declared.headers.EnvelopeHeaders.{EnvelopeHeaders}
 use Rattle.sentry_envelope.proofs.EnvelopeBack.{back}
 use Rattle.sentry_envelope.proofs.EnvelopeNormal.{stable}
 use Rattle.sentry_envelope.proofs.ItemIds.{first_given}
@@ -52,17 +51,6 @@ nothing_made Same = refl
 nothing_made (Normal alloc) = refl
 
 -- ---- headers
-
--- a header with an id stays, and one without it takes one
-pub filled_stays : (h : EnvelopeHeaders) (id : Option Uuid) (own : Uuid) → h.event_id ≡ Some own → headers_cell h ≡ fill_id (given_id id) (headers_cell h)
-unfolding header_fields
-filled_stays h None own is = refl
-filled_stays h (Some id) own is = rw is refl
-
-pub filled_takes : (h : EnvelopeHeaders) (id : Option Uuid) (r : Cell) → h.event_id ≡ None → r ≡ put_id id (headers_cell h) → r ≡ fill_id (given_id id) (headers_cell h)
-unfolding header_fields
-filled_takes h None r is put = put ∙ rw is refl
-filled_takes h (Some id) r is put = put ∙ rw is refl
 
 pub header_same : (way : Way) (h r : Cell) (is : List Item) → way ≡ Same → r ≡ made way header_kind h → r ≡ header_made way h is
 unfolding made header_made

@@ -117,17 +117,6 @@ impl EnvelopeHeaders {
     }
 
     // Sets the event id if absent.
-    #[tactic(auto, using(crate::proofs::EnvelopeMade::filled_stays, crate::proofs::EnvelopeMade::filled_takes))]
-    pub(crate) fn fill_id(self, id: Option<Uuid>) -> EnvelopeHeaders
-        ensures { headers_cell result ≡ fill_id (given_id id) (headers_cell self) }
-    {
-        match self.event_id {
-            Some(_) => self,
-            None => self.with_id(id),
-        }
-    }
-
-    // Sets the event id if absent.
     pub(crate) fn fill(&mut self, id: Option<Uuid>)
         ensures { headers_cell self.new ≡ fill_id (given_id id) (headers_cell self.old) }
     {

@@ -87,11 +87,12 @@ fn remake_headers(
     ensures { IfOk result (λ made.
         headers_cell made ≡ header_made way (headers_cell headers.now) (map item_view items.now)) }
 {
-    let made = headers.remake(way)?;
+    let mut made = headers.remake(way)?;
     match way {
-        Way::Same => Ok(made),
-        Way::Normal(_) => Ok(made.fill_id(first_id(items))),
+        Way::Same => {}
+        Way::Normal(_) => made.fill(first_id(items)),
     }
+    Ok(made)
 }
 
 fn remake_items(

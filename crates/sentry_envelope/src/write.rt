@@ -218,11 +218,13 @@ fn write_frame(header: &[u8], payload: &[u8], out: &mut Vec<u8>) -> Result<(), A
     end_frame(payload, out)
 }
 
-// Ends the line of a header, and appends a payload with a line feed.
+// Ends the line of a header, and appends a payload with a line feed. Room for all three is made at
+// once: else the last line feed would move a text that a large payload has just filled.
 fn end_frame(payload: &[u8], out: &mut Vec<u8>) -> Result<(), AllocError>
     ensures { OnOk result (out.new.items ≡ out.old.items ++
         with_line [] (with_line payload.now [])) }
 {
+    out.reserve(payload.len() + 2)?;
     out.push(b'\n')?;
     out.extend_from_slice(payload)?;
     out.push(b'\n')?;

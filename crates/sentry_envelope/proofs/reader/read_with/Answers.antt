@@ -28,19 +28,19 @@ pub returns-clause-spelled : goal.returns-clause-spelled
 returns-clause-spelled g c =
     let frames = c.new-frames.result in
     let shown = rw c.header_line.ensures at c.in_ok-headers.ensures.ok in
-    let filled = rw (c.first_id.ensures, c.deref.ensures.value) at c.fill_id.ensures in
-    whole_spelled c.args.bytes.now frames.header_line frames.rest c.new-frames.ensures (moment_cell c.args.now) (headers_cell c.in_ok-headers.headers) (headers_cell c.fill_id.result) c.in_ok-items.items.items shown c.in_ok-items.ensures.ok filled
+    let filled = rw (c.first_id.ensures, c.deref.ensures.value) at c.fill.ensures in
+    whole_spelled c.args.bytes.now frames.header_line frames.rest c.new-frames.ensures (moment_cell c.args.now) (headers_cell c.in_ok-headers.headers) (headers_cell c.fill.new.self) c.in_ok-items.items.items shown c.in_ok-items.ensures.ok filled
 
 pub returns-clause-stored : goal.returns-clause-stored
 returns-clause-stored g c =
     let frames = c.new-frames.result in
     let shown = rw c.header_line.ensures at c.in_ok-headers.ensures.ok in
-    let filled = rw (c.first_id.ensures, c.deref.ensures.value) at c.fill_id.ensures in
-    spelled_stored c.args.bytes.now c.args.now _ (whole_spelled c.args.bytes.now frames.header_line frames.rest c.new-frames.ensures (moment_cell c.args.now) (headers_cell c.in_ok-headers.headers) (headers_cell c.fill_id.result) c.in_ok-items.items.items shown c.in_ok-items.ensures.ok filled)
+    let filled = rw (c.first_id.ensures, c.deref.ensures.value) at c.fill.ensures in
+    spelled_stored c.args.bytes.now c.args.now _ (whole_spelled c.args.bytes.now frames.header_line frames.rest c.new-frames.ensures (moment_cell c.args.now) (headers_cell c.in_ok-headers.headers) (headers_cell c.fill.new.self) c.in_ok-items.items.items shown c.in_ok-items.ensures.ok filled)
 
 pub returns-clause-rewritten : goal.returns-clause-rewritten
 returns-clause-rewritten g c =
     let frames = c.new-frames.result in
     let shown = rw c.header_line.ensures at c.in_ok-headers.ensures.ok in
-    let filled = rw (c.first_id.ensures, c.deref.ensures.value) at c.fill_id.ensures in
-    spelled_rewritten c.args.bytes.now c.args.now _ (whole_spelled c.args.bytes.now frames.header_line frames.rest c.new-frames.ensures (moment_cell c.args.now) (headers_cell c.in_ok-headers.headers) (headers_cell c.fill_id.result) c.in_ok-items.items.items shown c.in_ok-items.ensures.ok filled)
+    let filled = rw (c.first_id.ensures, c.deref.ensures.value) at c.fill.ensures in
+    spelled_rewritten c.args.bytes.now c.args.now _ (whole_spelled c.args.bytes.now frames.header_line frames.rest c.new-frames.ensures (moment_cell c.args.now) (headers_cell c.in_ok-headers.headers) (headers_cell c.fill.new.self) c.in_ok-items.items.items shown c.in_ok-items.ensures.ok filled)
