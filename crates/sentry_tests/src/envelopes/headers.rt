@@ -71,15 +71,23 @@ fn is_line(alloc: Global, header: EnvelopeHeaders) -> bool {
     is_text(alloc, made, LINE)
 }
 
-/// What is put in is written, and a number below 1 isn't rounded up to it.
-#[test]
-fn builders(rt: HostRuntime) -> Result<(), Fail> {
-    let alloc = rt.alloc();
+/// Whether a header and its normal form are written as `LINE`.
+fn are_lines(alloc: Global, header: EnvelopeHeaders) -> bool {
+    let normal = taken(alloc, header.normalized(alloc), is_line);
+    is_line(alloc, header) && normal
+}
+
+/// The header of `LINE`.
+fn header_of_line(alloc: Global) -> Result<EnvelopeHeaders, Fail> {
     let near_one = SampleRand::from_billionths(999_999_900).ok().ok_or("rand")?;
     let sent_at = Moment::new(1_581_084_960, 0).ok_or("moment")?;
     let (sdk, trace) = (software(alloc)?, sampling(alloc, near_one)?);
     let dsn = Dsn::from_str(alloc, "https://username@domain/42")?;
-    let header = header(dsn, sdk, sent_at, trace);
-    let normal = taken(alloc, header.normalized(alloc), is_line);
-    wanted(is_line(alloc, header) && normal)
+    Ok(header(dsn, sdk, sent_at, trace))
+}
+
+/// What is put in is written, and a number below 1 isn't rounded up to it.
+#[test]
+fn builders(rt: HostRuntime) -> Result<(), Fail> {
+    wanted(are_lines(rt.alloc(), header_of_line(rt.alloc())?))
 }

@@ -54,19 +54,20 @@ fn log_file(alloc: Global, bytes: &[u8]) -> Result<EnvelopeItem, AllocError> {
     Ok(EnvelopeItem::from(attachment))
 }
 
-/// Returns an envelope of two items for a DSN, to be sent at `now`.
-fn addressed(
-    alloc: Global,
-    dsn: Dsn,
-    now: Moment,
+/// Returns an envelope without items for a DSN, to be sent at `now`.
+fn addressed(alloc: Global, dsn: Dsn, now: Moment) -> Envelope {
+    let headers = EnvelopeHeaders::new().with_dsn(dsn).with_sent_at(now);
+    Envelope::new(alloc).with_headers(headers)
+}
+
+/// Appends an event and an attachment.
+fn add_both(
+    envelope: &mut Envelope,
     event: EnvelopeItem,
     attachment: EnvelopeItem,
-) -> Result<Envelope, AddRefused> {
-    let headers = EnvelopeHeaders::new().with_dsn(dsn).with_sent_at(now);
-    let mut envelope = Envelope::new(alloc).with_headers(headers);
+) -> Result<(), AddRefused> {
     envelope.add_item(event)?;
-    envelope.add_item(attachment)?;
-    Ok(envelope)
+    envelope.add_item(attachment)
 }
 
 /// Returns the item of a panic's event.
@@ -80,10 +81,14 @@ fn panic_item(alloc: Global, now: Moment) -> Result<EnvelopeItem, AllocError> {
 }
 
 /// Returns the envelope of a panic.
-fn report(alloc: Global, dsn: Dsn, now: Moment) -> Result<Envelope, Fail> {
+fn report(alloc: Global, dsn: Dsn, now: Moment) -> Result<Envelope, AllocError> {
     let event = panic_item(alloc, now)?;
     let file = log_file(alloc, b"opened\n")?;
-    Ok(addressed(alloc, dsn, now, event, file)?)
+    let mut envelope = addressed(alloc, dsn, now);
+    match add_both(&mut envelope, event, file) {
+        Ok(()) => Ok(envelope),
+        Err(_) => Err(AllocError),
+    }
 }
 
 /// The report: the event's id is the first one of the generator, and the header's.
@@ -102,6 +107,5 @@ fn a_panic_is_reported(rt: HostRuntime) -> Result<(), Fail> {
     let alloc = rt.alloc();
     let now = Moment::new(1_595_256_674, 0).ok_or("moment")?;
     let dsn = Dsn::from_str(alloc, "https://key@sentry.io/1")?;
-    let made: Result<Envelope, AllocError> = Ok(report(alloc, dsn, now)?);
-    wanted(is_text(alloc, made, REPORT))
+    wanted(is_text(alloc, report(alloc, dsn, now), REPORT))
 }

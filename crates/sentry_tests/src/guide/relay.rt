@@ -1,5 +1,6 @@
 //! A relay: it reads the envelope header, keeps a quota of events, and forwards.
 
+use super::text_of;
 use crate::envelopes::read;
 use crate::wanted::wanted;
 use sentry_types::protocol::v7::{
@@ -29,13 +30,6 @@ impl Quota {
         self.left = self.left.saturating_sub(1);
         admitted
     }
-}
-
-/// Returns the text of an envelope.
-fn text_of(alloc: Global, envelope: &Envelope) -> Result<Vec<u8>, EnvelopeWriteError> {
-    let mut text = Vec::new(alloc);
-    envelope.to_writer(alloc, &mut text)?;
-    Ok(text)
 }
 
 /// Returns the text of what a quota admits of an envelope, with its header; `None` if nothing is

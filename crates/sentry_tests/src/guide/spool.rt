@@ -1,5 +1,6 @@
 //! A spool: it keeps envelopes in files, finds doubles, and reads files that were cut off.
 
+use super::text_of;
 use crate::envelopes::read;
 use crate::wanted::{is_done, wanted};
 use sentry_types::protocol::v7::{Envelope, EnvelopeError, EnvelopeWriteError, Frames};
@@ -9,8 +10,7 @@ use std::test::Fail;
 
 /// Stores an envelope as a file.
 fn store(rt: &HostRuntime, path: &str, envelope: &Envelope) -> Result<(), Fail> {
-    let mut text = Vec::new(rt.alloc());
-    envelope.to_writer(rt.alloc(), &mut text)?;
+    let text = text_of(rt.alloc(), envelope)?;
     fs::write(rt, path, &text)?;
     Ok(())
 }
@@ -18,12 +18,10 @@ fn store(rt: &HostRuntime, path: &str, envelope: &Envelope) -> Result<(), Fail> 
 /// Returns the text of an envelope's normal form. Two plain, readable envelopes have the same
 /// normal form exactly if these texts are the same.
 fn canonical(alloc: Global, envelope: &Envelope) -> Result<Vec<u8>, EnvelopeWriteError> {
-    let Ok(normal) = envelope.normalized() else {
-        return Err(EnvelopeWriteError::Memory);
-    };
-    let mut text = Vec::new(alloc);
-    normal.to_writer(alloc, &mut text)?;
-    Ok(text)
+    match envelope.normalized() {
+        Ok(normal) => text_of(alloc, &normal),
+        Err(_) => Err(EnvelopeWriteError::Memory),
+    }
 }
 
 /// Returns how many of the bytes are the header line and items that were written whole: each ends in
