@@ -1,6 +1,7 @@
 pub mod Sent
 pub mod Demands
 pub mod HeaderValues
+pub mod HeadersFilled
 pub mod EnvelopeLine
 pub mod EnvelopeShown
 pub mod EnvelopeSized

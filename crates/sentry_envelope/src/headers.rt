@@ -1,7 +1,8 @@
 //! Envelope headers.
 
-ghost use Rattle.std.specs.Prelude.{◌≡◌, ◌⊎◌, IfOk, IfErr};
-ghost use Rattle.sentry_members.specs.Reading.{TextShown, TextRefused};
+ghost use Rattle.std.specs.Prelude.{◌≡◌, ◌⊎◌, IfErr, OnOk};
+ghost use Rattle.sentry_members.specs.Reading.{Only, Refused, Shown, TextRefused, TextShown};
+ghost use Rattle.sentry_tape.specs.TapeView.{node_data};
 ghost use Rattle.sentry_envelope.specs.HeaderFields.{header_fields, header_in_order, header_kind, headers_cell};
 
 use sentry_framing::EnvelopeError;
@@ -13,6 +14,7 @@ use sentry_moments::{Moment, Rfc3339};
 use sentry_parts::ClientSdkInfo;
 use sentry_records::DynamicSamplingContext;
 use sentry_rows::{AsTable, Copier, CopyTable, ReadTable, Reader, Sink, Table};
+use sentry_tape::TapeNode;
 use std::alloc::{AllocError, Global};
 use uuid::Uuid;
 
@@ -228,17 +230,64 @@ impl CopyTable for EnvelopeHeaders {
     }
 }
 
+// Reads the header line into `headers`, where they stay: they are too large to hand on by value.
+#[inline(never)]
 pub(crate) fn read_header_line<'a>(
     lines: &mut LineReader<'_, 'a>,
     line: &'a [u8],
-) -> Result<EnvelopeHeaders, EnvelopeError>
-    ensures ok { IfOk result (λ headers. TextShown header_kind line.now (headers_cell headers)) }
+    headers: &mut EnvelopeHeaders,
+) -> Result<(), EnvelopeError>
+    ensures ok { OnOk result (TextShown header_kind line.now (headers_cell headers.new)) }
     ensures err { IfErr result (λ e. (e ≡ EnvelopeError.OutOfMemory)
         ⊎ ((e ≡ EnvelopeError.InvalidHeader) × TextRefused header_kind line.now)) }
 {
-    match lines.read::<EnvelopeHeaders>(line) {
-        Ok(headers) => Ok(headers),
+    match fill_headers(lines, line, headers) {
+        Ok(()) => Ok(()),
         Err(TreeError::Misfit) => Err(EnvelopeError::InvalidHeader),
         Err(TreeError::Memory) => Err(EnvelopeError::OutOfMemory),
     }
+}
+
+fn fill_headers<'a>(
+    lines: &mut LineReader<'_, 'a>,
+    line: &'a [u8],
+    headers: &mut EnvelopeHeaders,
+) -> Result<(), TreeError>
+    ensures ok { OnOk result (TextShown header_kind line.now (headers_cell headers.new)) }
+    ensures err { IfErr result (λ e. Only e (TextRefused header_kind line.now)) }
+{
+    let alloc = lines.alloc();
+    match lines.root(line) {
+        Some(root) => fill_from_root(alloc, &root, headers),
+        None => fill_from_line(lines, line, headers),
+    }
+}
+
+#[tactic(auto, using(sentry_rows::proofs::Answering::no_object_fails))]
+fn fill_from_root<'t, 'a>(
+    alloc: Global,
+    root: &TapeNode<'t, 'a>,
+    headers: &mut EnvelopeHeaders,
+) -> Result<(), TreeError>
+    ensures ok { OnOk result (Shown header_kind (node_data root.now) (headers_cell headers.new)) }
+    ensures err { IfErr result (λ e. Only e (Refused header_kind (node_data root.now))) }
+{
+    let mut from = Reader::new(alloc, root)?;
+    *headers = ReadTable::read(&mut from);
+    from.end(())
+}
+
+// The same of a line that the tape doesn't take: few lines come here.
+#[cold]
+#[inline(never)]
+fn fill_from_line<'a>(
+    lines: &mut LineReader<'_, 'a>,
+    line: &'a [u8],
+    headers: &mut EnvelopeHeaders,
+) -> Result<(), TreeError>
+    ensures ok { OnOk result (TextShown header_kind line.now (headers_cell headers.new)) }
+    ensures err { IfErr result (λ e. Only e (TextRefused header_kind line.now)) }
+{
+    *headers = lines.read(line)?;
+    Ok(())
 }

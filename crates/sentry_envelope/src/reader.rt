@@ -9,7 +9,7 @@ ghost use Rattle.sentry_moments.specs.Moments.{moment_cell};
 
 use crate::envelope::{Contents, Envelope};
 use crate::filtering::first_id;
-use crate::headers::read_header_line;
+use crate::headers::{EnvelopeHeaders, read_header_line};
 use crate::read::read_items;
 use rand_core::Rng;
 use sentry_framing::{EnvelopeError, Frames};
@@ -81,7 +81,8 @@ pub(crate) fn read_with<R: Rng>(
 {
     let mut lines = LineReader::new(alloc, scratch);
     let mut frames = Frames::new(bytes);
-    let mut headers = read_header_line(&mut lines, frames.header_line())?;
+    let mut headers = EnvelopeHeaders::new();
+    read_header_line(&mut lines, frames.header_line(), &mut headers)?;
     let items = read_items(&mut lines, &mut frames, now, ids)?;
     headers.fill(first_id(&items));
     Ok(Envelope {
