@@ -1,5 +1,6 @@
 pub mod TokenLists
 pub mod PlainTexts
+pub mod CharacterEnds
 pub mod Integers
 pub mod WordsAndTexts
 pub mod Lexemes

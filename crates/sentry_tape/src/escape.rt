@@ -92,7 +92,7 @@ pub(crate) fn split_escaped<'a>(alloc: Global, inside: Rest<'a>) -> Option<(Stri
     let mut content = String::with_capacity(alloc, USUAL).ok()?;
     let mut rest = inside;
     loop {
-        let (run, stop) = rest.split_run()?;
+        let (run, stop) = rest.split_run();
         content.push_str(run).ok()?;
         if let Some(after) = stop.after(b'"') {
             return Some((content, after));

@@ -6,7 +6,8 @@ ghost use Rattle.sentry_tape.specs.PlainTexts.{is_plain_text};
 use crate::run::run_len;
 use std::str;
 
-/// What is left of a line, as a text.
+/// What is left of a line, as a text. It is cut without asking again where a character ends: that it
+/// ends there is proved.
 #[derive(Clone, Copy)]
 pub(crate) struct Rest<'a> {
     pub(crate) text: &'a str,
@@ -37,11 +38,12 @@ impl<'a> Rest<'a> {
     pub fn after(&self, byte: u8) -> Option<Rest<'a>>
         ensures { IfSome result (λ rest. self.now.text.now ≡ byte ∷ rest.text.now) }
     {
-        let (first, _) = self.text.as_bytes().split_first()?;
-        if *first != byte {
+        let (first, rest) = self.text.as_bytes().split_first()?;
+        if *first != byte || !byte.is_ascii() {
             return None;
         }
-        let (_, text) = self.text.split_at_checked(1)?;
+        // SAFETY: what follows a character of a text is a text.
+        let text = unsafe { str::from_utf8_unchecked(rest) };
         Some(Rest { text })
     }
 
@@ -58,11 +60,20 @@ impl<'a> Rest<'a> {
 
     /// Splits off what stands before the first quote, backslash or control byte.
     #[inline(always)]
-    pub fn split_run(&self) -> Option<(&'a str, Rest<'a>)>
-        ensures parts { IfSome result (λ x. self.now.text.now ≡ x.0.now ++ x.1.text.now) }
-        ensures plain { IfSome result (λ x. is_plain_text x.0.now ≡ true) }
+    pub fn split_run(&self) -> (&'a str, Rest<'a>)
+        ensures parts { self.now.text.now ≡ result.0.now ++ result.1.text.now }
+        ensures plain { is_plain_text result.0.now ≡ true }
     {
-        self.split(run_len(self.text.as_bytes()))
+        let bytes = self.text.as_bytes();
+        let (run, rest) = bytes.split_at(run_len(bytes));
+        // SAFETY: a run ends with the text, or before a byte of ASCII.
+        let (run, text) = unsafe {
+            (
+                str::from_utf8_unchecked(run),
+                str::from_utf8_unchecked(rest),
+            )
+        };
+        (run, Rest { text })
     }
 
     /// Returns what follows a word at the front; `None` if another stands there.

@@ -64,7 +64,7 @@ fn split_string<'a>(alloc: Global, inside: Rest<'a>) -> Option<(Token<'a>, Rest<
         × IsQuoted inside.entry.text.now s x.1.text.now) }
     ensures shorter { IfSome result (λ x. length x.1.text.now < length inside.entry.text.now) }
 {
-    let (text, stop) = inside.split_run()?;
+    let (text, stop) = inside.split_run();
     if let Some(rest) = stop.after(b'"') {
         return Some((Token::Text(text), rest));
     }
