@@ -27,6 +27,14 @@ pub fn is_same<T: PartialEq + Drop, E: Drop>(made: Result<T, E>, value: &T) -> b
     }
 }
 
+/// Whether a copy that was made is the value.
+pub fn said_same<T: PartialEq + Drop>(
+    copy: Result<T, AllocError>,
+    value: &T,
+) -> Result<Value, AllocError> {
+    Ok(Value::from(copy? == *value))
+}
+
 /// What is said of a value that was made, or why none was.
 pub fn said_of<T: Drop, E: Display + Drop, F: FnOnce(Global, &T) -> Result<Value, AllocError>>(
     alloc: Global,

@@ -1,6 +1,6 @@
 //! Envelopes that items are added to.
 
-use crate::asked::{is_same, said_of, taken};
+use crate::asked::{said_of, said_same, taken};
 use crate::envelopes::{read, said_envelope};
 use crate::filters::word_of;
 use crate::said::{as_tree, list, maybe_shown, text};
@@ -38,14 +38,18 @@ fn item_of(alloc: Global, word: &str) -> Result<EnvelopeItem, AllocError> {
     })
 }
 
-// The word of an item that is handed back.
-fn word_back(answer: Result<(), AddRefused>) -> Option<&'static str> {
+// The word of an item that a raw envelope hands back.
+fn word_back(answer: Result<(), AddRefused>) -> Result<Option<&'static str>, AllocError> {
     match answer {
-        Ok(()) => None,
-        Err(AddRefused::RawEnvelope(item)) | Err(AddRefused::Memory(item)) => {
+        Ok(()) => Ok(None),
+        Err(AddRefused::RawEnvelope(item)) => {
             let word = word_of(&item);
             drop(item);
-            Some(word)
+            Ok(Some(word))
+        }
+        Err(AddRefused::Memory(item)) => {
+            drop(item);
+            Err(AllocError)
         }
     }
 }
@@ -58,7 +62,7 @@ fn add_all(alloc: Global, envelope: &mut Envelope, words: &str) -> Result<Value,
             continue;
         }
         let item = item_of(alloc, word)?;
-        if let Some(word) = word_back(envelope.add_item(item)) {
+        if let Some(word) = word_back(envelope.add_item(item))? {
             back.push(text(alloc, word)?)?;
         }
     }
@@ -104,7 +108,7 @@ fn said_whole(alloc: Global, envelope: &Envelope) -> Result<Value, AllocError> {
         said_ids(alloc, envelope),
         said_items(alloc, envelope),
         said_of(alloc, envelope.normalized(), said_items),
-        as_tree(is_same(envelope.clone(), envelope)),
+        said_same(envelope.clone(), envelope),
         taken(alloc, envelope.clone(), said_count),
     ];
     list(alloc, fields)

@@ -1,6 +1,6 @@
 //! Which values are the same, by `==`.
 
-use crate::asked::is_same;
+use crate::asked::said_same;
 use crate::form::{ids, now};
 use crate::said::{as_tree, list, refused, unknown};
 use sentry_types::protocol::v7::{
@@ -14,7 +14,7 @@ use std::alloc::{AllocError, Global};
 // Whether a value is its clone, and whether it is the other one, both ways.
 fn compared<T: Member + PartialEq>(alloc: Global, one: &T, other: &T) -> Result<Value, AllocError> {
     let fields = [
-        as_tree(is_same(one.copy(), one)),
+        said_same(one.copy(), one),
         as_tree(*one == *other),
         as_tree(*other == *one),
     ];

@@ -3,7 +3,7 @@
 use crate::asked::{said_of, taken};
 use crate::envelopes::said_envelope;
 use crate::form::{by_line_at, by_tree_at, cloned_at};
-use crate::said::{list, shown, text};
+use crate::said::{as_tree, list, shown, text};
 use sentry_types::protocol::v7::{
     Envelope, EnvelopeItem, Event, FromTreeAt, Member, Span, Transaction, TreeError, Value,
 };
@@ -40,6 +40,22 @@ pub fn said_event(alloc: Global, event: Event<'static>) -> Result<Value, AllocEr
 // The text of the envelope of a transaction.
 fn said_transaction(alloc: Global, transaction: Transaction<'static>) -> Result<Value, AllocError> {
     said_boxed(alloc, EnvelopeItem::transaction(alloc, transaction))
+}
+
+/// The id, the level, the platform, the fingerprint and the second of an event.
+pub fn said_fields(alloc: Global, event: &Event<'static>) -> Result<Value, AllocError> {
+    let mut fingerprint = Vec::new(alloc);
+    for part in &event.fingerprint {
+        fingerprint.push(text(alloc, part.as_str())?)?;
+    }
+    let fields = [
+        shown(alloc, &event.event_id),
+        text(alloc, event.level.as_str()),
+        text(alloc, event.platform.as_str()),
+        as_tree(fingerprint),
+        as_tree(event.timestamp.secs()),
+    ];
+    list(alloc, fields)
 }
 
 const LENT: &str = "lent";

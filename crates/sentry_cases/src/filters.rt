@@ -13,6 +13,7 @@ pub struct ByKinds<'a> {
     alloc: Global,
     words: &'a str,
     losses: Vec<Value>,
+    failed: bool,
 }
 
 /// The word of an item's type.
@@ -29,7 +30,16 @@ impl<'a> ByKinds<'a> {
             alloc,
             words,
             losses: Vec::new(alloc),
+            failed: false,
         }
+    }
+
+    /// The losses that were noted, if each could be.
+    pub fn told(self) -> Result<Value, AllocError> {
+        if self.failed {
+            return Err(AllocError);
+        }
+        as_tree(self.losses)
     }
 
     fn note(&mut self, item: &EnvelopeItem) -> Result<(), AllocError> {
@@ -59,7 +69,9 @@ impl EnvelopeFilter for ByKinds<'_> {
     }
 
     fn on_filtered(&mut self, item: EnvelopeItem) {
-        let _ = self.note(&item);
+        if self.note(&item).is_err() {
+            self.failed = true;
+        }
         drop(item);
     }
 }
@@ -115,13 +127,31 @@ fn left_by(
 ) -> Result<Value, AllocError> {
     let mut filter = ByKinds::new(alloc, words);
     let left = said_filtered(alloc, filter_left(alloc, envelope, keep, &mut filter));
-    let ByKinds { losses, .. } = filter;
-    list(alloc, [left, as_tree(losses)])
+    list(alloc, [left, filter.told()])
+}
+
+// What is left of an envelope, or null, by a filter that is handed over.
+fn left_by_value(alloc: Global, envelope: Envelope, words: &str) -> Result<Value, AllocError> {
+    match envelope.filter(alloc, ByKinds::new(alloc, words)) {
+        Ok(left) => said_left(alloc, left),
+        Err((envelope, filter)) => {
+            drop(envelope);
+            drop(filter);
+            Err(AllocError)
+        }
+    }
 }
 
 /// What is left of the envelope that bytes spell without the items of some kinds. The fields of its
-/// header stay if the first word is `-k`.
+/// header stay if the first word is `-k`; the filter is handed over if it is `-v`.
 pub fn of_filter(alloc: Global, words: &str, bytes: &[u8]) -> Result<Value, AllocError> {
+    if let Some(words) = words.strip_prefix("-v ") {
+        return taken(
+            alloc,
+            read(alloc, bytes),
+            |alloc: Global, envelope: Envelope| { left_by_value(alloc, envelope, words) },
+        );
+    }
     let (keep, words) = match words.strip_prefix("-k ") {
         Some(words) => (true, words),
         None => (false, words),
@@ -139,6 +169,7 @@ struct Scribe<'a> {
     alloc: Global,
     answers: &'a [u8],
     calls: Vec<Value>,
+    failed: bool,
 }
 
 // The name of an attachment, or the word of an item's type.
@@ -150,11 +181,25 @@ fn name_of(item: &EnvelopeItem) -> &str {
 }
 
 impl Scribe<'_> {
-    fn note(&mut self, call: &str, item: &EnvelopeItem) -> Result<(), AllocError> {
+    fn try_note(&mut self, call: &str, item: &EnvelopeItem) -> Result<(), AllocError> {
         let name = name_of(item);
         let told = format!(in self.alloc; "{call} {name}")?;
         self.calls.push(Value::from(told))?;
         Ok(())
+    }
+
+    fn note(&mut self, call: &str, item: &EnvelopeItem) {
+        if self.try_note(call, item).is_err() {
+            self.failed = true;
+        }
+    }
+
+    // The calls that were noted, if each could be.
+    fn told(self) -> Result<Value, AllocError> {
+        if self.failed {
+            return Err(AllocError);
+        }
+        as_tree(self.calls)
     }
 }
 
@@ -172,7 +217,7 @@ impl EnvelopeFilter for Scribe<'_> {
     ghost hand_keeps = { λ scribe item next ready given. tt };
 
     fn filter(&mut self, item: &EnvelopeItem) -> bool {
-        let _ = self.note("ask", item);
+        self.note("ask", item);
         match self.answers.split_first() {
             Some((answer, rest)) => {
                 self.answers = rest;
@@ -183,7 +228,7 @@ impl EnvelopeFilter for Scribe<'_> {
     }
 
     fn on_filtered(&mut self, item: EnvelopeItem) {
-        let _ = self.note("hand", &item);
+        self.note("hand", &item);
         drop(item);
     }
 }
@@ -199,10 +244,10 @@ fn answered_by(
         alloc,
         answers: answers.as_bytes(),
         calls: Vec::new(alloc),
+        failed: false,
     };
     let left = said_filtered(alloc, filter_left(alloc, envelope, keep, &mut filter));
-    let Scribe { calls, .. } = filter;
-    list(alloc, [left, as_tree(calls)])
+    list(alloc, [left, filter.told()])
 }
 
 /// What is left by some answers of the envelope that bytes spell, or of the raw envelope of bytes

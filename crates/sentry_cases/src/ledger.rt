@@ -8,8 +8,7 @@ use sentry_types::IndexedEnum;
 use sentry_types::protocol::v7::client_report::{
     Category, ItemLoss, Ledger, Reason, Step, StepAnswer, filter_recorded, run_steps,
 };
-use sentry_types::protocol::v7::{Envelope, Member, Moment};
-use serde_json::Value;
+use sentry_types::protocol::v7::{Envelope, Member, Moment, Value};
 use std::alloc::{AllocError, Global};
 
 fn category_of(word: &str) -> Option<Category> {
@@ -73,7 +72,7 @@ fn said_answer(alloc: Global, answer: &StepAnswer) -> Result<Value, AllocError> 
         StepAnswer::Refused => text(alloc, "refused"),
         StepAnswer::Flushed(report) => report.to_tree(alloc),
         StepAnswer::Nothing => text(alloc, "nothing"),
-        StepAnswer::NoMemory => text(alloc, "no memory"),
+        StepAnswer::NoMemory => Err(AllocError),
     }
 }
 

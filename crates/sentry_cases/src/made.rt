@@ -1,16 +1,16 @@
 //! Values that no line of JSON shows: they are made of parts.
 
-use crate::asked::{is_same, said_of, said_own};
+use crate::asked::{said_of, said_own, said_same};
 use crate::bytes::said_bytes;
 use crate::envelopes::said_losses;
-use crate::events::said_event;
+use crate::events::{said_event, said_fields};
 use crate::form::{ids, now, written};
 use crate::said::{as_tree, debug, list, refused, text, tree, unknown};
 use sentry_members::text_of;
 use sentry_types::IndexedEnum;
 use sentry_types::protocol::v7::{
     Attachment, AttachmentType, Breadcrumb, Category, Context, Event, FromTree, GpuContext, Item,
-    Log, LogAttribute, LogLevel, Map, Member, Moment, OsContext, Own, Reason, Report, Span,
+    Log, LogAttribute, LogLevel, Map, Member, Metric, Moment, OsContext, Own, Reason, Report, Span,
     TraceContext, Transaction, TreeError, Unit, User, Value,
 };
 use std::alloc::{AllocError, Global};
@@ -231,6 +231,11 @@ pub fn of_parts(alloc: Global, name: &str, parts: &[Value]) -> Result<Option<Val
         ("Event whose user has another member", [Value::String(key)]) => {
             of_other_member(alloc, key.as_str())?
         }
+        ("Event whose context has another member", [Value::String(name), Value::String(key)]) =>
+            of_other_context(alloc, name.as_str(), key.as_str())?,
+        ("Metric of another unit", [Value::String(unit), metric]) => {
+            of_other_metric(alloc, unit.as_str(), metric)?
+        }
         ("Context with other members", [Value::String(name), Value::Object(members)]) => {
             let made = context_of(alloc, name.as_str(), members.copy()?);
             said_of(alloc, made, said_context)?
@@ -316,8 +321,8 @@ fn said_beside<T: Member + PartialEq>(
     let fields = [
         custom.to_tree(alloc),
         as_tree(*custom == *named),
-        as_tree(is_same(custom.copy(), custom)),
-        as_tree(is_same(custom.normal(alloc), named)),
+        said_same(custom.copy(), custom),
+        said_same(custom.normal(alloc), named),
     ];
     list(alloc, fields)
 }
@@ -336,6 +341,29 @@ pub fn of_other_unit(alloc: Global, given: &str) -> Result<Value, AllocError> {
     said_beside(alloc, &custom, &named)
 }
 
+// The tree that a value writes, and the tree that is written of the value which it shows.
+fn said_again<T: FromTree + Member>(alloc: Global, value: T) -> Result<Value, AllocError> {
+    let first = said_own(alloc, value)?;
+    let second = said_of(alloc, T::from_tree(alloc, &first), tree);
+    list(alloc, [Ok(first), second])
+}
+
+// What is written of the metric that a tree shows, with a unit that is `Other` of a text, and what
+// is written of it once it was read.
+fn of_other_metric(alloc: Global, unit: &str, shown: &Value) -> Result<Value, AllocError> {
+    let unit = Unit::Other(CowStr::Owned(String::from_str(alloc, unit)?));
+    match Metric::from_tree(alloc, shown) {
+        Ok(mut metric) => {
+            drop(metric.unit.replace(unit));
+            said_again(alloc, metric)
+        }
+        Err(error) => {
+            drop(unit);
+            refused(alloc, &error)
+        }
+    }
+}
+
 // A transaction that began at a moment and has ended.
 fn ended(alloc: Global, now: Moment) -> Transaction<'static> {
     let mut transaction = Transaction::new(alloc, now, &mut ids());
@@ -351,6 +379,7 @@ pub fn of_new(alloc: Global, name: &str) -> Result<Value, AllocError> {
     match name {
         "Breadcrumb" => said_of(alloc, Breadcrumb::new(alloc, now), tree),
         "Event" => said_of(alloc, new_event(alloc), tree),
+        "Event, by its fields" => said_of(alloc, new_event(alloc), said_fields),
         "Span" => said_own(alloc, Span::new(alloc, now, &mut ids())),
         "TraceContext" => said_own(alloc, TraceContext::new(alloc, &mut ids())),
         "Transaction" => said_own(alloc, ended(alloc, now)),
@@ -381,4 +410,25 @@ fn said_with_user(alloc: Global, user: User) -> Result<Value, AllocError> {
 fn of_other_member(alloc: Global, key: &str) -> Result<Value, AllocError> {
     let other = one_entry(alloc, key, Value::from(1u64))?;
     said_with_user(alloc, user_of(alloc, other))
+}
+
+// What is written of a new event with contexts.
+fn said_with_contexts(alloc: Global, contexts: Map<String, Context>) -> Result<Value, AllocError> {
+    match new_event(alloc) {
+        Ok(mut event) => {
+            drop(replace(&mut event.contexts, contexts));
+            said_event(alloc, event)
+        }
+        Err(error) => {
+            drop(contexts);
+            refused(alloc, &error)
+        }
+    }
+}
+
+// What is written of an event whose context of a type has another member of this key.
+fn of_other_context(alloc: Global, name: &str, key: &str) -> Result<Value, AllocError> {
+    let other = one_entry(alloc, key, Value::from(1u64))?;
+    let context = context_of(alloc, name, other)?;
+    said_with_contexts(alloc, one_entry(alloc, name, context)?)
 }

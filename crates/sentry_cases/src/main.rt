@@ -3,8 +3,8 @@
 //! after it.
 //!
 //! Each wrong case is printed with its group and with what was answered, and at the end how many
-//! cases there were. The exit status is 0 where all answers are as wanted, 1 where some aren't, and
-//! 2 where the cases can't be read.
+//! cases there were. The exit status is 0 where all answers are as wanted, 1 where some aren't, 2
+//! where the cases can't be read, and 3 where memory is refused.
 #![tactic(auto)]
 
 mod answer;
@@ -35,7 +35,7 @@ mod words;
 
 use case::{Case, fault};
 use std::io;
-use std::io::{BufRead, BufReader, BufWriter, Write};
+use std::io::{BufRead, BufReader, BufWriter, ErrorKind, Write};
 use std::process::ExitCode;
 
 /// Answers all cases, and gives the count of those that are wrong.
@@ -68,6 +68,7 @@ fn main(rt: HostRuntime) -> ExitCode {
     match answer_all(&rt) {
         Ok(0) => ExitCode::from(0),
         Ok(_) => ExitCode::from(1),
+        Err(error) if error.kind() == ErrorKind::OutOfMemory => ExitCode::from(3),
         Err(_) => ExitCode::from(2),
     }
 }

@@ -65,9 +65,13 @@ pub fn maybe_shown<T: Display + Drop>(
     }
 }
 
-/// What a refusal prints, after `!`.
+/// What a refusal prints, after `!`. Want of memory is no answer.
 pub fn refused<E: Display>(alloc: Global, error: &E) -> Result<Value, AllocError> {
-    owned(format!(in alloc; "!{error}"))
+    let told = format!(in alloc; "!{error}")?;
+    match told.as_str() {
+        "!out of memory" | "!memory allocation failed" => Err(AllocError),
+        _ => Ok(Value::from(told)),
+    }
 }
 
 /// The answer to a name that asks for nothing.

@@ -254,6 +254,14 @@ fn a_word_that_is_no_text_is_no_call(rt: HostRuntime) -> Result<(), Fail> {
 }
 
 #[test]
+fn an_outcome_is_shown_by_its_name(rt: HostRuntime) -> Result<(), Fail> {
+    let outcome = Outcome::NothingLeft;
+    let text = format!(in rt.alloc(); "{outcome:?}")?;
+    assert!(rt; text.as_str() == "NothingLeft");
+    Ok(())
+}
+
+#[test]
 fn endings(rt: HostRuntime) {
     let rows = [
         (Ok(Outcome::Written), 0, ""),

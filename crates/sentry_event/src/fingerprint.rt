@@ -130,7 +130,7 @@ impl<'a> MadeCodec<Vec<CowStr<'a>>> for AsFingerprint {
 }
 
 /// Clones a fingerprint into owned strings. `AllocError` if an allocation fails.
-pub fn owned_texts<'a>(
+pub(crate) fn owned_texts<'a>(
     alloc: Global,
     texts: &Vec<CowStr<'a>>,
 ) -> Result<Vec<CowStr<'static>>, AllocError>

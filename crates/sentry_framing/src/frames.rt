@@ -107,8 +107,6 @@ impl<'a> Frames<'a> {
 
     /// Returns the next frame with its parsed item header; `None` if no bytes are left.
     ///
-    /// To read many, make one [`LineReader`] and call [`next_item_into`].
-    ///
     /// # Errors
     ///
     /// The errors of [`Frames::next_frame`], with the same effect on `self`.

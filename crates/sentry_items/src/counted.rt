@@ -198,7 +198,11 @@ pub fn send_plain<W: Write>(text: &[u8], writer: &mut W) -> Result<(), SendFaile
 ///
 /// `SendFailed` at the first write that fails, is interrupted, or accepts 0 bytes; only a proper
 /// prefix of both texts together was written.
-pub fn send_both<W: Write>(first: &[u8], second: &[u8], writer: &mut W) -> Result<(), SendFailed>
+pub(crate) fn send_both<W: Write>(
+    first: &[u8],
+    second: &[u8],
+    writer: &mut W,
+) -> Result<(), SendFailed>
     ensures whole { OnOk result (Appends (W.contents writer.old) (W.contents writer.new)
         (first.now ++ second.now)) }
     ensures front { OnErr result (AppendsFront (W.contents writer.old) (W.contents writer.new)

@@ -30,7 +30,7 @@ fn add_up(sum: u64, quantity: u64) -> u64
 
 /// Returns the sum of each category and reason, saturating at 2^64-1.
 #[tactic(auto, using(crate::proofs::ReportSums::keeps_nothing))]
-pub fn sums_of(items: &[Item]) -> [u64; SUMS]
+pub(crate) fn sums_of(items: &[Item]) -> [u64; SUMS]
     ensures { KeepsSums result items.now }
 {
     let mut sums = [0_u64; SUMS];

@@ -37,17 +37,12 @@ fn want_of_memory_is_printed(rt: HostRuntime) -> Result<(), Fail> {
 fn others_are_printed(rt: HostRuntime) -> Result<(), Fail> {
     let alloc = rt.alloc();
     let header = "missing envelope header";
-    let loss = ItemLoss {
-        category: Category::Error,
-        quantity: 1,
-        reason: None,
-    };
     wanted(
         prints(alloc, ApiUrlError::NotAUrl, "NotAUrl")
             && prints(alloc, AttachmentWriteError::Io, "Io")
             && prints(alloc, EnvelopeWriteError::Io, "Io")
             && prints(alloc, EnvelopeWriteError::NotPlain, "NotPlain")
-            && prints(alloc, LedgerFull(loss), "LedgerFull")
+            && prints(alloc, LedgerFull(an_error()), "LedgerFull")
             && prints(
                 alloc,
                 AddRefused::RawEnvelope(EnvelopeItem::Raw),
@@ -60,6 +55,15 @@ fn others_are_printed(rt: HostRuntime) -> Result<(), Fail> {
                 "missing item header",
             ),
     )
+}
+
+/// A loss of one error.
+fn an_error() -> ItemLoss {
+    ItemLoss {
+        category: Category::Error,
+        quantity: 1,
+        reason: None,
+    }
 }
 
 /// The `Debug` text of a value begins with this text.
@@ -78,6 +82,11 @@ fn debug_texts(rt: HostRuntime) -> Result<(), Fail> {
             && debugs(alloc, EnvelopeWriteError::NotPlain, "NotPlain")
             && debugs(alloc, Scheme::Https, "Https")
             && debugs(alloc, OrganizationId::from(5), "OrganizationId(5)")
-            && debugs(alloc, LossSlice(&[]), "LossSlice([])"),
+            && debugs(alloc, LossSlice(&[]), "LossSlice([])")
+            && debugs(
+                alloc,
+                LedgerFull(an_error()),
+                "LedgerFull(ItemLoss { category: Error, quantity: 1,",
+            ),
     )
 }

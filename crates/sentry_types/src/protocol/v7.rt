@@ -51,7 +51,7 @@ pub use uuid::Uuid;
 
 // Types as trees of JSON: the traits of their calls, and the forms of those that have several.
 pub use sentry_identifiers::{Hyphenated, Simple};
-pub use sentry_json::Node;
+pub use sentry_json::{Named, Node};
 pub use sentry_members::{
     Codec, Drawn, Formed, FromTree, Member, Own, ReadCodec, TreeError, Way, read_line, whole,
 };
