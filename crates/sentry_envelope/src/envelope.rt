@@ -293,7 +293,7 @@ impl Envelope {
     }
 
     /// Returns whether the envelope is structured and plain: no JSON value in the envelope holds a
-    /// float, and no additional member has the key of a field.
+    /// float, and no additional member has the key of a field or, in a context, `type`.
     ///
     /// A structured envelope can be written exactly if the envelope is plain. That the written text
     /// reads back takes more: see [`crate::laws::back`]. `EnvelopeItem::Raw` isn't written, and
