@@ -5,8 +5,8 @@ use crate::bytes::said_bytes;
 use crate::said::{as_tree, list, maybe, refused, text};
 use rand_pcg::Pcg32;
 use sentry_types::protocol::v7::{
-    CountedWriter, Envelope, EnvelopeError, EnvelopeReader, Frames, ItemFrame, ItemLoss,
-    LossSource, Moment, Value,
+    CountedWriter, Envelope, EnvelopeError, EnvelopeReader, EnvelopeWriteError, Frames, ItemFrame,
+    ItemLoss, LossSource, Moment, Value,
 };
 use std::alloc::{AllocError, Global};
 
@@ -23,6 +23,8 @@ pub fn said_envelope(alloc: Global, envelope: &Envelope) -> Result<Value, AllocE
     let mut out = Vec::new(alloc);
     match envelope.to_writer(alloc, &mut out) {
         Ok(()) => said_bytes(alloc, out.as_slice()),
+        // A vector takes what is written unless memory is refused.
+        Err(EnvelopeWriteError::Io) => Err(AllocError),
         Err(error) if out.is_empty() => refused(alloc, &error),
         Err(_) => text(alloc, "a part is written"),
     }

@@ -1,5 +1,5 @@
 -- Headers that are filled in their place.
-use Rattle.std.proofs.Common.{◌≡◌, ℕ, List, Unit, Some, None, Result, Ok, Err, refl, tt}
+use Rattle.std.proofs.Common.{◌≡◌, ℕ, List, Some, None, Result, Ok, Err, refl}
 use Rattle.std.specs.Prelude.{IfErr, OnOk}
 use Rattle.serde_json.specs.Data.{Data}
 use Rattle.sentry_json.specs.Line.{tree_of}

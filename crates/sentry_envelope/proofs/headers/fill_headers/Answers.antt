@@ -3,11 +3,11 @@ use Rattle.sentry_envelope.proofs.HeadersFilled.{line_filled}
 use Rattle.sentry_envelope.proofs.headers.fill_headers.Goals as goal
 
 pub returns-in-Some-clause-ok : goal.returns-in-Some-clause-ok
-returns-in-Some-clause-ok g c =
+returns-in-Some-clause-ok c =
     let f = c.fill_from_root in
     (line_filled c.args.line.now (node_data c.in-Some.root) f.new.headers f.result c.in-Some.ensures f.ensures.ok f.ensures.err).0
 
 pub returns-in-Some-clause-err : goal.returns-in-Some-clause-err
-returns-in-Some-clause-err g c =
+returns-in-Some-clause-err c =
     let f = c.fill_from_root in
     (line_filled c.args.line.now (node_data c.in-Some.root) f.new.headers f.result c.in-Some.ensures f.ensures.ok f.ensures.err).1
