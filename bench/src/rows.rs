@@ -40,7 +40,7 @@ const fn items(name: &'static str, mend: fn(&mut Cut) -> bool) -> Row {
 }
 
 /// All rows, in the order in which they mend together.
-pub static ROWS: [Row; 22] = [
+pub static ROWS: [Row; 23] = [
     items("item types that only Curdmesa has", own_items),
     node("an item header that is an array", item_header_array),
     node("a struct as an array", struct_array),
@@ -62,6 +62,7 @@ pub static ROWS: [Row; 22] = [
     node("urn:uuid: in another case", urn_case),
     node("a debug id of another form", debug_form),
     node("an invalid label in xn--", punycode),
+    node("a host with U+2061, U+2062 or U+2063", invisible),
     node("^ in a URL", caret),
     node("a moment past 9999", past_last),
     node("an RFC 3339 text: separator, second 60", rfc3339_form),
@@ -408,6 +409,12 @@ fn debug_form(value: &mut Json, kind: &Kind) -> bool {
 fn punycode(value: &mut Json, kind: &Kind) -> bool {
     text(value, matches!(kind, Kind::Url | Kind::Dsn), |text| {
         Some(text.replace("xn--", "xn-"))
+    })
+}
+
+fn invisible(value: &mut Json, kind: &Kind) -> bool {
+    text(value, matches!(kind, Kind::Url | Kind::Dsn), |text| {
+        Some(text.replace(['\u{2061}', '\u{2062}', '\u{2063}'], ""))
     })
 }
 
