@@ -166,8 +166,10 @@ class Cases(unittest.TestCase):
         with open(FILE, encoding="utf-8") as lines:
             for line in lines:
                 name, *rest = line.rstrip("\n").split("\t")
-                call = of_filter(name.split()[1:]) if name.startswith("filter ") else CALLS.get(name)
-                if call is None:
+                words = name.split()
+                call = of_filter(words[1:]) if words[0] == "filter" else CALLS.get(name)
+                # A filter that is handed over (`-v`) is a matter of Rust's.
+                if call is None or words[:2] == ["filter", "-v"]:
                     continue
                 given, wanted = map(json.loads, rest)
                 got = answer(call, given)
