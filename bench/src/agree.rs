@@ -2,10 +2,12 @@
 
 use crate::answers::{self, Answer, Fault};
 use crate::compare;
+use crate::differences;
 use crate::envelopes;
 use crate::frames;
 use crate::rows::{self, ROWS};
 use std::collections::BTreeMap;
+use std::io::{Error, Result};
 use std::time::Instant;
 
 /// How many unexplained differences are printed.
@@ -43,8 +45,11 @@ fn judge(bytes: &[u8]) -> Verdict {
             _ => Verdict::Written(rows),
         },
         Err(what) => match explain(bytes) {
-            Some(rows) => Verdict::Explained(rows),
-            None => Verdict::Unexplained(what),
+            Ok(rows) => Verdict::Explained(rows),
+            Err(Unlike::Values) => Verdict::Unexplained(what),
+            Err(Unlike::Spelling) => {
+                Verdict::Unexplained(format!("{what}, by white space or escapes alone"))
+            }
         },
     }
 }
@@ -53,9 +58,20 @@ fn agree(bytes: &[u8]) -> bool {
     compare::answers(&answers::ours(bytes), &answers::theirs(bytes)).is_ok()
 }
 
+/// A difference that no row explains.
+enum Unlike {
+    /// It is gone once white space and escapes are as usual.
+    Spelling,
+    Values,
+}
+
 /// Returns the rows that explain a difference: one alone if one does, else all that apply.
-fn explain(bytes: &[u8]) -> Option<Vec<&'static str>> {
+fn explain(bytes: &[u8]) -> std::result::Result<Vec<&'static str>, Unlike> {
     let cut = frames::cut(bytes);
+    // What a row mends is written without white space: that alone is no cause.
+    if agree(&frames::join(&cut)) {
+        return Err(Unlike::Spelling);
+    }
     let applied: Vec<_> = ROWS
         .iter()
         .filter(|row| row.mend(&mut cut.clone()))
@@ -64,7 +80,7 @@ fn explain(bytes: &[u8]) -> Option<Vec<&'static str>> {
         let mut mended = cut.clone();
         row.mend(&mut mended);
         if agree(&frames::join(&mended)) {
-            return Some(vec![row.name]);
+            return Ok(vec![row.name]);
         }
     }
     let mut mended = cut;
@@ -74,7 +90,10 @@ fn explain(bytes: &[u8]) -> Option<Vec<&'static str>> {
             names.push(row.name);
         }
     }
-    agree(&frames::join(&mended)).then_some(names)
+    match agree(&frames::join(&mended)) {
+        true => Ok(names),
+        false => Err(Unlike::Values),
+    }
 }
 
 fn print_bytes(bytes: &[u8]) {
@@ -145,7 +164,8 @@ impl Tally {
 }
 
 /// Compares the answers to `count` envelopes; returns whether each difference is explained.
-pub fn run(seed: u64, count: u64) -> bool {
+pub fn run(seed: u64, count: u64) -> Result<bool> {
+    differences::check().map_err(Error::other)?;
     let start = Instant::now();
     let mut tally = Tally::default();
     for index in 0..count {
@@ -161,11 +181,12 @@ pub fn run(seed: u64, count: u64) -> bool {
     }
     tally.print();
     eprintln!("{count} envelopes in {} s", start.elapsed().as_secs());
-    tally.unexplained == 0
+    Ok(tally.unexplained == 0)
 }
 
 /// Compares the answers to an envelope in a file; returns whether a difference is explained.
-pub fn run_file(path: &str) -> Result<bool, std::io::Error> {
+pub fn run_file(path: &str) -> Result<bool> {
+    differences::check().map_err(Error::other)?;
     let bytes = std::fs::read(path)?;
     match judge(&bytes) {
         Verdict::Written(rows) => println!("read, and written alike, but for {rows:?}"),

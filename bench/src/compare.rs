@@ -9,6 +9,13 @@ use std::collections::BTreeSet;
 /// Names of the rows that two equal texts differ in.
 pub type Rows = BTreeSet<&'static str>;
 
+const TIMESTAMP: &str = "a timestamp in seconds with a fraction is written as a float";
+const WHOLE: &str = "metric values `i64`, durations `u64` seconds, battery levels `u32` percent";
+const SAMPLE_RATE: &str = "`sample_rate: f32`, of any float text, printed shortest";
+
+/// Names of all rows that show in writing alone: each is a part of the row.
+pub const ROWS: [&str; 3] = [TIMESTAMP, WHOLE, SAMPLE_RATE];
+
 /// Compares two answers: `Ok` if they agree, and else what differs.
 pub fn answers(ours: &Answer, theirs: &Answer) -> Result<Rows, String> {
     match (ours, theirs) {
@@ -104,19 +111,19 @@ fn row(key: &str, ours: &Json, theirs: &Json) -> Option<&'static str> {
     match (key, ours, theirs) {
         ("timestamp" | "start_timestamp", Json::Text(ours), Json::Number(theirs)) => {
             let same = is_float(theirs) && seconds(ours)? == theirs.parse::<f64>().ok()?;
-            same.then_some("a timestamp with a fraction is written as text")
+            same.then_some(TIMESTAMP)
         }
         ("value" | "duration", Json::Number(ours), Json::Number(theirs)) => {
             let same = ours.parse::<f64>().ok()? == theirs.parse::<f64>().ok()?;
-            (same && is_float(theirs)).then_some("whole numbers are written without a point")
+            (same && is_float(theirs)).then_some(WHOLE)
         }
         ("battery_level", Json::Number(ours), Json::Number(theirs)) => {
             let same = ours.parse::<f32>().ok()? == theirs.parse::<f32>().ok()?;
-            (same && is_float(theirs)).then_some("whole numbers are written without a point")
+            (same && is_float(theirs)).then_some(WHOLE)
         }
         ("sample_rate", Json::Text(ours), Json::Text(theirs)) => {
             let same = ours.parse::<f32>().ok()? == theirs.parse::<f32>().ok()?;
-            same.then_some("a sample rate keeps its digits")
+            same.then_some(SAMPLE_RATE)
         }
         _ => None,
     }

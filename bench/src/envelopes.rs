@@ -2,7 +2,7 @@
 
 use crate::damage;
 use crate::json::{self, Json};
-use crate::make::Maker;
+use crate::make::{Maker, Spacing};
 use crate::random::Random;
 use crate::schema::{self, Kind};
 use crate::texts;
@@ -12,11 +12,17 @@ pub fn make(seed: u64, index: u64) -> Vec<u8> {
     let mut random = Random::new(seed, index);
     let noise = *random.pick(&[0, 0, 0, 2, 6, 20]);
     let density = *random.pick(&[80, 250, 600]);
+    let spacing = match random.below(10) {
+        0 => Spacing::Spaced,
+        1 => Spacing::Pretty,
+        _ => Spacing::Mixed,
+    };
     let damaged = random.chance(200);
     let mut maker = Maker {
         random,
         noise,
         density,
+        spacing,
     };
     let mut bytes = envelope(&mut maker);
     if damaged {
@@ -29,7 +35,10 @@ fn envelope(maker: &mut Maker) -> Vec<u8> {
     let mut bytes = Vec::new();
     let header = maker.value(&schema::HEADER);
     write(maker, &header, false, &mut bytes);
-    let items = *maker.random.pick(&[0, 1, 1, 1, 1, 2, 2, 3]);
+    let items = match maker.random.below(100) {
+        0 => maker.random.below(41),
+        _ => *maker.random.pick(&[0, 1, 1, 1, 1, 2, 2, 3]),
+    };
     for _ in 0..items {
         bytes.push(b'\n');
         item(maker, &mut bytes);
@@ -118,11 +127,15 @@ fn stated(maker: &mut Maker, length: usize) -> Json {
     }
 }
 
-/// Writes a value, most often without white space; with `feeds` there may be line feeds in it.
+/// Writes a value with the envelope's spacing; with `feeds` there may be line feeds in it.
 fn write(maker: &mut Maker, value: &Json, feeds: bool, out: &mut Vec<u8>) {
-    match maker.random.below(8) {
-        0 => write_styled(&mut maker.random, value, feeds, out),
-        _ => json::write(value, out),
+    match maker.spacing {
+        Spacing::Pretty if feeds => json::write_pretty(value, out),
+        Spacing::Pretty | Spacing::Spaced => json::write_spaced(value, out),
+        Spacing::Mixed => match maker.random.below(8) {
+            0 => write_styled(&mut maker.random, value, feeds, out),
+            _ => json::write(value, out),
+        },
     }
 }
 
@@ -190,7 +203,8 @@ fn write_escaped(random: &mut Random, text: &str, out: &mut Vec<u8>) {
 mod tests {
     use super::make;
     use crate::answers::{self, Answer};
-    use crate::frames::{cut, join};
+    use crate::frames::{cut, join, Piece};
+    use crate::json::Json;
 
     #[test]
     fn most_envelopes_are_read() {
@@ -200,6 +214,46 @@ mod tests {
         });
         let read = read.count();
         assert!(read > 500, "{read} of 1000");
+    }
+
+    /// Returns the most values of a list, and the most members of an object, in a value.
+    fn most(value: &Json) -> [usize; 2] {
+        let larger = |a: [usize; 2], b: [usize; 2]| [a[0].max(b[0]), a[1].max(b[1])];
+        match value {
+            Json::List(values) => values.iter().map(most).fold([values.len(), 0], larger),
+            Json::Object(members) => {
+                let inside = members.iter().map(|(_, value)| most(value));
+                inside.fold([0, members.len()], larger)
+            }
+            _ => [0, 0],
+        }
+    }
+
+    #[test]
+    fn lists_and_maps_have_up_to_forty_members() {
+        let cuts: Vec<_> = (0..1000).map(|index| cut(&make(1, index))).collect();
+        let items = cuts.iter().flat_map(|cut| &cut.items);
+        let payloads = items.filter_map(|item| match &item.payload {
+            Piece::Json(payload) => Some(most(payload)),
+            Piece::Bytes(_) => None,
+        });
+        let most = payloads.fold([0, 0], |a, b| [a[0].max(b[0]), a[1].max(b[1])]);
+        assert!(most.iter().all(|most| *most >= 32), "{most:?}");
+        let items = cuts.iter().map(|cut| cut.items.len()).max();
+        assert!(items > Some(16), "{items:?} items");
+    }
+
+    #[test]
+    fn some_envelopes_have_spaces_and_some_are_pretty() {
+        let having = |part: &[u8]| {
+            let has = |bytes: &[u8]| bytes.windows(part.len()).any(|window| window == part);
+            (0..1000).filter(|index| has(&make(1, *index))).count()
+        };
+        let headers: [&[u8]; 2] = [b"\n{\"type\": ", b"\n{\n  \"type\": "];
+        for header in headers {
+            let count = having(header);
+            assert!(count > 20, "{count} of 1000");
+        }
     }
 
     #[test]

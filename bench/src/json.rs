@@ -359,3 +359,84 @@ pub fn write(value: &Json, out: &mut Vec<u8>) {
         }
     }
 }
+
+/// Writes a value with a space after each `:` and `,`, as Python's `json.dumps` does by default.
+pub fn write_spaced(value: &Json, out: &mut Vec<u8>) {
+    write_indented(value, None, out);
+}
+
+/// Writes a value with a line for each member, as Python's `json.dumps` does with `indent=2`.
+pub fn write_pretty(value: &Json, out: &mut Vec<u8>) {
+    write_indented(value, Some(0), out);
+}
+
+/// Writes a value at a level of indentation; without one on a single line.
+fn write_indented(value: &Json, level: Option<usize>, out: &mut Vec<u8>) {
+    let inner = level.map(|level| level + 1);
+    match value {
+        Json::List(values) if !values.is_empty() => {
+            out.push(b'[');
+            for (index, value) in values.iter().enumerate() {
+                separate(index, inner, out);
+                write_indented(value, inner, out);
+            }
+            new_line(level, out);
+            out.push(b']');
+        }
+        Json::Object(members) if !members.is_empty() => {
+            out.push(b'{');
+            for (index, (key, value)) in members.iter().enumerate() {
+                separate(index, inner, out);
+                write(key, out);
+                out.extend(b": ");
+                write_indented(value, inner, out);
+            }
+            new_line(level, out);
+            out.push(b'}');
+        }
+        other => write(other, out),
+    }
+}
+
+/// Writes what stands before the member `index`.
+fn separate(index: usize, level: Option<usize>, out: &mut Vec<u8>) {
+    out.extend((index > 0).then_some(b','));
+    out.extend((index > 0 && level.is_none()).then_some(b' '));
+    new_line(level, out);
+}
+
+fn new_line(level: Option<usize>, out: &mut Vec<u8>) {
+    if let Some(level) = level {
+        out.push(b'\n');
+        out.extend(b"  ".repeat(level));
+    }
+}
+
+#[cfg(test)]
+mod tests {
+    use super::{parse, write_pretty, write_spaced};
+
+    #[test]
+    fn white_space_is_that_of_json_dumps() {
+        let value = parse(b"{\"a\":[1,{\"b\":null}],\"c\":{},\"d\":[]}").unwrap();
+        let (mut spaced, mut pretty) = (Vec::new(), Vec::new());
+        write_spaced(&value, &mut spaced);
+        write_pretty(&value, &mut pretty);
+        let spaced = String::from_utf8(spaced).unwrap();
+        let pretty = String::from_utf8(pretty).unwrap();
+        assert_eq!(spaced, r#"{"a": [1, {"b": null}], "c": {}, "d": []}"#);
+        let due = [
+            "{",
+            r#"  "a": ["#,
+            "    1,",
+            "    {",
+            r#"      "b": null"#,
+            "    }",
+            "  ],",
+            r#"  "c": {},"#,
+            r#"  "d": []"#,
+            "}",
+        ];
+        assert_eq!(pretty, due.join("\n"));
+    }
+}

@@ -4,6 +4,7 @@ mod agree;
 mod answers;
 mod compare;
 mod damage;
+mod differences;
 mod envelopes;
 mod forms;
 mod frames;
@@ -29,15 +30,16 @@ fn number(word: &str) -> Option<u64> {
 
 fn run(words: &[&str]) -> Option<Result<bool, std::io::Error>> {
     match words {
-        ["agree", seed, count] => Some(Ok(agree::run(number(seed)?, number(count)?))),
+        ["agree", seed, count] => Some(agree::run(number(seed)?, number(count)?)),
         ["agree", file] => Some(agree::run_file(file)),
         ["speed", "--once", side, part, file, count] => {
             let work = speed::Work::from_words(side, part)?;
             Some(speed::once(work, file, number(count)?).map(|()| true))
         }
-        ["speed", "--peak", side, part, file] => {
+        ["speed", "--peak", side, part, file, room] => {
             let work = speed::Work::from_words(side, part)?;
-            Some(speed::peak_once(work, file).map(|()| true))
+            let room = room.parse().ok()?;
+            Some(speed::peak_once(work, file, room).map(|()| true))
         }
         ["speed", "--memory", paths @ ..] if !paths.is_empty() => {
             Some(speed::memory(paths).map(|()| true))

@@ -13,6 +13,18 @@ pub struct Maker {
     pub noise: u64,
     /// In 1,000 optional fields: how many are there.
     pub density: u64,
+    pub spacing: Spacing,
+}
+
+/// The white space between the values of a line.
+#[derive(Clone, Copy)]
+pub enum Spacing {
+    /// None; but one line in eight has any, and more escapes than JSON asks for.
+    Mixed,
+    /// A space after each `:` and `,`, as Python's `json.dumps` writes by default.
+    Spaced,
+    /// Pretty-printed where a line feed may stand, else spaced.
+    Pretty,
 }
 
 impl Maker {
@@ -22,7 +34,7 @@ impl Maker {
     }
 
     fn some(&mut self, limit: usize) -> std::ops::Range<usize> {
-        0..self.random.below(limit)
+        0..self.random.count(limit)
     }
 
     /// Returns any value.
@@ -143,7 +155,9 @@ impl Maker {
     /// Adds members of other keys, and mixes members.
     fn add_others(&mut self, members: &mut Vec<(Json, Json)>, table: &Table) {
         let others = if table.other { 300 } else { 60 };
-        while self.random.chance(others) {
+        let mut many = if table.other { self.random.count(1) } else { 0 };
+        while many > 0 || self.random.chance(others) {
+            many = many.saturating_sub(1);
             let key = texts::key(&mut self.random);
             if table.field(&key).is_none() && key != "type" {
                 members.push((Json::Text(key), self.tree()));

@@ -29,6 +29,15 @@ impl Random {
         self.next() % 1000 < parts
     }
 
+    /// Returns a number of members: below `limit`, and one time in 30 up to 40, past the room that
+    /// lists begin with and the keys that one node of a tree holds.
+    pub fn count(&mut self, limit: usize) -> usize {
+        match self.below(30) {
+            0 => self.below(41),
+            _ => self.below(limit),
+        }
+    }
+
     /// Returns one of a list, which isn't empty.
     pub fn pick<'a, T>(&mut self, list: &'a [T]) -> &'a T {
         &list[self.below(list.len())]

@@ -20,6 +20,7 @@ enum Mend {
 
 /// A row.
 pub struct Row {
+    /// A part of the row that stands in no other.
     pub name: &'static str,
     mend: Mend,
 }
@@ -40,36 +41,55 @@ const fn items(name: &'static str, mend: fn(&mut Cut) -> bool) -> Row {
 }
 
 /// All rows, in the order in which they mend together.
-pub static ROWS: [Row; 23] = [
-    items("item types that only Curdmesa has", own_items),
-    node("an item header that is an array", item_header_array),
-    node("a struct as an array", struct_array),
-    node("Values as a bare array", bare_values),
-    node("a key twice in a struct", key_twice),
+pub static ROWS: [Row; 24] = [
+    items("no user reports and replay recordings", own_items),
     node(
-        "a replaced member of a map that doesn't fit",
+        "an item header is read from a stream, and may be an array",
+        item_header_array,
+    ),
+    node(
+        "a struct is read from an array of its fields too",
+        struct_array,
+    ),
+    node("`Values` of a bare array", bare_values),
+    node("a key that comes twice in a struct is refused", key_twice),
+    node(
+        "of one that comes twice in a map each value has to fit",
         replaced_entry,
     ),
-    node("an unknown field that isn't looked into", unread_field),
-    line("a float", float),
-    node("a word as an object of one key", word_object),
-    node("categories that only Curdmesa has", own_category),
+    node("unknown fields are skipped", unread_field),
+    line("JSON floats", float),
     node(
-        "a number past the range of the whole number here",
-        real_range,
+        "a word of a derived enumeration is read from an object of one key too",
+        word_object,
     ),
-    node("a severity outside 1 to 24", severity),
-    node("urn:uuid: in another case", urn_case),
-    node("a debug id of another form", debug_form),
-    node("an invalid label in xn--", punycode),
+    node("no `feedback` and `replay` among categories", own_category),
+    node("whole numbers outside these are refused too", real_range),
+    node("severity numbers outside 1 to 24", severity),
+    node("`urn:uuid:` before a UUID in lower case only", urn_case),
+    node("debug ids in all forms of the crate `debugid`", debug_form),
+    node("a host with an invalid label in `xn--`", punycode),
     node("a host with U+2061, U+2062 or U+2063", invisible),
-    node("^ in a URL", caret),
-    node("a moment past 9999", past_last),
-    node("an RFC 3339 text: separator, second 60", rfc3339_form),
-    node("the sign of an offset of less than an hour", offset_sign),
-    node("a sample rate that is no short decimal", rate_form),
-    node("a sample rand that is no short decimal", rand_form),
-    node("an id or a moment that is absent", drawn),
+    node("`^` in the path of a URL", caret),
+    node("whole seconds past the end of 9999", past_last),
+    node(
+        "RFC 3339 texts as the crate `time` reads them",
+        rfc3339_form,
+    ),
+    node(
+        "lose the sign of an offset of less than an hour",
+        offset_sign,
+    ),
+    node("`sample_rate: f32`, of any float text", rate_form),
+    node(
+        "sample rands of `inf`, `nan` and exponents of any length",
+        rand_word,
+    ),
+    node(
+        "`SampleRand: TryFrom<f64>`; printed from the binary value",
+        rand_form,
+    ),
+    node("hidden clocks and random sources", drawn),
 ];
 
 impl Row {
@@ -469,6 +489,13 @@ fn is_short_decimal(text: &str, places: usize) -> bool {
 fn rate_form(value: &mut Json, kind: &Kind) -> bool {
     text(value, matches!(kind, Kind::SampleRate), |text| {
         (!is_short_decimal(text, 9)).then(|| "0.5".to_owned())
+    })
+}
+
+fn rand_word(value: &mut Json, kind: &Kind) -> bool {
+    text(value, matches!(kind, Kind::SampleRand), |text| {
+        let letters = text.bytes().any(|byte| byte.is_ascii_alphabetic());
+        letters.then(|| "0.5".to_owned())
     })
 }
 

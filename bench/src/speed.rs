@@ -1,7 +1,8 @@
 //! Times both over the same inputs, one after the other in each round.
 
-use crate::answers::{NOW, SEED};
+use crate::answers::{self, Answer, NOW, SEED};
 use sentry_types::protocol::v7::Envelope;
+use std::borrow::Cow;
 use std::fs;
 use std::hint::black_box;
 use std::io::{Error, Result};
@@ -11,6 +12,9 @@ use std::time::{Duration, Instant};
 
 /// How long a side runs in a round, at least.
 const SLICE: Duration = Duration::from_millis(10);
+
+/// Room beside a written envelope: the moment that the Rust crate draws has more or fewer digits.
+const MORE: usize = 64;
 
 /// What is timed.
 #[derive(Clone, Copy)]
@@ -44,16 +48,17 @@ impl Work {
     }
 
     /// Does the work once, and returns whether the envelope is accepted.
-    fn accepts(self, bytes: &[u8]) -> bool {
+    fn accepts(self, input: &Input) -> bool {
+        let Input { bytes, room } = input;
         match self {
             Work::OursRead => curdmesa::check(bytes, NOW, SEED).is_ok(),
             Work::OursBoth => {
-                let written = curdmesa::normalize(bytes, NOW, SEED);
+                let written = curdmesa::normalize_with_capacity(bytes, NOW, SEED, *room);
                 black_box(&written).is_ok()
             }
             Work::TheirsRead => black_box(&Envelope::from_slice(bytes)).is_ok(),
             Work::TheirsBoth => {
-                let mut written = Vec::with_capacity(bytes.len() + 256);
+                let mut written = Vec::with_capacity(*room);
                 let envelope = Envelope::from_slice(bytes);
                 let accepted =
                     envelope.is_ok_and(|envelope| envelope.to_writer(&mut written).is_ok());
@@ -63,22 +68,47 @@ impl Work {
         }
     }
 
-    fn time(self, bytes: &[u8], times: u32) -> f64 {
+    fn time(self, input: &Input, times: u32) -> f64 {
         let start = Instant::now();
         for _ in 0..times {
-            black_box(self.accepts(black_box(bytes)));
+            black_box(self.accepts(black_box(input)));
         }
         start.elapsed().as_secs_f64() / f64::from(times)
     }
 
     /// Returns how many times the work is done in a round.
-    fn times(self, bytes: &[u8]) -> u32 {
+    fn times(self, input: &Input) -> u32 {
         let mut times = 1;
-        while self.time(bytes, times) * f64::from(times) < SLICE.as_secs_f64() {
+        while self.time(input, times) * f64::from(times) < SLICE.as_secs_f64() {
             times *= 2;
         }
         times
     }
+}
+
+/// The bytes of an envelope, and the capacity of the buffer that either side writes it to.
+struct Input {
+    bytes: Vec<u8>,
+    room: usize,
+}
+
+impl Input {
+    /// Reads a file: the room is that of the longer of the two texts, so that neither side has to
+    /// ask for more. `None` if the envelope isn't accepted by both.
+    fn read(file: &Path) -> Result<Option<Input>> {
+        let bytes = fs::read(file)?;
+        let (ours, theirs) = (answers::ours(&bytes), answers::theirs(&bytes));
+        let (Answer::Written(ours), Answer::Written(theirs)) = (ours, theirs) else {
+            eprintln!("{}: not accepted by both", file.display());
+            return Ok(None);
+        };
+        let room = ours.len().max(theirs.len()) + MORE;
+        Ok(Some(Input { bytes, room }))
+    }
+}
+
+fn name(file: &Path) -> Cow<'_, str> {
+    file.file_name().unwrap_or_default().to_string_lossy()
 }
 
 /// The times of both sides over the rounds, in seconds for an envelope.
@@ -88,22 +118,26 @@ struct Pair {
 }
 
 impl Pair {
-    fn measure(ours: Work, theirs: Work, bytes: &[u8], rounds: u64) -> Pair {
-        let (ours_times, theirs_times) = (ours.times(bytes), theirs.times(bytes));
+    fn measure(ours: Work, theirs: Work, input: &Input, rounds: u64) -> Pair {
+        let (ours_times, theirs_times) = (ours.times(input), theirs.times(input));
         let mut pair = Pair {
             ours: Vec::new(),
             theirs: Vec::new(),
         };
         for _ in 0..rounds {
-            pair.ours.push(ours.time(bytes, ours_times));
-            pair.theirs.push(theirs.time(bytes, theirs_times));
+            pair.ours.push(ours.time(input, ours_times));
+            pair.theirs.push(theirs.time(input, theirs_times));
         }
         pair
     }
 
-    /// Returns the ratio of the best times, and the lowest and the highest ratio of a round.
+    /// Returns the best time of each side.
+    fn best(&self) -> [f64; 2] {
+        [best(&self.ours), best(&self.theirs)]
+    }
+
+    /// Returns the best times and their ratio, and the lowest and the highest ratio of a round.
     fn text(&self) -> String {
-        let best = |times: &[f64]| times.iter().copied().fold(f64::INFINITY, f64::min);
         let ratios: Vec<f64> = self
             .ours
             .iter()
@@ -111,14 +145,33 @@ impl Pair {
             .map(|(a, b)| a / b)
             .collect();
         let high = ratios.iter().copied().fold(0.0, f64::max);
-        let (ours, theirs) = (best(&self.ours), best(&self.theirs));
-        let (low, ratio) = (best(&ratios), ours / theirs);
-        let micros = 1e6;
-        format!(
-            "{:.1} | {:.1} | {ratio:.2} ({low:.2} to {high:.2})",
-            ours * micros,
-            theirs * micros
-        )
+        let low = best(&ratios);
+        format!("{} ({low:.2} to {high:.2})", columns(self.best()))
+    }
+}
+
+fn best(times: &[f64]) -> f64 {
+    times.iter().copied().fold(f64::INFINITY, f64::min)
+}
+
+/// Returns two times in microseconds, and their ratio.
+fn columns([ours, theirs]: [f64; 2]) -> String {
+    let micros = 1e6;
+    format!(
+        "{:.1} | {:.1} | {:.2}",
+        ours * micros,
+        theirs * micros,
+        ours / theirs
+    )
+}
+
+/// Returns what is left of the best times of both, less those of reading.
+fn written(read: &Pair, both: &Pair) -> String {
+    let ([ours_read, theirs_read], [ours, theirs]) = (read.best(), both.best());
+    let left = [ours - ours_read, theirs - theirs_read];
+    match left.iter().all(|time| *time > 0.0) {
+        true => columns(left),
+        false => "- | - | -".to_owned(),
     }
 }
 
@@ -142,37 +195,39 @@ fn files(paths: &[&str]) -> Result<Vec<PathBuf>> {
 
 /// Prints a table of the inputs that both accept.
 pub fn run(rounds: u64, paths: &[&str]) -> Result<()> {
-    println!("| Input | Bytes | Ours, read | Theirs | Ratio | Ours, both | Theirs | Ratio |");
-    println!("|---|---|---|---|---|---|---|---|");
+    println!(
+        "| Input | Bytes | Ours, read | Theirs | Ratio | Ours, both | Theirs | Ratio \
+         | Ours, written | Theirs | Ratio |"
+    );
+    println!("|---|---|---|---|---|---|---|---|---|---|---|");
     for file in files(paths)? {
-        let bytes = fs::read(&file)?;
-        let name = file
-            .file_name()
-            .unwrap_or_default()
-            .to_string_lossy()
-            .into_owned();
-        if !(Work::OursBoth.accepts(&bytes) && Work::TheirsBoth.accepts(&bytes)) {
-            eprintln!("{name}: not accepted by both");
+        let Some(input) = Input::read(&file)? else {
             continue;
-        }
-        let read = Pair::measure(Work::OursRead, Work::TheirsRead, &bytes, rounds);
-        let both = Pair::measure(Work::OursBoth, Work::TheirsBoth, &bytes, rounds);
+        };
+        let read = Pair::measure(Work::OursRead, Work::TheirsRead, &input, rounds);
+        let both = Pair::measure(Work::OursBoth, Work::TheirsBoth, &input, rounds);
         println!(
-            "| {name} | {} | {} | {} |",
-            bytes.len(),
+            "| {} | {} | {} | {} | {} |",
+            name(&file),
+            input.bytes.len(),
             read.text(),
-            both.text()
+            both.text(),
+            written(&read, &both)
         );
     }
     Ok(())
 }
 
+fn refused() -> Error {
+    Error::other("the envelope is refused")
+}
+
 /// Does one work `count` times over a file, for a tool that counts instructions.
 pub fn once(work: Work, file: &str, count: u64) -> Result<()> {
-    let bytes = fs::read(file)?;
+    let input = Input::read(Path::new(file))?.ok_or_else(refused)?;
     for _ in 0..count {
-        if !work.accepts(black_box(&bytes)) {
-            return Err(Error::other("the envelope is refused"));
+        if !work.accepts(black_box(&input)) {
+            return Err(refused());
         }
     }
     Ok(())
@@ -189,23 +244,25 @@ fn peak() -> Result<u64> {
 }
 
 /// Does one work once over a file, and prints by how many KiB the process's memory grew at most.
-pub fn peak_once(work: Work, file: &str) -> Result<()> {
+pub fn peak_once(work: Work, file: &str, room: usize) -> Result<()> {
     let bytes = fs::read(file)?;
+    let input = Input { bytes, room };
     let before = peak()?;
-    if !work.accepts(black_box(&bytes)) {
-        return Err(Error::other("the envelope is refused"));
+    if !work.accepts(black_box(&input)) {
+        return Err(refused());
     }
     println!("{}", peak()? - before);
     Ok(())
 }
 
 /// Returns the peak of one work in a process of its own, in KiB.
-fn peak_alone(work: Work, file: &Path) -> Result<u64> {
+fn peak_alone(work: Work, file: &Path, room: usize) -> Result<u64> {
     let [side, part] = work.words();
     let program = std::env::current_exe()?;
     let out = Command::new(program)
         .args(["speed", "--peak", side, part])
         .arg(file)
+        .arg(room.to_string())
         .output()?;
     String::from_utf8_lossy(&out.stdout)
         .trim()
@@ -218,22 +275,24 @@ pub fn memory(paths: &[&str]) -> Result<()> {
     println!("| Input | KiB | Ours, read | Theirs | Ratio | Ours, both | Theirs | Ratio |");
     println!("|---|---|---|---|---|---|---|---|");
     for file in files(paths)? {
+        let Some(input) = Input::read(&file)? else {
+            continue;
+        };
         let peaks = [
             Work::OursRead,
             Work::TheirsRead,
             Work::OursBoth,
             Work::TheirsBoth,
         ]
-        .map(|work| peak_alone(work, &file));
-        let [Ok(ours_read), Ok(theirs_read), Ok(ours_both), Ok(theirs_both)] = peaks else {
-            eprintln!("{}: not accepted by both", file.display());
-            continue;
-        };
+        .map(|work| peak_alone(work, &file, input.room));
+        let [ours_read, theirs_read, ours_both, theirs_both] = peaks;
+        let (ours_read, theirs_read) = (ours_read?, theirs_read?);
+        let (ours_both, theirs_both) = (ours_both?, theirs_both?);
         let ratio = |ours: u64, theirs: u64| ours as f64 / theirs.max(1) as f64;
         println!(
             "| {} | {} | {ours_read} | {theirs_read} | {:.2} | {ours_both} | {theirs_both} | {:.2} |",
-            file.file_name().unwrap_or_default().to_string_lossy(),
-            fs::metadata(&file)?.len().div_ceil(1024),
+            name(&file),
+            input.bytes.len().div_ceil(1024),
             ratio(ours_read, theirs_read),
             ratio(ours_both, theirs_both)
         );

@@ -169,12 +169,12 @@ pub fn tree(random: &mut Random, noise: u64, levels: usize) -> Json {
         2 | 3 => whole(random),
         4 | 5 => Json::Text(text(random)),
         6 => Json::List(
-            (0..random.below(4))
+            (0..random.count(4))
                 .map(|_| tree(random, noise, levels - 1))
                 .collect(),
         ),
         _ => Json::Object(
-            (0..random.below(4))
+            (0..random.count(4))
                 .map(|_| member(random, noise, levels))
                 .collect(),
         ),

@@ -185,9 +185,10 @@ typedef struct SentryFrame {
  * `*offset` is 0 at first, and afterwards what the call before has set: where the next item
  * begins. With every status but SENTRY_OK `*offset` and `*frame` are unchanged.
  *
- * SENTRY_OK, SENTRY_NOTHING_LEFT after the last item, SENTRY_INVALID_ARGUMENT if `*offset` is past
- * the end or follows anything but a line feed, SENTRY_UNEXPECTED_EOF, SENTRY_MISSING_NEWLINE,
- * SENTRY_INVALID_ITEM_HEADER, SENTRY_OUT_OF_MEMORY.
+ * SENTRY_OK, SENTRY_NOTHING_LEFT after the last item, SENTRY_INVALID_ARGUMENT if `*offset` is
+ * neither 0 nor `bytes_len` nor directly behind a line feed, SENTRY_UNEXPECTED_EOF,
+ * SENTRY_MISSING_NEWLINE, SENTRY_INVALID_ITEM_HEADER (also for an unknown item type),
+ * SENTRY_OUT_OF_MEMORY.
  */
 int32_t sentry_frames_next(const uint8_t *bytes, size_t bytes_len, uint64_t *offset,
                            SentryFrame *frame);

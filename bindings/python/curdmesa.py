@@ -484,7 +484,7 @@ def rfc3339_format(time: When) -> str:
     """Returns a moment as RFC 3339 in UTC, such as 2020-07-20T14:51:14.296Z, without trailing zeros
     in the fraction.
 
-    Raises NoMoment, OutOfMemory.
+    Raises NoMoment, OutOfMemory, and ValueError for a datetime without a time zone.
     """
     secs, nanos = Moment.of(time)
     return _text(30, lambda *out: _library.sentry_rfc3339_format(secs, nanos, *out)).decode()
@@ -499,15 +499,21 @@ def crontab_check(text: Text) -> None:
 # ---- envelopes -----------------------------------------------------------------------------------
 
 
+def _room(data: bytes) -> int:
+    # The envelope's own length, and room for the defaults and lengths that small items get.
+    return len(data) + min(max(2 * len(data), 256), 16384)
+
+
 def normalize(data: Data, now: When, seed: int) -> bytes:
     """Parses an envelope and returns its normal form.
 
     `now` fills absent timestamps; absent ids are drawn from a generator seeded with `seed`. Raises
-    NoMoment, the EnvelopeError of the first check that fails, OutOfMemory.
+    NoMoment, the EnvelopeError of the first check that fails, OutOfMemory, and ValueError for a
+    datetime without a time zone or a seed outside 0 to 2^64-1.
     """
     data, (secs, nanos), seed = _bytes(data), Moment.of(now), _whole(seed)
     return _text(
-        len(data) + 256,
+        _room(data),
         lambda *out: _library.sentry_envelope_normalize(
             data, len(data), secs, nanos, seed, *out
         ),
@@ -563,14 +569,14 @@ def filter(
     attachment is also removed if no event and no transaction is kept. With `keep_headers` all
     envelope headers but the event id stay; without, none does. The event id becomes that of the
     first event or transaction that is left. The other arguments and the errors are those of
-    normalize.
+    normalize; ValueError also for a number that is no ItemKind.
     """
     data, (secs, nanos), seed = _bytes(data), Moment.of(now), _whole(seed)
     bits = sum(1 << ItemKind(kind) for kind in set(kinds))
     sums = (_U64 * _LOSSES)()
     try:
         left = _text(
-            len(data) + 256,
+            _room(data),
             lambda *out: _library.sentry_envelope_filter(
                 data, len(data), secs, nanos, seed, bits, keep, keep_headers, *out, sums, _LOSSES
             ),
@@ -715,14 +721,16 @@ class Ledger:
     def record(self, category: Category, reason: Reason, quantity: int) -> None:
         """Adds a loss.
 
-        Raises LedgerFull exactly if the sum would exceed 2^64-1; the ledger is unchanged.
+        Raises LedgerFull exactly if the sum would exceed 2^64-1, and ValueError for a quantity
+        outside 0 to 2^64-1 or a number that is no Category or Reason; the ledger is unchanged.
         """
         pair = Category(category), Reason(reason)
         with self._lock:
             _done(_library.sentry_ledger_record(self._sums, _SUMS, *pair, _whole(quantity)))
 
     def held(self, category: Category, reason: Reason) -> int:
-        """Returns the quantity of a category and a reason that the ledger holds."""
+        """Returns the quantity of a category and a reason that the ledger holds. Raises ValueError
+        for a number that is no Category or Reason."""
         quantity = _U64(0)
         pair = Category(category), Reason(reason)
         with self._lock:
@@ -734,7 +742,8 @@ class Ledger:
         that one item; None if the ledger holds no loss.
 
         The losses are only in the envelope then: if it can't be sent, record them again. Raises
-        NoMoment, OutOfMemory; the ledger is unchanged.
+        NoMoment, OutOfMemory, and ValueError for a datetime without a time zone; the ledger is
+        unchanged.
         """
         secs, nanos = Moment.of(now)
         with self._lock:

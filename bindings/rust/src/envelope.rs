@@ -5,8 +5,12 @@ use crate::kinds::{Category, ItemKind, Reason};
 use crate::moment::Moment;
 use crate::{output, sys};
 
-/// Room for a normal form beside the envelope's own length.
-const MORE: usize = 256;
+/// Returns the capacity for a normal form, at first: the envelope's own length, and room for the
+/// defaults and lengths that items get, which is most for small ones. An attachment of ten bytes
+/// grows from 64 bytes to 143.
+fn capacity(length: usize) -> usize {
+    length + (2 * length).clamp(256, 16 * 1024)
+}
 
 /// Parses an envelope and returns its normal form.
 ///
@@ -22,8 +26,29 @@ where
     N: TryInto<Moment>,
     Error: From<N::Error>,
 {
+    normalize_with_capacity(bytes, now, seed, capacity(bytes.len()))
+}
+
+/// Like [`normalize`], with a buffer of `capacity` bytes at first.
+///
+/// The library writes to a buffer of a fixed length, and keeps nothing. If the normal form is longer
+/// than `capacity`, the envelope is parsed again, and written to a buffer of the length it needs.
+///
+/// # Errors
+///
+/// Those of [`normalize`].
+pub fn normalize_with_capacity<N>(
+    bytes: &[u8],
+    now: N,
+    seed: u64,
+    capacity: usize,
+) -> Result<Vec<u8>, Error>
+where
+    N: TryInto<Moment>,
+    Error: From<N::Error>,
+{
     let now = now.try_into()?;
-    output::text(bytes.len() + MORE, |out, needed| {
+    output::text(capacity, |out, needed| {
         // SAFETY: each pointer is a slice's, with its length, or a reference's; `out` and `needed`
         // are borrowed mutably.
         unsafe {
@@ -113,7 +138,7 @@ where
     let now = now.try_into()?;
     let (kinds, keep) = kinds.bits();
     let mut losses = Losses { sums: [0; LOSSES] };
-    let left = output::text(bytes.len() + MORE, |out, needed| {
+    let left = output::text(capacity(bytes.len()), |out, needed| {
         // SAFETY: each pointer is a slice's or an array's, with its length, or a reference's;
         // `out`, `needed` and `losses` are borrowed mutably.
         unsafe {

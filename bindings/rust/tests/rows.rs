@@ -1,8 +1,8 @@
 //! Worked rows of the format: what is given, and what is due.
 
 use curdmesa::{
-    check, crontab, filter, frames, normalize, rfc3339, Auth, Category, Dsn, Error, Frame,
-    ItemKind, Kinds, Ledger, Loss, Moment, Reason,
+    check, crontab, filter, frames, normalize, normalize_with_capacity, rfc3339, Auth, Category,
+    Dsn, Error, Frame, ItemKind, Kinds, Ledger, Loss, Moment, Reason,
 };
 use std::time::{Duration, SystemTime, UNIX_EPOCH};
 
@@ -80,7 +80,12 @@ fn a_normal_form_may_be_longer_than_the_first_room() {
         \"type\":\"attachment\"}\n\n";
     let mut given = String::from("{}");
     given.extend(["\n{\"type\":\"attachment\",\"length\":0}\n"; 50]);
-    normalizes(&given, &format!("{{}}\n{}", written.repeat(50)));
+    let due = format!("{{}}\n{}", written.repeat(50));
+    normalizes(&given, &due);
+    for capacity in [0, due.len() - 1, due.len(), due.len() + 1] {
+        let normal = normalize_with_capacity(given.as_bytes(), NOW, 42, capacity);
+        assert_eq!(normal.as_deref(), Ok(due.as_bytes()));
+    }
 }
 
 #[test]

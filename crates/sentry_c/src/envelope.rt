@@ -34,8 +34,8 @@ fn read(alloc: Global, bytes: &[u8], now: Moment, seed: u64) -> Result<Envelope,
     Envelope::from_slice(alloc, bytes, now, &mut ids)
 }
 
-/// Returns the text of an envelope. What was parsed or made of a report is plain, so that only an
-/// allocation can fail.
+// Returns the text of an envelope. What was parsed or made of a report is plain, so that only an
+// allocation can fail.
 pub(crate) fn text_of(alloc: Global, envelope: &Envelope) -> Result<Vec<u8>, AllocError>
     ensures { IfOk result (λ text. text.items ≡ text_of envelope.now) }
 {

@@ -12,6 +12,7 @@ ghost use Rattle.sentry_c.specs.Places.{EndsWith};
 ghost use Rattle.sentry_c.specs.Statuses.{refusal_status};
 
 use crate::status::{INVALID_ARGUMENT, NOTHING_LEFT, OK, of_refusal};
+use sentry_framing::lines::skip_space;
 use sentry_types::protocol::v7::{Frames, ItemFrame, ItemKind};
 use std::alloc::Global;
 
@@ -67,25 +68,6 @@ fn frames_from(bytes: &[u8], offset: usize) -> Option<Frames<'_>>
         return None;
     }
     Some(Frames::new(&bytes[offset - 1..]))
-}
-
-fn is_space(byte: u8) -> bool
-    ensures { result ≡ is_space byte }
-{
-    matches!(byte, b' ' | b'\t' | b'\n' | b'\r')
-}
-
-// Returns the bytes after the white space at the front.
-fn skip_space(bytes: &[u8]) -> &[u8]
-    ensures skipped { (space : List ℕ) × IsBlank space × (bytes.now ≡ space ++ result.now) }
-    ensures all { (b : ℕ) (more : List ℕ) → result.now ≡ b ∷ more → is_space b ≡ false }
-{
-    for (i, byte) in bytes.iter().enumerate() {
-        if !is_space(*byte) {
-            return &bytes[i..];
-        }
-    }
-    &[]
 }
 
 // Returns where the payload begins: after the line feed that ends the header's line, if any.

@@ -1,3 +1,5 @@
+//! Tests of the C library's calls.
+
 use crate::envelope::{sentry_envelope_check, sentry_envelope_filter, sentry_envelope_normalize};
 use crate::frames::{SentryFrame, sentry_frames_next};
 use crate::ledger::{sentry_ledger_flush, sentry_ledger_held, sentry_ledger_record};

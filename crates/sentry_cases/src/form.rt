@@ -7,7 +7,7 @@ use sentry_members::read_tree;
 use sentry_types::protocol::v7::value::Writer;
 use sentry_types::protocol::v7::{
     Codec, FromTree, FromTreeAt, Member, Moment, Own, ReadCodec, ReadCodecAt, TreeError,
-    TreeMember, Value, Values, Way, read_line_at,
+    TreeMember, Value, Values, Way, read_line, read_line_at,
 };
 use std::alloc::{AllocError, Global};
 use std::fmt::Debug;
@@ -112,6 +112,16 @@ fn beside_tape<F: ReadCodec<T>, T: Drop>(
     agreed(alloc, told, answered::<F, T>(alloc, &by_tape))
 }
 
+// As `beside_tape`, for a type with one form, where the line reader has to answer the same too.
+fn beside_line<T: FromTree>(alloc: Global, line: &[u8], told: Value) -> Result<Value, AllocError> {
+    let told = beside_tape::<Own, T>(alloc, line, told)?;
+    agreed(
+        alloc,
+        told,
+        answered::<Own, T>(alloc, &read_line(alloc, line)),
+    )
+}
+
 // The value that a line shows in a form, as a tree of values.
 fn by_tree_as<F: ReadCodec<T>, T: Drop>(alloc: Global, line: &[u8]) -> Result<T, TreeError> {
     F::from_node(alloc, &&read_tree(alloc, line)?)
@@ -124,10 +134,10 @@ pub fn form<F: ReadCodec<T>, T: Drop>(alloc: Global, line: &[u8]) -> Result<Valu
     beside_tape::<F, T>(alloc, line, told)
 }
 
-/// The same for a type with one form.
+/// The same for a type with one form, by the line reader too.
 pub fn own<T: FromTree>(alloc: Global, line: &[u8]) -> Result<Value, AllocError> {
     let told = answered::<Own, T>(alloc, &by_tree::<T>(alloc, line))?;
-    beside_tape::<Own, T>(alloc, line, told)
+    beside_line::<T>(alloc, line, told)
 }
 
 /// The same for a type with a call `clone` that may fail.
@@ -139,7 +149,7 @@ pub fn cloned<T: FromTree, C: FnOnce(&T) -> Result<T, AllocError>>(
     requires { C.IsAlwaysCallable clone }
 {
     let told = answered_by(alloc, &by_tree::<T>(alloc, line), clone)?;
-    beside_tape::<Own, T>(alloc, line, told)
+    beside_line::<T>(alloc, line, told)
 }
 
 /// The moment at which lines are read: 2020-07-20T14:51:14.296Z.
@@ -182,6 +192,20 @@ fn beside_tape_at<F: ReadCodecAt<T>, T: Drop>(
     agreed(alloc, told, answered::<F, T>(alloc, &by_tape))
 }
 
+// As `beside_line`, at the moment of reading.
+fn beside_line_at<T: FromTreeAt>(
+    alloc: Global,
+    line: &[u8],
+    told: Value,
+) -> Result<Value, AllocError> {
+    let told = beside_tape_at::<Own, T>(alloc, line, told)?;
+    agreed(
+        alloc,
+        told,
+        answered::<Own, T>(alloc, &by_line_at(alloc, line)),
+    )
+}
+
 // The value that a line shows in a form at the moment of reading, as a tree of values.
 fn by_tree_as_at<F: ReadCodecAt<T>, T: Drop>(alloc: Global, line: &[u8]) -> Result<T, TreeError> {
     F::from_node(alloc, &&read_tree(alloc, line)?, now()?, &mut ids())
@@ -205,7 +229,7 @@ pub fn cloned_at<T: FromTreeAt, C: FnOnce(&T) -> Result<T, AllocError>>(
     requires { C.IsAlwaysCallable clone }
 {
     let told = answered_by(alloc, &by_tree_at::<T>(alloc, line), clone)?;
-    beside_tape_at::<Own, T>(alloc, line, told)
+    beside_line_at::<T>(alloc, line, told)
 }
 
 // A tree that a clone writes too, in a list.

@@ -36,7 +36,7 @@ pub struct GpuContext {
     pub multi_threaded_rendering: Option<bool>,
     /// Whether textures may have sides that are not powers of two (NPOT).
     pub npot_support: Option<bool>,
-    /// Maximum texture size: the longest supported side.
+    /// Longest supported side of a texture, in pixels.
     pub max_texture_size: Option<u32>,
     /// Approximate shader capability level, by name.
     pub graphics_shader_level: Option<String>,

@@ -1,8 +1,8 @@
-// Allocations that fail, and allocations that don't.
-//
-// Without a failure these tests run the program's one call and expect its answer. With one failed
-// allocation, whichever it is (`rt try --test --fail-alloc N`), they pass too: the answer is then
-// `out of memory`, nothing was written, and the next run is answered.
+//! Allocations that fail, and allocations that don't.
+//!
+//! Without a failure these tests run the program's one call and expect its answer. With one failed
+//! allocation, whichever it is (`rt try --test --fail-alloc N`), they pass too: the answer is then
+//! `out of memory`, nothing was written, and the next run is answered.
 use crate::Kind;
 use crate::ending::ending;
 use crate::runs::{INPUT, REWRITTEN, Ran, run_on};

@@ -1,3 +1,5 @@
+//! Tests of runs: clock, seed, losses and statuses.
+
 use crate::Kind;
 use crate::clock::{moment_after, seed_at, time_since_1970};
 use crate::ending::ending;

@@ -1,4 +1,5 @@
-// What the tests of runs share.
+//! What the tests of runs share.
+
 use crate::Kind;
 use crate::clock::moment_after;
 use crate::ending::{Outcome, RunError};

@@ -1,3 +1,5 @@
+//! Tests of the program's arguments and endings.
+
 use crate::args::{Args, program_args, read_args};
 use crate::ending::{Outcome, RunError, ending, usage};
 use crate::{Kind, end_of_call};

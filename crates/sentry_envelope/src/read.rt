@@ -207,7 +207,7 @@ fn attachment(
         attachment_view a ≡ attached_by (header_view header.old) payload.now) }
 {
     Ok(Attachment {
-        buffer: payload.to_vec(alloc)?,
+        buffer: copy_of(alloc, payload)?,
         filename: header.filename.take().unwrap_or(String::new(alloc)),
         content_type: header.content_type.take(),
         ty: match &header.attachment_type {
@@ -221,6 +221,15 @@ fn replay_recording(alloc: Global, payload: &[u8]) -> Result<ReplayRecording, Al
     ensures { IfOk result (λ recording. recording.buffer.items ≡ payload.now) }
 {
     Ok(ReplayRecording {
-        buffer: payload.to_vec(alloc)?,
+        buffer: copy_of(alloc, payload)?,
     })
+}
+
+// Returns a copy of a payload. It is copied as one block; `to_vec` would copy it value by value.
+fn copy_of(alloc: Global, payload: &[u8]) -> Result<Vec<u8>, AllocError>
+    ensures { IfOk result (λ copy. copy.items ≡ payload.now) }
+{
+    let mut copy = Vec::with_capacity(alloc, payload.len())?;
+    copy.extend_from_slice(payload)?;
+    Ok(copy)
 }

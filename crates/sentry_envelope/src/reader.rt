@@ -19,10 +19,10 @@ use std::alloc::Global;
 
 /// A reader that keeps its working memory from one envelope to the next.
 ///
-/// Whoever reads many envelopes with white space between the values of their JSON, or with integers
-/// of 20 digits, makes one reader: [`Envelope::from_slice`] clears 16 KiB of working memory for each
-/// envelope with such a line, and asks for more where it is long. The reader holds on to some four
-/// bytes for each byte of the longest of these lines.
+/// Whoever reads many envelopes with integers of 20 digits makes one reader:
+/// [`Envelope::from_slice`] clears 16 KiB of working memory for each envelope with such a line, and
+/// asks for more if it is long. The reader holds on to some four bytes for each byte of the longest
+/// of these lines.
 #[derive(Drop)]
 pub struct EnvelopeReader {
     alloc: Global,

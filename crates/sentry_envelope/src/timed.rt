@@ -27,13 +27,13 @@ impl<'r, T: FromTreeAt, R: Rng> ReadsNode<T> for AtMoment<'r, R> {
     }
 }
 
-/// Reads a value from a line with the caller's reader; `now` fills absent timestamps, `ids` absent
-/// ids.
-///
-/// # Errors
-///
-/// - `Misfit` if the line isn't one JSON text without floats that reads as the type.
-/// - `Memory` if an allocation fails.
+// Reads a value from a line with the caller's reader; `now` fills absent timestamps, `ids` absent
+// ids.
+//
+// # Errors
+//
+// - `Misfit` if the line isn't one JSON text without floats that reads as the type.
+// - `Memory` if an allocation fails.
 #[tactic(auto, using(sentry_members::proofs::Texts::text_read_by_at))]
 pub(crate) fn read_at<'a, T: FromTreeAt, R: Rng>(
     lines: &mut LineReader<'_, 'a>,

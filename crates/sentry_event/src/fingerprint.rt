@@ -129,7 +129,7 @@ impl<'a> MadeCodec<Vec<CowStr<'a>>> for AsFingerprint {
     }
 }
 
-/// Clones a fingerprint into owned strings. `AllocError` if an allocation fails.
+// Clones a fingerprint into owned strings. `AllocError` if an allocation fails.
 pub(crate) fn owned_texts<'a>(
     alloc: Global,
     texts: &Vec<CowStr<'a>>,

@@ -56,7 +56,8 @@ impl MechanismMeta {
     // Whether no field is set; a mechanism then omits the member `meta`.
     #[tactic(auto, unfolding(crate::specs::Mechanisms::mechanism_meta_fields))]
     fn is_nothing(&self) -> bool
-        ensures { result ≡ same_cell (norm mechanism_meta_kind (mechanism_meta_cell self.now)) no_meta }
+        ensures { result ≡
+            same_cell (norm mechanism_meta_kind (mechanism_meta_cell self.now)) no_meta }
     {
         self.errno.is_none() && self.signal.is_none() && self.mach_exception.is_none()
     }

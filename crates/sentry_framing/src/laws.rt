@@ -49,6 +49,7 @@ pub fn a_written_item_is_read()
 /// names the type.
 #[tactic(auto, using(crate::proofs::Words::word_in_place, crate::proofs::Words::word_of_kind))]
 pub fn item_words_stand_in_order()
-    ensures places { (kind : Kinds) → place_of (kind_word kind) item_words ≡ Some (kind_place kind) }
+    ensures places { (kind : Kinds) →
+        place_of (kind_word kind) item_words ≡ Some (kind_place kind) }
     ensures kinds { (kind : Kinds) → kind_of_word (kind_word kind) ≡ Some kind }
 {}

@@ -6,7 +6,7 @@ pub mod frames;
 pub mod header;
 pub mod kind;
 pub mod laws;
-mod lines;
+pub mod lines;
 mod piece;
 
 pub use error::EnvelopeError;

@@ -6,8 +6,9 @@ ghost use Rattle.sentry_identifiers.specs.CodeDigits.{code_digits, are_code_digi
 use sentry_members::{AsText, Formed, Room, Spelled, TreeError, Way};
 use std::alloc::{AllocError, Global};
 
-/// The identifier of a code file: hex digits in lower case, as
-/// <https://docs.sentry.io/platforms/native/data-management/debug-files/identifiers/> has it.
+/// Code identifier of a code file: hex digits in lower case.
+///
+/// <https://docs.sentry.io/platforms/native/data-management/debug-files/identifiers/>
 #[derive(Debug, Drop, PartialEq, Eq, PartialOrd, Ord, Hash)]
 pub struct CodeId {
     digits: String,
@@ -18,11 +19,12 @@ pub struct CodeId {
 impl CodeId {
     ghost use Rattle.sentry_identifiers.specs.CodeId.{code_text};
 
-    /// The identifier of a text's ASCII hex digits, in lower case; other characters are left out.
+    /// Creates a code id from the ASCII hex digits of a text, in lower case; other characters are
+    /// dropped.
     ///
     /// # Errors
     ///
-    /// `AllocError` where there is no memory for the digits.
+    /// `AllocError` if an allocation fails.
     pub fn new(alloc: Global, text: &str) -> Result<CodeId, AllocError>
         ensures { IfOk result (λ id. code_text id ≡ code_digits text.now) }
     {
@@ -31,11 +33,11 @@ impl CodeId {
         })
     }
 
-    /// A copy of the identifier.
+    /// Clones the id.
     ///
     /// # Errors
     ///
-    /// `AllocError` where there is no memory for the digits.
+    /// `AllocError` if an allocation fails.
     pub fn clone(&self) -> Result<CodeId, AllocError>
         ensures { IfOk result (λ id. code_text id ≡ code_text self.now) }
     {
@@ -44,7 +46,7 @@ impl CodeId {
         })
     }
 
-    /// The digits.
+    /// Returns the digits.
     pub fn as_str(&self) -> &str
         ensures text { result.now ≡ code_text self.now }
         ensures lower { IsTrue (are_code_digits result.now) }

@@ -14,39 +14,40 @@ use std::str::FromStr;
 use thiserror::Error;
 use uuid::Uuid;
 
-/// The identifier of a debug information file: a UUID and a number, the appendix (the age of a PDB file).
+/// Debug identifier of a debug information file: a UUID and an appendix (the age of a PDB file).
 ///
-/// It is read from the UUID as 32 digits or with hyphens, in any case, and then nothing, which is the
-/// appendix 0, or `-` and one to eight hex digits. It is written with hyphens and in lower case, the
-/// appendix only where it isn't 0:
-/// <https://docs.sentry.io/platforms/native/data-management/debug-files/identifiers/>.
+/// Parsed from the UUID as 32 hex digits or with hyphens, in any case, and the appendix as `-` and
+/// one to eight hex digits; an absent appendix is 0. Written with hyphens in lower case, without
+/// the appendix if 0.
+///
+/// <https://docs.sentry.io/platforms/native/data-management/debug-files/identifiers/>
 #[derive(Clone, Copy, Debug, PartialEq, Eq, PartialOrd, Ord, Hash)]
 pub struct DebugId {
     uuid: Uuid,
     appendix: u32,
 }
 
-/// The text is no [`DebugId`].
+/// The error of a text that is not a [`DebugId`].
 #[derive(Debug, Drop, Error)]
 #[error("ParseDebugIdError")]
 pub struct ParseDebugIdError;
 
 impl DebugId {
-    /// The identifier of these parts.
+    /// Creates a debug id from a UUID and an appendix.
     pub fn from_parts(uuid: Uuid, appendix: u32) -> DebugId
         ensures { debug_parts result ≡ (uuid, appendix) }
     {
         DebugId { uuid, appendix }
     }
 
-    /// The UUID.
+    /// Returns the UUID.
     pub fn uuid(&self) -> Uuid
         ensures { result ≡ (debug_parts self.now).0 }
     {
         self.uuid
     }
 
-    /// The appendix, 0 where there is none.
+    /// Returns the appendix; 0 if absent.
     pub fn appendix(&self) -> u32
         ensures { result ≡ (debug_parts self.now).1 }
     {
@@ -95,12 +96,12 @@ impl FromStr for DebugId {
 
     ghost from_str_gives = { ReadsAs debug_id_of debug_parts };
 
-    /// The identifier of a text.
+    /// Parses a debug id.
     ///
     /// # Errors
     ///
-    /// `ParseDebugIdError` where the text is no UUID as 32 digits or with hyphens, or what follows it is
-    /// no appendix.
+    /// `ParseDebugIdError` if the text doesn't begin with a UUID as 32 hex digits or with hyphens,
+    /// or if the rest of the text is neither empty nor an appendix.
     fn from_str(text: &str) -> Result<DebugId, ParseDebugIdError> {
         match read_parts(text) {
             Some((uuid, appendix)) => Ok(DebugId::from_parts(uuid, appendix)),

@@ -1,5 +1,5 @@
-//! Laws of the texts: each is read from what writes it and from nothing else, and what is printed is
-//! read back.
+//! Laws of the texts: each is read from what writes it and from nothing else, and what is printed
+//! is read back.
 
 ghost use Rattle.std.specs.Cmp.Lexicographic.{slice_cmp};
 ghost use Rattle.std.specs.Ordering.{nat_cmp, ordering_then};
@@ -24,14 +24,15 @@ ghost use Rattle.sentry_identifiers.specs.declared.code_id.CodeId.{CodeId as Cod
 
 use crate::{CodeId, DebugId, SpanId, TraceId};
 
-/// A UUID's text reads back as that UUID, with hyphens and without.
+/// The text of a UUID, with hyphens or without, reads back as the same UUID.
 #[tactic(auto, using(crate::proofs::UuidLaws::hyphenated_back, crate::proofs::UuidLaws::simple_back))]
 pub fn uuids()
     ensures hyphenated { (id : Cell) → IsUuid id → uuid_of (hyphenated id) ≡ Some id }
     ensures simple { (id : Cell) → IsUuid id → uuid_of (simple id) ≡ Some id }
 {}
 
-/// UUIDs in trees, with hyphens and without; random ones may be drawn, and each is its own normal form.
+/// UUIDs in JSON trees, with hyphens and without; random UUIDs may be drawn, and each is its own
+/// normal form.
 pub fn uuid_trees()
     ensures hyphenated { HasLaws hyphenated_kind }
     ensures simple { HasLaws simple_kind }
@@ -41,7 +42,7 @@ pub fn uuid_trees()
     ensures normal_simple { (id : Cell) → IsUuid id → IsNormal simple_kind id }
 {}
 
-/// Ids of spans (8 bytes) and traces (16 bytes).
+/// Span ids (8 bytes) and trace ids (16 bytes).
 pub fn hex_ids()
     ensures texts { (n : ℕ) (text bytes : List ℕ) → hex_id_of n text ≡ Some bytes ↔
         IsHexId n text bytes }
@@ -66,7 +67,8 @@ pub fn code_ids()
         code_digits digits ≡ digits }
 {}
 
-/// Ids of spans and traces in trees; any bytes may be drawn, and each id is its own normal form.
+/// Span ids and trace ids in JSON trees; any bytes may be drawn, and each id is its own normal
+/// form.
 pub fn hex_id_trees()
     ensures spans { HasLaws span_id_kind }
     ensures traces { HasLaws trace_id_kind }
@@ -74,7 +76,7 @@ pub fn hex_id_trees()
     ensures drawn_traces { RuleLaws (draw (IsOctets 16)) trace_id_kind }
 {}
 
-/// Debug identifiers in trees; each is its own normal form.
+/// Debug identifiers in JSON trees; each is its own normal form.
 #[tactic(auto, using(crate::proofs::DebugIdTrees::debug_has_laws, crate::proofs::DebugIdTrees::debug_refuses_null, crate::proofs::DebugIdTrees::debug_normal))]
 pub fn debug_id_trees()
     ensures laws { HasLaws debug_kind }
@@ -82,7 +84,7 @@ pub fn debug_id_trees()
     ensures normal { (c : Cell) → IsDebugCell c → IsNormal debug_kind c }
 {}
 
-/// Code identifiers in trees; each is its own normal form.
+/// Code identifiers in JSON trees; each is its own normal form.
 #[tactic(auto, using(crate::proofs::CodeIdTrees::code_has_laws, crate::proofs::CodeIdTrees::code_refuses_null, crate::proofs::CodeIdTrees::code_normal))]
 pub fn code_id_trees()
     ensures laws { HasLaws code_kind }
@@ -90,7 +92,7 @@ pub fn code_id_trees()
     ensures normal { (c : Cell) → IsCodeCell c → IsNormal code_kind c }
 {}
 
-/// Two ids are equal exactly where their bytes, parts or texts are the same.
+/// Two ids are equal exactly if their bytes, parts or texts are equal.
 pub fn equal_ids()
     ensures spans { (a b : SpanIds) → ⟦<SpanId as PartialEq>⟧.eq a b ≡ true ↔
         (span_bytes a ≡ span_bytes b) }
@@ -102,8 +104,8 @@ pub fn equal_ids()
         (code_text a ≡ code_text b) }
 {}
 
-/// Debug identifiers are ordered by the bytes of their UUIDs, then by their appendices, and code
-/// identifiers as their texts, by bytes.
+/// Debug identifiers are ordered by the bytes of their UUIDs, then by their appendices; code
+/// identifiers by the bytes of their texts.
 pub fn ordered_ids()
     ensures debug_ids { (a b : DebugIds) → ⟦<DebugId as Ord>⟧.cmp a b
         ≡ ordering_then (slice_cmp nat_cmp (debug_parts a).0 (debug_parts b).0)

@@ -16,15 +16,16 @@ use std::alloc::{AllocError, Global};
 use std::str::FromStr;
 use std::{fmt, str};
 
-/// The id of a span: eight bytes.
+/// Span id: 8 bytes.
 ///
-/// It is read from 16 hex digits in any case, and written in lower case:
-/// <https://develop.sentry.dev/sdk/data-model/event-payloads/contexts/#trace-context>.
+/// Parsed from 16 hex digits in any case, and written in lower case.
+///
+/// <https://develop.sentry.dev/sdk/data-model/event-payloads/contexts/#trace-context>
 #[derive(Clone, Copy, PartialEq, Eq, Hash)]
 pub struct SpanId([u8; 8]);
 
 impl SpanId {
-    /// A random id: the next 8 bytes that the generator gives.
+    /// Draws a random id: the generator's next 8 bytes.
     pub fn random<R: Rng>(ids: &mut R) -> SpanId
         ensures { (span_bytes result, R.stream ids.new) ≡ fill_bytes 8 (R.stream ids.old) }
     {
@@ -33,11 +34,11 @@ impl SpanId {
         SpanId::from(bytes)
     }
 
-    /// The id as 16 digits in lower case.
+    /// Returns the id as 16 hex digits in lower case.
     ///
     /// # Errors
     ///
-    /// `AllocError` where there is no memory for the text.
+    /// `AllocError` if an allocation fails.
     pub fn to_text(&self, alloc: Global) -> Result<String, AllocError>
         ensures { IfOk result (λ text. string_bytes text ≡ encode_lower (span_bytes self.now)) }
     {
@@ -58,12 +59,13 @@ impl FromStr for SpanId {
 
     ghost from_str_gives = { ReadsHex 8 span_bytes };
 
-    /// The id of 16 hex digits, in any case.
+    /// Parses 16 hex digits in any case.
     ///
     /// # Errors
     ///
-    /// `OddLength` where the text has an odd number of bytes, else `InvalidStringLength` where it hasn't 16,
-    /// else `InvalidHexCharacter` with the first byte that is no hex digit, and its index.
+    /// `OddLength` if the text has an odd number of bytes; else `InvalidStringLength` if the text
+    /// doesn't have 16 bytes; else `InvalidHexCharacter` with the first byte that is not a hex
+    /// digit and its index.
     fn from_str(text: &str) -> Result<SpanId, FromHexError> {
         Ok(SpanId(read_bytes(text)?))
     }
@@ -74,11 +76,11 @@ impl TryFrom<String> for SpanId {
 
     ghost try_from_gives = { λ text r. ReadsHex 8 span_bytes (string_bytes text) r };
 
-    /// The id of 16 hex digits, in any case.
+    /// Parses 16 hex digits in any case.
     ///
     /// # Errors
     ///
-    /// Those of [`SpanId::from_str`].
+    /// The errors of [`SpanId::from_str`].
     fn try_from(text: String) -> Result<SpanId, FromHexError> {
         text.as_str().parse()
     }

@@ -16,15 +16,16 @@ use std::alloc::{AllocError, Global};
 use std::str::FromStr;
 use std::{fmt, str};
 
-/// The id of a trace: sixteen bytes.
+/// Trace id: 16 bytes.
 ///
-/// It is read from 32 hex digits in any case, and written in lower case:
-/// <https://develop.sentry.dev/sdk/data-model/event-payloads/contexts/#trace-context>.
+/// Parsed from 32 hex digits in any case, and written in lower case.
+///
+/// <https://develop.sentry.dev/sdk/data-model/event-payloads/contexts/#trace-context>
 #[derive(Clone, Copy, PartialEq, Eq, Hash)]
 pub struct TraceId([u8; 16]);
 
 impl TraceId {
-    /// A random id: the next 16 bytes that the generator gives.
+    /// Draws a random id: the generator's next 16 bytes.
     pub fn random<R: Rng>(ids: &mut R) -> TraceId
         ensures { (trace_bytes result, R.stream ids.new) ≡ fill_bytes 16 (R.stream ids.old) }
     {
@@ -33,11 +34,11 @@ impl TraceId {
         TraceId::from(bytes)
     }
 
-    /// The id as 32 digits in lower case.
+    /// Returns the id as 32 hex digits in lower case.
     ///
     /// # Errors
     ///
-    /// `AllocError` where there is no memory for the text.
+    /// `AllocError` if an allocation fails.
     pub fn to_text(&self, alloc: Global) -> Result<String, AllocError>
         ensures { IfOk result (λ text. string_bytes text ≡ encode_lower (trace_bytes self.now)) }
     {
@@ -58,12 +59,13 @@ impl FromStr for TraceId {
 
     ghost from_str_gives = { ReadsHex 16 trace_bytes };
 
-    /// The id of 32 hex digits, in any case.
+    /// Parses 32 hex digits in any case.
     ///
     /// # Errors
     ///
-    /// `OddLength` where the text has an odd number of bytes, else `InvalidStringLength` where it hasn't 32,
-    /// else `InvalidHexCharacter` with the first byte that is no hex digit, and its index.
+    /// `OddLength` if the text has an odd number of bytes; else `InvalidStringLength` if the text
+    /// doesn't have 32 bytes; else `InvalidHexCharacter` with the first byte that is not a hex
+    /// digit and its index.
     fn from_str(text: &str) -> Result<TraceId, FromHexError> {
         Ok(TraceId(read_bytes(text)?))
     }
@@ -74,11 +76,11 @@ impl TryFrom<String> for TraceId {
 
     ghost try_from_gives = { λ text r. ReadsHex 16 trace_bytes (string_bytes text) r };
 
-    /// The id of 32 hex digits, in any case.
+    /// Parses 32 hex digits in any case.
     ///
     /// # Errors
     ///
-    /// Those of [`TraceId::from_str`].
+    /// The errors of [`TraceId::from_str`].
     fn try_from(text: String) -> Result<TraceId, FromHexError> {
         text.as_str().parse()
     }

@@ -16,14 +16,16 @@ use serde_json::Value;
 use std::alloc::{AllocError, Global};
 use uuid::Uuid;
 
-/// The form of a UUID that is written with hyphens, in lower case.
+/// The JSON form of a UUID as a string with hyphens, in lower case.
 ///
-/// It is read with hyphens (RFC 9562), as 32 digits, as a URN (`urn:uuid:`), or in braces, in any case.
+/// A UUID is read with hyphens (RFC 9562), as 32 hex digits, as a URN (`urn:uuid:`) or in braces,
+/// in any case.
 pub struct Hyphenated;
 
-/// The form of a UUID that is written as 32 digits, in lower case.
+/// The JSON form of a UUID as a string of 32 hex digits, in lower case.
 ///
-/// It is read with hyphens (RFC 9562), as 32 digits, as a URN (`urn:uuid:`), or in braces, in any case.
+/// A UUID is read with hyphens (RFC 9562), as 32 hex digits, as a URN (`urn:uuid:`) or in braces,
+/// in any case.
 pub struct Simple;
 
 impl Codec<Uuid> for Hyphenated {
@@ -86,7 +88,7 @@ impl Codec<Uuid> for Simple {
     }
 }
 
-/// The UUID of a tree that is a text in one of the four forms.
+// Reads a UUID from a JSON string in one of the four forms.
 fn read_uuid<N: Node>(node: &N) -> Result<Uuid, TreeError>
     ensures { (to_text : Cell → List ℕ) →
         Reads (uuid_kind to_text) octets (N.data_of node.now) result }
@@ -134,7 +136,7 @@ impl Drawn<Uuid> for Simple {
     }
 }
 
-/// A random UUID: version 4 of the generator's next sixteen bytes.
+/// Draws a random UUID (version 4) from the generator's next 16 bytes.
 pub fn random_uuid<R: Rng>(ids: &mut R) -> Uuid
     ensures drawn { (result, R.stream ids.new) ≡ v4_of_fill (fill_bytes 16 (R.stream ids.old)) }
     ensures random { IsRandomUuid (octets result) }

@@ -192,12 +192,12 @@ pub fn send_plain<W: Write>(text: &[u8], writer: &mut W) -> Result<(), SendFaile
     send_counting(text, writer, &mut failures)
 }
 
-/// Writes two texts to a writer, one after the other, by as many writes as needed.
-///
-/// # Errors
-///
-/// `SendFailed` at the first write that fails, is interrupted, or accepts 0 bytes; only a proper
-/// prefix of both texts together was written.
+// Writes two texts to a writer, one after the other, by as many writes as needed.
+//
+// # Errors
+//
+// `SendFailed` at the first write that fails, is interrupted, or accepts 0 bytes; only a proper
+// prefix of both texts together was written.
 pub(crate) fn send_both<W: Write>(
     first: &[u8],
     second: &[u8],

@@ -7,14 +7,14 @@ use Rattle.sentry_text.specs.Number.{number_of}
 use Rattle.sentry_text.proofs.NumberTexts.{number_of_iff}
 use Rattle.sentry_moments.specs.Decimal.{Worth, Billionths, BelowZero, IsDecimal, IsNoDecimal}
 use Rattle.sentry_moments.proofs.DecimalTexts.{one_worth, is_decided}
-use Rattle.sentry_keys.specs.Auth.{Pair, Time, Parts, values_at, last_at, timestamp_key, client_key, version_key, key_key, secret_key, IsReadable, IsUnreadable, VersionIs, TimestampIs, VersionsAreReadable, Tell, IsAuth, HasUnreadableVersion, HasNoKey}
+use Rattle.sentry_keys.specs.Auth.{Pair, Time, Parts, values_at, last_at, timestamp_key, client_key, version_key, key_key, secret_key, HasVersion, HasNoVersion, VersionIs, TimestampIs, VersionsAreReadable, Tell, IsAuth, HasUnreadableVersion, HasNoKey}
 
 -- ---- versions
 
 abbrev number_text : List ℕ → List ℕ
 number_text text = before_first (λ b. b == 46) text
 
-version_read : (text : List ℕ) (o : Option ℕ) → number_of 10 (number_text text) ≡ o → IsReadable text ⊎ IsUnreadable text
+version_read : (text : List ℕ) (o : Option ℕ) → number_of 10 (number_text text) ≡ o → HasVersion text ⊎ HasNoVersion text
 version_read text None e =
     inr (λ n h. let same = sym e ∙ (number_of_iff 10 (number_text text) n).1 h.0 in absurd (cc))
 version_read text (Some n) e =
@@ -24,7 +24,7 @@ version_read text (Some n) e =
     (cases_lt n (2 ^ 16))
 
 -- each text is a version, or one of them is none
-all_read : (texts : List (List ℕ)) → AllByRecursion IsReadable texts ⊎ ((text : List ℕ) × Contains texts text × IsUnreadable text)
+all_read : (texts : List (List ℕ)) → AllByRecursion HasVersion texts ⊎ ((text : List ℕ) × Contains texts text × HasNoVersion text)
 all_read [] = inl tt
 all_read (text ∷ texts) =
     ⊎_elim
@@ -33,7 +33,7 @@ all_read (text ∷ texts) =
     (version_read text (number_of 10 (number_text text)) refl)
 
 -- the last of them tells the version, or else the one before
-last_version : (texts : List (List ℕ)) (o : Option (List ℕ)) → (n : ℕ) × VersionIs o n → AllByRecursion IsReadable texts → (n : ℕ) × VersionIs (last_or o texts) n
+last_version : (texts : List (List ℕ)) (o : Option (List ℕ)) → (n : ℕ) × VersionIs o n → AllByRecursion HasVersion texts → (n : ℕ) × VersionIs (last_or o texts) n
 last_version [] o before all = before
 last_version (text ∷ texts) o before all = last_version texts (Some text) all.0 all.1
 

@@ -7,7 +7,7 @@ use Rattle.sentry_tables.specs.Kind.{scalar}
 use Rattle.sentry_tables.specs.Laws.{HasLaws}
 use Rattle.sentry_tables.specs.Lawful.{RefusesNull}
 use Rattle.sentry_tables.proofs.Laws.{has_laws}
-use Rattle.sentry_keys.specs.Auth.{Pair, Time, Parts, values_at, last_at, timestamp_key, version_key, IsReadable, IsTime, VersionIs, TimestampIs, VersionsAreReadable, IsAuth, HasUnreadableVersion, HasNoKey}
+use Rattle.sentry_keys.specs.Auth.{Pair, Time, Parts, values_at, last_at, timestamp_key, version_key, HasVersion, IsTime, VersionIs, TimestampIs, VersionsAreReadable, IsAuth, HasUnreadableVersion, HasNoKey}
 use Rattle.sentry_keys.specs.AuthFields.{auth_scalar, auth_kind}
 use Rattle.sentry_keys.proofs.AuthTrees.{auth_laws, null_refused}
 
@@ -53,9 +53,9 @@ one_auth pairs a b x y =
     ∙ ap (λ t. parts b.timestamp b.client b.version t a.secret) (x.0.key ∙ sym y.0.key)
     ∙ ap (λ t. parts b.timestamp b.client b.version b.key t) (x.0.secret ∙ sym y.0.secret)
 
-readable_at : (texts : List (List ℕ)) (text : List ℕ) (k : ℕ) → AllByRecursion IsReadable texts → k < length texts → get_or texts k text ≡ text → IsReadable text
+readable_at : (texts : List (List ℕ)) (text : List ℕ) (k : ℕ) → AllByRecursion HasVersion texts → k < length texts → get_or texts k text ≡ text → HasVersion text
 readable_at [] text k all h is = absurd (omega (arith, h))
-readable_at (t ∷ ts) text zero all h is = subst IsReadable is all.0
+readable_at (t ∷ ts) text zero all h is = subst HasVersion is all.0
 readable_at (t ∷ ts) text (suc k) all h is = readable_at ts text k all.1 (omega (arith, h)) is
 
 never_both : (pairs : List Pair) → VersionsAreReadable pairs → HasUnreadableVersion pairs → ⊥

@@ -14,7 +14,7 @@ use Rattle.std.proofs.lemmas.Slice.Eq.{bytes_eq-Decides}
 use Rattle.sentry_moments.specs.Decimal.{IsDecimal, Billionths}
 use Rattle.sentry_moments.specs.Rfc3339.{IsMomentTime}
 use Rattle.sentry_moments.specs.declared.moment.Moment.{Moment}
-use Rattle.sentry_keys.specs.Auth.{Pair, Time, Parts, values_at, last_at, timestamp_key, client_key, version_key, key_key, secret_key, time_of, IsVersion, IsReadable, IsUnreadable, VersionIs, TimestampIs, VersionsAreReadable, Tell, HasUnreadableVersion, ReadsPairs}
+use Rattle.sentry_keys.specs.Auth.{Pair, Time, Parts, values_at, last_at, timestamp_key, client_key, version_key, key_key, secret_key, time_of, IsVersion, HasVersion, HasNoVersion, VersionIs, TimestampIs, VersionsAreReadable, Tell, HasUnreadableVersion, ReadsPairs}
 use Rattle.sentry_keys.specs.declared.auth.ParseAuthError.{ParseAuthError}
 use Rattle.sentry_keys.specs.declared.auth.ParseAuthError.TheVariants.{InvalidVersion, Memory}
 
@@ -67,7 +67,7 @@ module _ (pairs : List Pair) (parts : Parts) (t : Tell pairs parts) (k value : L
   version_kept e = subst (λ o. VersionIs o parts.version) (sym (last_kept version_key pairs k value e)) t.version
 
   versions_kept : bytes_eq k version_key ≡ false → VersionsAreReadable (add pairs k value)
-  versions_kept e = subst (AllByRecursion IsReadable) (sym (values_kept version_key pairs k value e)) t.versions
+  versions_kept e = subst (AllByRecursion HasVersion) (sym (values_kept version_key pairs k value e)) t.versions
 
   key_kept : bytes_eq k key_key ≡ false → parts.key ≡ unwrap_or (last_at key_key (add pairs k value)) []
   key_kept e = t.key ∙ ap (λ o. unwrap_or o []) (sym (last_kept key_key pairs k value e))
@@ -107,7 +107,7 @@ module _ (pairs : List Pair) (parts : Parts) (t : Tell pairs parts) (k value : L
         timestamp = timestamp_kept (other timestamp_key refl);
         client = client_kept (other client_key refl);
         version = subst (λ o. VersionIs o n) (sym (last_new version_key pairs k value same)) h;
-        versions = subst (AllByRecursion IsReadable) (sym (values_new version_key pairs k value same)) (all_push IsReadable (values_at version_key pairs) value t.versions (n, h));
+        versions = subst (AllByRecursion HasVersion) (sym (values_new version_key pairs k value same)) (all_push HasVersion (values_at version_key pairs) value t.versions (n, h));
         key = key_kept (other key_key refl);
         secret = secret_kept (other secret_key refl);
       }
@@ -182,14 +182,14 @@ among k value rest is =
     let first : values_at version_key ((k, value) ∷ rest) ≡ value ∷ values_at version_key rest = ap (λ b. map (λ (p : Pair). p.1) (cond b ((k, value) ∷ filter (λ (p : Pair). bytes_eq p.0 version_key) rest) (filter (λ (p : Pair). bytes_eq p.0 version_key) rest))) same in
     subst (λ vs. Contains vs value) (sym first) (0, omega arith, refl)
 
-pub wrong_version : (all left next : List Pair) (k value : List ℕ) (parts : Parts) → IsTold all left parts → left ≡ (k, value) ∷ next → k ≡ version_key → IsUnreadable value → HasUnreadableVersion all
+pub wrong_version : (all left next : List Pair) (k value : List ℕ) (parts : Parts) → IsTold all left parts → left ≡ (k, value) ∷ next → k ≡ version_key → HasNoVersion value → HasUnreadableVersion all
 wrong_version all left next k value parts h is key wrong =
     let values : values_at version_key all ≡ values_at version_key h.done ++ values_at version_key ((k, value) ∷ next) = ap (values_at version_key) (h.split ∙ ap (λ ps. h.done ++ ps) is) ∙ values_append version_key h.done ((k, value) ∷ next) in
     (value, subst (λ vs. Contains vs value) (sym values) (Contains-append_right (values_at version_key h.done) (values_at version_key ((k, value) ∷ next)) value (among k value next key)), wrong)
 
 -- what the failure of a pair says
 pub pair_fails : (all left next : List Pair) (k value : List ℕ) (parts : Parts) (e : ParseAuthError) → IsTold all left parts → left ≡ (k, value) ∷ next
-    → (e ≡ Memory) ⊎ ((e ≡ InvalidVersion) × (k ≡ version_key) × IsUnreadable value) → ReadsPairs all (Err e)
+    → (e ≡ Memory) ⊎ ((e ≡ InvalidVersion) × (k ≡ version_key) × HasNoVersion value) → ReadsPairs all (Err e)
 pair_fails all left next k value parts e h is (inl memory) = subst (λ x. ReadsPairs all (Err x)) (sym memory) tt
 pair_fails all left next k value parts e h is (inr wrong) = subst (λ x. ReadsPairs all (Err x)) (sym wrong.0) (wrong_version all left next k value parts h is wrong.1 wrong.2)
 

@@ -68,11 +68,11 @@ secret_key = codes "sentry_secret"
 abbrev pub IsVersion : List ℕ → ℕ → Type 0
 IsVersion text n = IsNumber 10 (before_first (λ b. b == 46) text) n × (n < 2 ^ 16)
 
-abbrev pub IsReadable : List ℕ → Type 0
-IsReadable text = (n : ℕ) × IsVersion text n
+abbrev pub HasVersion : List ℕ → Type 0
+HasVersion text = (n : ℕ) × IsVersion text n
 
-abbrev pub IsUnreadable : List ℕ → Type 0
-IsUnreadable text = (n : ℕ) → IsVersion text n → ⊥
+abbrev pub HasNoVersion : List ℕ → Type 0
+HasNoVersion text = (n : ℕ) → IsVersion text n → ⊥
 
 -- the text is a decimal of seconds that a moment has
 abbrev pub IsTime : List ℕ → Time → Type 0
@@ -92,7 +92,7 @@ TimestampIs (Some text) (Some time) = IsTime text time
 -- ---- what pairs say
 
 abbrev pub VersionsAreReadable : List Pair → Type 0
-VersionsAreReadable pairs = AllByRecursion IsReadable (values_at version_key pairs)
+VersionsAreReadable pairs = AllByRecursion HasVersion (values_at version_key pairs)
 
 -- the last pair of each key tells its part; other keys tell nothing
 pub record Tell (pairs : List Pair) (parts : Parts) : Type 0 where
@@ -109,7 +109,7 @@ IsAuth pairs parts = Tell pairs parts × (0 < length parts.key)
 
 -- some version isn't readable
 abbrev pub HasUnreadableVersion : List Pair → Type 0
-HasUnreadableVersion pairs = (text : List ℕ) × Contains (values_at version_key pairs) text × IsUnreadable text
+HasUnreadableVersion pairs = (text : List ℕ) × Contains (values_at version_key pairs) text × HasNoVersion text
 
 -- every version is readable, and the key is empty or missing
 abbrev pub HasNoKey : List Pair → Type 0

@@ -18,11 +18,11 @@ api_text d endpoint =
     ++ (codes "/" ++ (endpoint ++ codes "/"))))))))
 
 -- the endpoints for lone events and for envelopes
-abbrev pub store_text : DsnParts → List ℕ
-store_text d = api_text d (codes "store")
+abbrev pub store_url : DsnParts → List ℕ
+store_url d = api_text d (codes "store")
 
-abbrev pub envelope_text : DsnParts → List ℕ
-envelope_text d = api_text d (codes "envelope")
+abbrev pub envelope_url : DsnParts → List ℕ
+envelope_url d = api_text d (codes "envelope")
 
 -- why a text became no URL
 abbrev pub IsApiRefusal : List ℕ → ApiUrlError → Type 0

@@ -62,7 +62,7 @@ impl Dsn {
     ///
     /// `AllocError` if an allocation fails.
     pub fn store_api_url_text(&self, alloc: Global) -> Result<String, AllocError>
-        ensures { IfOk result (λ s. string_bytes s ≡ spec.store_text (dsn_parts self.now)) }
+        ensures { IfOk result (λ s. string_bytes s ≡ spec.store_url (dsn_parts self.now)) }
     {
         let (scheme, host, port) = (self.scheme(), self.host(), self.api_port());
         let (path, project) = (self.path(), self.project_id());
@@ -77,7 +77,7 @@ impl Dsn {
     ///
     /// `AllocError` if an allocation fails.
     pub fn envelope_api_url_text(&self, alloc: Global) -> Result<String, AllocError>
-        ensures { IfOk result (λ s. string_bytes s ≡ spec.envelope_text (dsn_parts self.now)) }
+        ensures { IfOk result (λ s. string_bytes s ≡ spec.envelope_url (dsn_parts self.now)) }
     {
         let (scheme, host, port) = (self.scheme(), self.host(), self.api_port());
         let (path, project) = (self.path(), self.project_id());
@@ -92,8 +92,8 @@ impl Dsn {
     /// - `Memory` if an allocation fails, or if the URL would take 4 GB.
     pub fn store_api_url(&self, alloc: Global) -> Result<Url, ApiUrlError>
         ensures { MatchResult result
-            (λ url. parse_url None (spec.store_text (dsn_parts self.now)) ≡ Ok url)
-            (spec.IsApiRefusal (spec.store_text (dsn_parts self.now))) }
+            (λ url. parse_url None (spec.store_url (dsn_parts self.now)) ≡ Ok url)
+            (spec.IsApiRefusal (spec.store_url (dsn_parts self.now))) }
     {
         parse(alloc, self.store_api_url_text(alloc)?.as_str())
     }
@@ -106,8 +106,8 @@ impl Dsn {
     /// - `Memory` if an allocation fails, or if the URL would take 4 GB.
     pub fn envelope_api_url(&self, alloc: Global) -> Result<Url, ApiUrlError>
         ensures { MatchResult result
-            (λ url. parse_url None (spec.envelope_text (dsn_parts self.now)) ≡ Ok url)
-            (spec.IsApiRefusal (spec.envelope_text (dsn_parts self.now))) }
+            (λ url. parse_url None (spec.envelope_url (dsn_parts self.now)) ≡ Ok url)
+            (spec.IsApiRefusal (spec.envelope_url (dsn_parts self.now))) }
     {
         parse(alloc, self.envelope_api_url_text(alloc)?.as_str())
     }

@@ -5,7 +5,7 @@
 ghost use Rattle.std.specs.Prelude.{◌≡◌, ◌⊎◌, ◌==◌, ◌<◌, ◌++◌, ◌∷◌, [], ℕ, List, Some, map, option_map, is_some, not, IfOk, IfErr, IfSome, OnOk};
 ghost use Rattle.std.specs.List.{before_first};
 ghost use Rattle.form_urlencoded.specs.Form.{pair_text};
-ghost use Rattle.sentry_keys.specs.Auth.{Pair, parts_of, time_of, IsVersion, IsUnreadable, Tell, ReadsPairs, version_key};
+ghost use Rattle.sentry_keys.specs.Auth.{Pair, parts_of, time_of, IsVersion, HasNoVersion, Tell, ReadsPairs, version_key};
 ghost use Rattle.sentry_keys.specs.AuthText.{item_pair, list_pairs, query_pairs, ReadsHeader, part_text, auth_text, time_text};
 ghost use Rattle.sentry_keys.specs.declared.auth.ParseAuthError.TheVariants.{InvalidVersion, Memory};
 
@@ -129,7 +129,7 @@ impl Auth {
         ensures ok { OnOk result ((pairs : List Pair) → Tell pairs (parts_of self.old) →
             Tell (pairs ++ (key.now, value.now) ∷ []) (parts_of self.new)) }
         ensures err { IfErr result (λ e. (e ≡ Memory)
-            ⊎ ((e ≡ InvalidVersion) × (key.now ≡ version_key) × IsUnreadable value.now)) }
+            ⊎ ((e ≡ InvalidVersion) × (key.now ≡ version_key) × HasNoVersion value.now)) }
     {
         match key {
             "sentry_timestamp" => {

@@ -69,8 +69,8 @@ pub trait ReadsNode<T>: Drop {
 
 /// A reader of lines of JSON, which keeps its working memory from line to line.
 ///
-/// A line as clients write it, without white space between its values, is read in one pass onto a
-/// tape of its own ([`Tape::parse`]); any other goes the general way, onto the tape of a [`Line`]
+/// A line as clients write it is read in one pass onto a tape of its own ([`Tape::parse`]); any
+/// other, such as one with a number of 20 digits, goes the general way, onto the tape of a [`Line`]
 /// or, if a tape doesn't serve ([`LineError::Unfit`]), into a tree.
 #[derive(Drop)]
 pub struct LineReader<'s, 'a> {

@@ -19,13 +19,14 @@ use std::alloc::AllocError;
 /// <https://develop.sentry.dev/sdk/telemetry/logs/>
 #[derive(Debug, Drop, PartialEq)]
 pub struct Log {
-    /// Severity level.
+    /// Severity level; required.
     pub level: LogLevel,
-    /// Log message.
+    /// Log message; required.
     pub body: String,
     /// Id of the trace that the log belongs to.
     pub trace_id: Option<TraceId>,
-    /// Time of the log: whole seconds since 1970, or RFC 3339 if fractional.
+    /// Time of the log: RFC 3339 or whole seconds since 1970; required. Written as RFC 3339
+    /// only if fractional.
     pub timestamp: Moment,
     /// Severity as a number from 1 to 24.
     pub severity_number: Option<LogSeverityNumber>,

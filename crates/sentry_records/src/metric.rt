@@ -19,15 +19,16 @@ use std::borrow::CowStr;
 /// <https://develop.sentry.dev/sdk/telemetry/metrics/>
 #[derive(Debug, Drop, PartialEq)]
 pub struct Metric {
-    /// Metric type (`type`).
+    /// Metric type (`type`); required.
     pub type_: MetricType,
-    /// Metric name, with parts separated by dots.
+    /// Metric name, with parts separated by dots; required.
     pub name: CowStr<'static>,
-    /// Measured or counted value.
+    /// Measured or counted value; required.
     pub value: i64,
-    /// Time of the measurement: whole seconds since 1970, or RFC 3339 if fractional.
+    /// Time of the measurement: RFC 3339 or whole seconds since 1970; required. Written as RFC 3339
+    /// only if fractional.
     pub timestamp: Moment,
-    /// Id of the trace that the metric belongs to.
+    /// Id of the trace that the metric belongs to; required.
     pub trace_id: TraceId,
     /// Id of the span that the metric belongs to.
     pub span_id: Option<SpanId>,

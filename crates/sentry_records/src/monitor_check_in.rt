@@ -16,11 +16,11 @@ use uuid::Uuid;
 /// <https://develop.sentry.dev/sdk/telemetry/check-ins/>
 #[derive(Debug, Drop, PartialEq)]
 pub struct MonitorCheckIn {
-    /// Check-in id.
+    /// Check-in id; required.
     pub check_in_id: Uuid,
-    /// Slug of the monitor.
+    /// Slug of the monitor; required.
     pub monitor_slug: String,
-    /// Status of the job; a string that is no known status reads as `unknown`.
+    /// Status of the job; required. A string that is no known status reads as `unknown`.
     pub status: MonitorCheckInStatus,
     /// Environment, such as `production`.
     pub environment: Option<String>,

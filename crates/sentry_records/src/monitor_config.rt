@@ -13,7 +13,7 @@ use std::alloc::AllocError;
 /// <https://develop.sentry.dev/sdk/telemetry/check-ins/#monitor-upsert-support>
 #[derive(Debug, Drop, PartialEq)]
 pub struct MonitorConfig {
-    /// Schedule of the expected check-ins.
+    /// Schedule of the expected check-ins; required.
     pub schedule: MonitorSchedule,
     /// Minutes after the expected time until a check-in counts as missed.
     pub checkin_margin: Option<u64>,

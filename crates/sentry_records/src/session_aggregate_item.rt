@@ -15,7 +15,7 @@ use std::alloc::AllocError;
 /// <https://develop.sentry.dev/sdk/telemetry/sessions/>
 #[derive(Debug, Drop, PartialEq)]
 pub struct SessionAggregateItem {
-    /// Start of the sessions: RFC 3339.
+    /// Start of the sessions: RFC 3339; required.
     pub started: Moment,
     /// Distinct id of the user or device (`did`).
     pub distinct_id: Option<String>,

@@ -16,7 +16,7 @@ use std::alloc::AllocError;
 pub struct SessionAggregates<'a> {
     /// Groups of sessions; empty by default.
     pub aggregates: Vec<SessionAggregateItem>,
-    /// Attributes shared by the sessions (`attrs`).
+    /// Attributes shared by the sessions (`attrs`); required.
     pub attributes: SessionAttributes<'a>,
 }
 

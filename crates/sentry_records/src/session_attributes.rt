@@ -15,7 +15,7 @@ use std::net::IpAddr;
 /// <https://develop.sentry.dev/sdk/telemetry/sessions/>
 #[derive(Debug, Drop, PartialEq)]
 pub struct SessionAttributes<'a> {
-    /// Release of the application.
+    /// Release of the application; required.
     pub release: CowStr<'a>,
     /// Environment, such as `production`.
     pub environment: Option<CowStr<'a>>,

@@ -39,7 +39,7 @@ pub struct SessionUpdate<'a> {
     pub status: SessionStatus,
     /// Number of errors in the session; defaults to 0.
     pub errors: u64,
-    /// Session attributes (`attrs`).
+    /// Session attributes (`attrs`); required.
     pub attributes: SessionAttributes<'a>,
 }
 

@@ -14,13 +14,13 @@ use uuid::Uuid;
 /// <https://develop.sentry.dev/sdk/data-model/envelope-items/#user-report>
 #[derive(Debug, Drop, PartialEq)]
 pub struct UserReport {
-    /// Id of the event that the report is about.
+    /// Id of the event that the report is about; required.
     pub event_id: Uuid,
     /// Name of the user.
     pub name: Option<String>,
     /// Email address of the user.
     pub email: Option<String>,
-    /// Comments of the user.
+    /// Comments of the user; required.
     pub comments: String,
 }
 

@@ -28,7 +28,7 @@ fn add_up(sum: u64, quantity: u64) -> u64
     sum.saturating_add(quantity)
 }
 
-/// Returns the sum of each category and reason, saturating at 2^64-1.
+// Returns the sum of each category and reason, saturating at 2^64-1.
 #[tactic(auto, using(crate::proofs::ReportSums::keeps_nothing))]
 pub(crate) fn sums_of(items: &[Item]) -> [u64; SUMS]
     ensures { KeepsSums result items.now }

@@ -8,3 +8,4 @@ pub mod Escapes
 pub mod SoFar
 pub mod RunLengths
 pub mod StopMasks
+pub mod Spaces

@@ -1,5 +1,5 @@
 -- The items of an array and the members of an object, one after the other: whatever the rest has, the whole has those so far and then these.
-use Rattle.std.proofs.Common.{◌≡◌, ◌≤◌, ◌<◌, ◌-◌, ℕ, List, [], ◌∷◌, ◌++◌, length, slice_set, if◌then◌else◌, true, false, true≢false, Bool, Some, option_map, option_and_then, refl, sym, ap, ap₂, ◌∙◌, arith, append_assoc, append-nil, length-append, drop, take_at}
+use Rattle.std.proofs.Common.{◌≡◌, ◌≤◌, ◌<◌, ◌-◌, ℕ, List, [], ◌∷◌, ◌++◌, length, slice_set, if◌then◌else◌, true, false, true≢false, Bool, subst, Some, option_map, option_and_then, refl, sym, ap, ap₂, ◌∙◌, arith, append_assoc, append-nil, length-append, drop, take_at}
 use Rattle.std.proofs.lemmas.List.{drop_at}
 use Rattle.json.specs.Token as json_token
 use Rattle.json.specs.Json.{Json, array, object, Items, no_items, item, Members, no_members, member}
@@ -8,7 +8,7 @@ use Rattle.json.specs.Tree.{items_depth, members_depth}
 use Rattle.json.specs.Word.{ends_word}
 use Rattle.serde_json.specs.Data as serde
 use Rattle.serde_json.specs.Read.{of_json, of_items, of_members}
-use Rattle.sentry_tape.specs.Spelled.{lexemes, items_lexemes, members_lexemes, Spells, SpellsString}
+use Rattle.sentry_tape.specs.Spelled.{lexemes, items_lexemes, members_lexemes, IsSpaced, Spells, SpellsString}
 use Rattle.sentry_tape.specs.Tokens.{width, text_of, value_of, items_by, items_of, members_by, members_of}
 use Rattle.sentry_tape.specs.declared.token.Token.{Token}
 use Rattle.sentry_tape.specs.declared.token.Token.TheVariants as value
@@ -185,3 +185,22 @@ counted all old done len place t is long at = omega (arith, long, at, ap length 
 -- room for deeper nesting does no harm
 pub within : (text rest : List ℕ) (first : Token) (inside : List Token) (most : ℕ) → Spells text rest first inside 0 → Spells text rest first inside most
 within text rest first inside most s = record { json = s.json; lexed = s.lexed; meant = s.meant; closed = s.closed; shallow = omega (arith, s.shallow) }
+
+-- ---- white space before what was read, and behind it
+
+pub skipped : (of due : Bool) (text left next : List ℕ) (done : List Token) (most : ℕ) → IsSpaced left next → Before of due text left done most → Before of due text next done most
+skipped false false text left next done most space so = subst (λ l. ItemsSoFar text (comma ∷ l) done most) space.lexed so
+skipped false true text left next done most space so = absurd so
+skipped true false text left next done most space k =
+    record { ahead = k.ahead; done = k.done; so = k.so; name = k.name; lexed = k.lexed ∙ ap (λ l. token (json_token.string k.name) ∷ colon ∷ l) space.lexed; key = k.key; named = k.named; tokens = k.tokens }
+skipped true true text left next done most space so = subst (λ l. MembersSoFar text (comma ∷ l) done most) space.lexed so
+
+pub value_behind : (text front rest : List ℕ) (first : Token) (inside : List Token) (most : ℕ) → IsSpaced text front → Spells front rest first inside most → Spells text rest first inside most
+value_behind text front rest first inside most space s = record { json = s.json; lexed = λ ended. space.lexed ∙ s.lexed ended; meant = s.meant; closed = s.closed; shallow = s.shallow }
+
+pub value_before : (text rest front : List ℕ) (first : Token) (inside : List Token) (most : ℕ) → Spells text rest first inside most → IsSpaced rest front → Spells text front first inside most
+value_before text rest front first inside most s space =
+    record { json = s.json; lexed = λ ended. s.lexed (space.ended ended) ∙ ap (λ l. lexemes s.json ++ l) space.lexed; meant = s.meant; closed = s.closed; shallow = s.shallow }
+
+pub string_before : (text rest front : List ℕ) (first : Token) → SpellsString text rest first → IsSpaced rest front → SpellsString text front first
+string_before text rest front first s space = record { name = s.name; named = s.named; lexed = s.lexed ∙ ap (λ l. token (json_token.string s.name) ∷ l) space.lexed }

@@ -1,4 +1,4 @@
--- How a JSON value without white space is spelled by lexemes, and what a text and the tokens for it have in common.
+-- How a JSON value is spelled by lexemes, and what a text and the tokens for it have in common.
 use Rattle.std.specs.Prelude.{◌≡◌, ◌≤◌, ◌++◌, ℕ, List, [], ◌∷◌, length, Bool, true, false, if◌then◌else◌, Some}
 use Rattle.json.specs.Token as json_token
 use Rattle.json.specs.Json.{Json, null, boolean, number, string, array, object, Items, no_items, item, Members, no_members, member}
@@ -32,6 +32,15 @@ abbrev mutual
   pub members_lexemes : Bool → Members → List Lexeme
   members_lexemes later no_members = token json_token.end_object ∷ []
   members_lexemes later (member k j ms) = comma_if later ++ (token (json_token.string k) ∷ colon ∷ (lexemes j ++ members_lexemes true ms))
+
+-- `rest` is what is left of a text behind white space, if any; a word ends before white space
+pub record IsSpaced (text rest : List ℕ) : Type 0 where
+  pub lexed : lex between text ≡ lex between rest
+  pub ended : ends_word rest ≡ true → ends_word text ≡ true
+
+-- `rest` follows a byte that white space may stand before
+abbrev pub IsBehind : ℕ → List ℕ → List ℕ → Type 0
+IsBehind byte text rest = (front : List ℕ) × IsSpaced text front × (front ≡ byte ∷ rest)
 
 -- `inside` is what stands behind a quote: the content, up to the closing quote, and then `rest`
 pub record IsQuoted (inside content_bytes rest : List ℕ) : Type 0 where

@@ -83,10 +83,11 @@ fn split_escape<'a>(text: Rest<'a>) -> Option<(char, Rest<'a>)>
     Some((char::from(short(byte)?), rest))
 }
 
-/// Splits off the rest of a string behind its opening quote, and the closing one.
+// Splits off the rest of a string behind its opening quote, and the closing one.
 #[inline(never)]
 pub(crate) fn split_escaped<'a>(alloc: Global, inside: Rest<'a>) -> Option<(String, Rest<'a>)>
-    ensures quoted { IfSome result (λ x. IsQuoted inside.entry.text.now (string_bytes x.0) x.1.text.now) }
+    ensures quoted { IfSome result (λ x.
+        IsQuoted inside.entry.text.now (string_bytes x.0) x.1.text.now) }
     ensures shorter { IfSome result (λ x. length x.1.text.now < length inside.entry.text.now) }
 {
     let mut content = String::with_capacity(alloc, USUAL).ok()?;

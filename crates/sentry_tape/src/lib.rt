@@ -1,5 +1,5 @@
-//! A tape of our own for lines of JSON without white space: one pass over the text, a token for each
-//! value and each key.
+//! A tape of our own for lines of JSON: one pass over the text, a token for each value and each
+//! key.
 #![tactic(auto)]
 
 mod escape;

@@ -34,7 +34,7 @@ fn digits(bytes: &[u8]) -> Option<(u64, usize)>
     Some((number, len))
 }
 
-/// Splits off an integer without a sign.
+// Splits off an integer without a sign.
 #[inline(always)]
 pub(crate) fn split_whole<'a>(text: Rest<'a>) -> Option<(Token<'a>, Rest<'a>)>
     ensures spelled { IfSome result (λ x. Spells text.entry.text.now x.1.text.now x.0 [] 0) }
@@ -45,7 +45,7 @@ pub(crate) fn split_whole<'a>(text: Rest<'a>) -> Option<(Token<'a>, Rest<'a>)>
     Some((Token::Whole(number), rest))
 }
 
-/// Splits off an integer with a minus; not zero, which is a float.
+// Splits off an integer with a minus; not zero, which is a float.
 #[cold]
 #[inline(never)]
 pub(crate) fn split_negative<'a>(text: Rest<'a>) -> Option<(Token<'a>, Rest<'a>)>

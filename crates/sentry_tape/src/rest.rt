@@ -1,13 +1,14 @@
 //! What is left of a line.
 
-ghost use Rattle.std.specs.Prelude.{◌≡◌, ◌++◌, ◌∷◌, IfSome, IsUtf8, true, length, take};
+ghost use Rattle.std.specs.Prelude.{◌≡◌, ◌<◌, ◌≤◌, ◌++◌, ◌∷◌, IfSome, IsUtf8, true, length, take};
 ghost use Rattle.sentry_tape.specs.PlainTexts.{is_plain_text};
+ghost use Rattle.sentry_tape.specs.Spelled.{IsBehind, IsSpaced};
 
 use crate::run::run_len;
 use std::str;
 
-/// What is left of a line, as a text. It is cut without asking again where a character ends: that it
-/// ends there is proved.
+/// What is left of a line, as a text. It is cut without asking again where a character ends: that
+/// it ends there is proved.
 #[derive(Clone, Copy)]
 pub(crate) struct Rest<'a> {
     pub(crate) text: &'a str,
@@ -19,7 +20,7 @@ impl<'a> Rest<'a> {
         ensures text { IfSome result (λ rest. rest.text.now ≡ line.now) }
         ensures utf8 { IfSome result (λ rest. IsUtf8 line.now) }
     {
-        match str::from_utf8(line) {
+        match simdutf8::basic::from_utf8(line) {
             Ok(text) => Some(Rest { text }),
             Err(_) => None,
         }
@@ -45,6 +46,61 @@ impl<'a> Rest<'a> {
         // SAFETY: what follows a character of a text is a text.
         let text = unsafe { str::from_utf8_unchecked(rest) };
         Some(Rest { text })
+    }
+
+    /// Returns what follows the white space at the front.
+    #[inline(always)]
+    pub fn skip_space(&self) -> Rest<'a>
+        ensures spaced { IsSpaced self.now.text.now result.text.now }
+        ensures within { length result.text.now ≤ length self.now.text.now }
+    {
+        match self.after_space() {
+            Some(rest) => rest.skip_spaces(),
+            None => *self,
+        }
+    }
+
+    // The same. Not inlined: clients write few lines with white space.
+    #[inline(never)]
+    fn skip_spaces(&self) -> Rest<'a>
+        ensures spaced { IsSpaced self.now.text.now result.text.now }
+        ensures within { length result.text.now ≤ length self.now.text.now }
+    {
+        let mut rest = *self;
+        while let Some(next) = rest.after_space() {
+            rest = next;
+        }
+        rest
+    }
+
+    /// Returns what follows a byte of ASCII that white space may stand before; `None` if another
+    /// byte stands there.
+    #[inline(always)]
+    pub fn after_spaced(&self, byte: u8) -> Option<Rest<'a>>
+        ensures follows { IfSome result (λ rest. IsBehind byte self.now.text.now rest.text.now) }
+        ensures shorter { IfSome result (λ rest.
+            length rest.text.now < length self.now.text.now) }
+    {
+        match self.after(byte) {
+            Some(rest) => Some(rest),
+            None => self.skip_spaces().after(byte),
+        }
+    }
+
+    /// Returns what follows a byte of white space at the front; `None` if another byte stands there.
+    #[inline(always)]
+    pub fn after_space(&self) -> Option<Rest<'a>>
+        ensures spaced { IfSome result (λ rest. IsSpaced self.now.text.now rest.text.now) }
+        ensures shorter { IfSome result (λ rest.
+            length rest.text.now < length self.now.text.now) }
+    {
+        match self.bytes().first()? {
+            b' ' => self.after(b' '),
+            b'\n' => self.after(b'\n'),
+            b'\r' => self.after(b'\r'),
+            b'\t' => self.after(b'\t'),
+            _ => None,
+        }
     }
 
     /// Splits off the first `len` bytes; `None` if a character doesn't end there.

@@ -7,7 +7,7 @@ use crate::number::{split_negative, split_whole};
 use crate::rest::Rest;
 use crate::token::Token;
 
-/// Splits off a value that is no string, no array and no object.
+// Splits off a value that is no string, no array and no object.
 #[inline(always)]
 pub(crate) fn split_scalar<'a>(text: Rest<'a>) -> Option<(Token<'a>, Rest<'a>)>
     ensures spelled { IfSome result (λ x. Spells text.entry.text.now x.1.text.now x.0 [] 0) }

@@ -2,7 +2,7 @@
 
 ghost use Rattle.std.specs.Prelude.{◌≡◌, ◌++◌, ◌∷◌, ◌<◌, [], ℕ, IfSome, List, Some, if◌then◌else◌, length, true};
 ghost use Rattle.sentry_json.specs.Line.{tree_of};
-ghost use Rattle.sentry_tape.specs.Spelled.{IsQuoted, Spells, SpellsString};
+ghost use Rattle.sentry_tape.specs.Spelled.{IsBehind, IsQuoted, Spells, SpellsString};
 ghost use Rattle.sentry_tape.specs.Tokens.{text_of};
 ghost use Rattle.sentry_tape.specs.TapeView.{node_data};
 ghost use Rattle.sentry_tape.specs.declared.token.Token.{Token};
@@ -40,17 +40,18 @@ impl<'a> Tape<'a> {
         }
     }
 
-    /// Reads a line, in place of the one before, and returns its root node. The line has no white
-    /// space between its values, and its numbers are integers of at most 19 digits; `None` if it
-    /// isn't such a line, or if memory is refused.
+    /// Reads a line, in place of the one before, and returns its root node. Its numbers are integers
+    /// of at most 19 digits; `None` if it isn't such a line, or if an allocation fails.
     pub fn parse(&mut self, line: &'a [u8]) -> Option<TapeNode<'_, 'a>>
         ensures { IfSome result (λ root. tree_of line.now ≡ Some (node_data root)) }
     {
         self.tokens.clear();
         let text = Rest::new(line)?;
         self.tokens.reserve((line.len() / BYTES).max(LEAST)).ok()?;
-        let rest = take_value(self.alloc, text, false, DEEPEST, &mut self.tokens)?;
-        if !rest.text.is_empty() {
+        let front = text.skip_space();
+        let rest = take_value(self.alloc, front, false, DEEPEST, &mut self.tokens)?;
+        let end = rest.skip_space();
+        if !end.text.is_empty() {
             return None;
         }
         Some(TapeNode::new(&self.tokens))
@@ -152,21 +153,45 @@ fn take_inside<'a>(
     let mut left = text;
     let mut key = object;
     loop {
+        if let Some(next) = left.after_space() {
+            left = next.skip_space();
+            continue;
+        }
         let rest = take_value(alloc, left, key, depth, tokens)?;
         if key {
-            left = rest.after(b':')?;
+            left = rest.after_spaced(b':')?;
             key = false;
             continue;
         }
-        if let Some(next) = rest.after(b',') {
+        let (comma, next) = after_value(rest, close)?;
+        if comma {
             left = next;
             key = object;
             continue;
         }
-        let rest = rest.after(close)?;
         tokens[place] = bracket(object, tokens.len() - place - 1);
-        return Some(rest);
+        return Some(next);
     }
+}
+
+// Returns whether a comma follows a value, else it is the closing bracket; and what follows that.
+#[inline(always)]
+fn after_value<'a>(rest: Rest<'a>, close: u8) -> Option<(bool, Rest<'a>)>
+    ensures follows { IfSome result (λ x.
+        IsBehind (if x.0 then 44 else close) rest.entry.text.now x.1.text.now) }
+    ensures shorter { IfSome result (λ x. length x.1.text.now < length rest.entry.text.now) }
+{
+    if let Some(next) = rest.after(b',') {
+        return Some((true, next));
+    }
+    if let Some(next) = rest.after(close) {
+        return Some((false, next));
+    }
+    let front = rest.skip_space();
+    if let Some(next) = front.after(b',') {
+        return Some((true, next));
+    }
+    Some((false, front.after(close)?))
 }
 
 // The token of an object or an array.

@@ -197,6 +197,7 @@ const USUAL: usize = 16;
 // Copies the tree at a node. Lists and maps are grown in functions that aren't inlined: a scalar
 // enters no frame that holds one.
 #[cycle(grow)]
+#[inline(always)]
 #[tactic(auto, using(crate::proofs::TokenLists::value_is))]
 fn grow(node: TapeNode<'_, '_>, alloc: Global) -> Result<Value, AllocError>
     ensures { IfOk result (λ v. view v ≡ node_data node.entry) }

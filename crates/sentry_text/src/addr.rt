@@ -19,15 +19,15 @@ use std::alloc::{AllocError, Global};
 use std::fmt;
 use std::str::FromStr;
 
-/// A memory address, as frames and debug images have it.
+/// Memory address in a stack frame or debug image.
 ///
-/// It is read from `0x` or `0X` and base 16 digits, or from decimal digits, with or without a `+`
-/// before the digits, and is written as `0x` and lower case digits.
+/// Parsed from `0x` or `0X` and hex digits, or from decimal digits, with an optional `+` before the
+/// digits; written as `0x` and hex digits in lower case.
 /// <https://develop.sentry.dev/sdk/data-model/event-payloads/stacktrace/>
 #[derive(Clone, Copy, Debug, Default, PartialEq, Eq, PartialOrd, Ord, Hash)]
 pub struct Addr(pub u64);
 
-/// The value of a register, read and written as an [`Addr`] is.
+/// Register value, parsed and written as an [`Addr`].
 /// <https://develop.sentry.dev/sdk/data-model/event-payloads/stacktrace/>
 #[derive(Clone, Copy, Debug, Default, PartialEq, Eq, PartialOrd, Ord, Hash)]
 pub struct RegVal(pub u64);
@@ -45,7 +45,7 @@ fn parse_address(text: &str) -> Result<u64, ParseNumberError>
 }
 
 impl Addr {
-    /// Whether this is the null pointer.
+    /// Returns whether the address is 0.
     pub fn is_null(&self) -> bool
         ensures { IsTrue result ↔ (self.now.0 ≡ 0) }
     {
@@ -58,12 +58,12 @@ impl FromStr for Addr {
 
     ghost from_str_gives = { ReadsAs address_of (λ a. a.0) };
 
-    /// Reads an address.
+    /// Parses an address.
     ///
     /// # Errors
     ///
-    /// `ParseNumberError` where the text has no digits, or characters that are none in its base, or
-    /// its number takes more than 64 bits.
+    /// `ParseNumberError` if the text has no digits or a character that is no digit of its base, or
+    /// if the number has more than 64 bits.
     fn from_str(text: &str) -> Result<Addr, ParseNumberError> {
         Ok(Addr(parse_address(text)?))
     }
@@ -74,12 +74,12 @@ impl FromStr for RegVal {
 
     ghost from_str_gives = { ReadsAs address_of (λ a. a.0) };
 
-    /// Reads the value of a register.
+    /// Parses a register value.
     ///
     /// # Errors
     ///
-    /// `ParseNumberError` where the text has no digits, or characters that are none in its base, or
-    /// its number takes more than 64 bits.
+    /// `ParseNumberError` if the text has no digits or a character that is no digit of its base, or
+    /// if the number has more than 64 bits.
     fn from_str(text: &str) -> Result<RegVal, ParseNumberError> {
         Ok(RegVal(parse_address(text)?))
     }
@@ -211,8 +211,8 @@ impl Addr {
     }
 }
 
-/// An address is written as its text. It is read from its text, or from a whole number: a negative
-/// one stands for its 64 bits in two's complement.
+/// An address is written as a JSON string, and read from a string or a whole number; a negative
+/// number stands for its 64 bits in two's complement.
 impl Member for Addr {
     ghost kind = { address_kind };
 
@@ -261,7 +261,7 @@ impl Usual for Addr {
     }
 }
 
-/// The value of a register is written and read as an address is.
+/// A register value is written and read as an address.
 impl Member for RegVal {
     ghost kind = { address_kind };
 

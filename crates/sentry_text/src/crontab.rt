@@ -11,13 +11,15 @@ use std::alloc::{AllocError, Global};
 use std::error::Error;
 use std::fmt;
 
-/// Whether the text is a crontab schedule of five parts: minute, hour, day of the month, month and
-/// day of the week, with Unicode white space between them. It takes no memory.
+/// Returns whether the text is a crontab schedule; doesn't allocate.
 ///
-/// Numbers go from 0 to 59, 0 to 23, 1 to 31, 1 to 12 and 0 to 6. A part is one name (`jan` to `dec`
-/// for the month, `sun` to `sat` for the day of the week, in any ASCII case), or items with commas
-/// between them. An item is a number, `*`, or a range `a-b` with `a` at most `b`; after the last two
-/// a `/` and a step above 0 may follow. A number may begin with `+`.
+/// A schedule has five parts: minute, hour, day of the month, month and day of the week, with
+/// Unicode white space between them.
+///
+/// Numbers go from 0 to 59, 0 to 23, 1 to 31, 1 to 12 and 0 to 6. A part is one name (`jan` to
+/// `dec` for the month, `sun` to `sat` for the day of the week, in any ASCII case), or items with
+/// commas between them. An item is a number, `*`, or a range `a-b` with `a` at most `b`; after the
+/// last two a `/` and a step above 0 may follow. A number may begin with `+`.
 pub fn validate(crontab: &str) -> bool
     ensures { IsTrue result ↔ IsCrontab crontab.now }
 {
@@ -35,18 +37,18 @@ pub fn validate(crontab: &str) -> bool
     fields.is_empty()
 }
 
-/// A text is no crontab schedule.
+/// The error of an invalid crontab schedule.
 #[derive(Debug, Drop)]
 pub struct CrontabParseError {
     message: String,
 }
 
 impl CrontabParseError {
-    /// The error for this text, which [`validate`] refused.
+    /// Creates the error for a text that [`validate`] rejected.
     ///
     /// # Errors
     ///
-    /// `AllocError` where there is no memory for the error's own text.
+    /// `AllocError` if an allocation fails.
     pub fn new(alloc: Global, invalid_crontab: &str) -> Result<CrontabParseError, AllocError>
         ensures { IfOk result (λ e. (words : List (List ℕ)) × SplitsInto invalid_crontab.now words
             × (message_of e ≡ refusal invalid_crontab.now (join_with_byte 95 words))) }

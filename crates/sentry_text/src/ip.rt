@@ -15,18 +15,18 @@ use std::net::IpAddr;
 use std::str::FromStr;
 use thiserror::Error;
 
-/// The IP address of a user.
+/// IP address of a user: `{{auto}}`, or an IPv4 or IPv6 address.
 ///
-/// It is read from `{{auto}}` or an IPv4 or IPv6 address, and written as that. An IPv6 address is read
-/// from each text of RFC 4291, section 2.2. It is written as RFC 5952 recommends: in lower case without
-/// leading zeros, with `::` for its longest run of two or more zero groups; one that holds an IPv4
-/// address as `::ffff:` and that address.
+/// An IPv6 address is parsed from any text of RFC 4291, section 2.2, and written as RFC 5952
+/// recommends: in lower case without leading zeros, with `::` for the longest run of two or more
+/// zero groups. An IPv6 address that holds an IPv4 address is written as `::ffff:` and the IPv4
+/// address.
 #[derive(Clone, Copy, Debug, Default, PartialEq, Eq, PartialOrd, Ord, Hash)]
 pub enum IpAddress {
-    /// The address that the user's connection has.
+    /// `{{auto}}`: the address of the user's connection.
     #[default]
     Auto,
-    /// This address.
+    /// A given address.
     Exact(IpAddr),
 }
 
@@ -36,7 +36,7 @@ pub enum IpAddress {
 pub struct ParseIpError;
 
 impl IpAddress {
-    /// Whether this is that very address; `Auto` is none.
+    /// Returns whether this is `Exact(other)`; false for `Auto`.
     pub fn eq_ip(&self, other: &IpAddr) -> bool
         ensures { IsTrue result ↔ (self.now ≡ Exact other.now) }
     {
@@ -46,8 +46,7 @@ impl IpAddress {
         }
     }
 
-    /// How this address and the other one are ordered: IPv4 before IPv6, and then by their numbers.
-    /// `Auto` is not ordered.
+    /// Compares this address with `other`: IPv4 before IPv6, then by number. `None` for `Auto`.
     pub fn partial_cmp_ip(&self, other: &IpAddr) -> Option<Ordering>
         ensures auto { self.now ≡ IpAddress.Auto → result ≡ None }
         ensures exact { (ip : IpAddr) → self.now ≡ Exact ip →
@@ -75,11 +74,11 @@ impl FromStr for IpAddress {
 
     ghost from_str_gives = { Parses IsIpAddress };
 
-    /// Reads `{{auto}}` or an IP address, with nothing around it.
+    /// Parses `{{auto}}` or an IP address; any text around either is rejected.
     ///
     /// # Errors
     ///
-    /// [`ParseIpError`] where the text is neither.
+    /// [`ParseIpError`] if the text is neither.
     fn from_str(text: &str) -> Result<IpAddress, ParseIpError> {
         match text {
             "{{auto}}" => Ok(IpAddress::Auto),

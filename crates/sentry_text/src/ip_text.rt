@@ -13,10 +13,10 @@ use serde_json::Value;
 use std::alloc::{AllocError, Global};
 use std::net::IpAddr;
 
-/// The form of an IP address that is its text.
+/// The JSON form of an IP address as a string.
 ///
-/// An IPv4 address is read from four numbers without leading zeros, an IPv6 address from each text of
-/// RFC 4291, section 2.2. They are written as RFC 5952 recommends.
+/// An IPv4 address is read from four numbers without leading zeros, an IPv6 address from any text
+/// of RFC 4291, section 2.2. An IPv6 address is written as RFC 5952 recommends.
 pub struct IpText;
 
 impl Codec<IpAddr> for IpText {
@@ -79,7 +79,7 @@ fn written_ip<'a>(ip: &IpAddr, room: &'a mut Room) -> Result<&'a str, AllocError
     print_into(ip, room)
 }
 
-/// Nothing; an address has numbers in range.
+// Does nothing; its contract says that the numbers of an address are in range.
 pub(crate) fn hold_ip(ip: &IpAddr)
     ensures { IsStoredIp ip.now }
 {

@@ -1,5 +1,5 @@
-//! Laws of numbers: each text is read from what writes it and from nothing else, what is printed is read
-//! back, and each type's form as a tree has the laws of field tables.
+//! Laws of small texts: each text is read from what writes it and from nothing else, what is
+//! printed is read back, and each type's form as a tree has the laws of field tables.
 
 ghost use Rattle.std.specs.Prelude.{◌≡◌, ◌<◌, ◌^◌, ◌↔◌, true, ℕ, List, Some, decimal};
 ghost use Rattle.std.specs.Cmp.Lexicographic.{slice_cmp};
@@ -46,20 +46,20 @@ ghost use Rattle.sentry_text.specs.UrlTree.{url_cell, url_kind, UrlReadsBack};
 use crate::{Addr, LogSeverityNumber, OrganizationId, ParseProjectIdError, ProjectId, RegVal};
 use url::Url;
 
-/// Whole numbers in base 10, as ids of organizations are.
+/// Whole numbers in base 10, such as organization ids.
 pub fn numbers()
     ensures texts { (text : List ℕ) (n : ℕ) → number_of 10 text ≡ Some n ↔ IsNumber 10 text n }
     ensures read_back { (n : ℕ) → n < 2 ^ 64 → number_of 10 (decimal n) ≡ Some n }
 {}
 
-/// Ids of projects in trees; each is its own normal form.
+/// Project ids in JSON trees; each is its own normal form.
 pub fn project_trees()
     ensures laws { HasLaws project_kind }
     ensures no_null { RefusesNull project_kind }
     ensures normal { (c : Cell) → IsText c → IsNormal project_kind c }
 {}
 
-/// Ids of organizations in trees, as numbers and as texts; each is its own normal form.
+/// Organization ids in JSON trees, as numbers and as strings; each is its own normal form.
 pub fn organization_trees()
     ensures numbers { HasLaws organization_kind }
     ensures texts { HasLaws organization_text_kind }
@@ -69,7 +69,7 @@ pub fn organization_trees()
     ensures normal_text { (n : ℕ) → n < 2 ^ 64 → IsNormal organization_text_kind (natural_cell n) }
 {}
 
-/// Severities of logs; each is its own normal form.
+/// Severity numbers of logs; each is its own normal form.
 pub fn log_severity_numbers()
     ensures least { LogSeverityNumber.MIN ≡ 1 }
     ensures greatest { LogSeverityNumber.MAX ≡ 24 }
@@ -80,7 +80,7 @@ pub fn log_severity_numbers()
         (a ≡ b) }
 {}
 
-/// Two ids are equal exactly where their texts or numbers are the same.
+/// Two ids are equal exactly if their texts or numbers are equal.
 pub fn equal_ids()
     ensures projects { (a b : ProjectIds) → ⟦<ProjectId as PartialEq>⟧.eq a b ≡ true ↔
         (project_text a ≡ project_text b) }
@@ -89,25 +89,25 @@ pub fn equal_ids()
         (organization_value a ≡ organization_value b) }
 {}
 
-/// Ids of projects are ordered as their texts, by bytes.
+/// Project ids are ordered by the bytes of their texts.
 pub fn ordered_projects()
     ensures { (a b : ProjectIds) →
         ⟦<ProjectId as Ord>⟧.cmp a b ≡ slice_cmp nat_cmp (project_text a) (project_text b) }
 {}
 
-/// Two errors are equal exactly where they are the same variant.
+/// Two errors are equal exactly if they are the same variant.
 pub fn equal_errors()
     ensures { (a b : ParseProjectIdErrors) → ⟦<ParseProjectIdError as PartialEq>⟧.eq a b ≡ true ↔
         (a ≡ b) }
 {}
 
-/// Errors are ordered as their variants stand.
+/// Errors are ordered by the declaration order of their variants.
 pub fn ordered_errors()
     ensures { (a b : ParseProjectIdErrors) →
         ⟦<ParseProjectIdError as Ord>⟧.cmp a b ≡ nat_cmp (error_index a) (error_index b) }
 {}
 
-/// Each text has its words, and no others.
+/// Each UTF-8 text splits into words in exactly one way.
 #[tactic(auto, using(crate::proofs::CrontabSplits::some_words, crate::proofs::CrontabSplits::same_words))]
 pub fn words()
     ensures some { (text : List ℕ) → IsUtf8 text → (words : List (List ℕ)) × SplitsInto text words }
@@ -128,7 +128,7 @@ pub fn ips()
     ensures read_back { (ip : IpAddr) → IsStoredIp ip → ip_of (ip_text ip) ≡ Some ip }
 {}
 
-/// IP addresses of users.
+/// IP addresses of users, with `{{auto}}`.
 #[tactic(auto, using(crate::proofs::Ips::ip_address_of_iff, crate::proofs::Ips::written_ip_address))]
 pub fn ip_addresses()
     ensures texts { (text : List ℕ) (a : IpAddress) → ip_address_of text ≡ Some a ↔
@@ -137,29 +137,29 @@ pub fn ip_addresses()
         ip_address_of (ip_address_text a) ≡ Some a }
 {}
 
-/// Addresses and register values in trees; each is its own normal form.
+/// Addresses and register values in JSON trees; each is its own normal form.
 pub fn address_trees()
     ensures laws { HasLaws address_kind }
     ensures no_null { RefusesNull address_kind }
     ensures normal { (n : ℕ) → n < 2 ^ 64 → IsNormal address_kind (natural_cell n) }
 {}
 
-/// IP addresses in trees; each reads back, and is its own normal form.
+/// IP addresses in JSON trees; each reads back and is its own normal form.
 pub fn ip_trees()
     ensures laws { HasLaws ip_kind }
     ensures no_null { RefusesNull ip_kind }
     ensures normal { (c : Cell) → IsIpCell c → IsNormal ip_kind c }
 {}
 
-/// IP addresses of users in trees; each reads back, and is its own normal form.
+/// IP addresses of users in JSON trees; each reads back and is its own normal form.
 pub fn ip_address_trees()
     ensures laws { HasLaws ip_address_kind }
     ensures no_null { RefusesNull ip_address_kind }
     ensures normal { (c : Cell) → IsIpAddressCell c → IsNormal ip_address_kind c }
 {}
 
-/// Two addresses, and two values of registers, are equal exactly where their numbers are; two IP addresses
-/// of users where they are the same.
+/// Two addresses or two register values are equal exactly if their numbers are equal; two IP
+/// addresses of users exactly if they are the same.
 pub fn equal_addresses()
     ensures addresses { (a b : Addresses) → ⟦<Addr as PartialEq>⟧.eq a b ≡ true ↔ (a.0 ≡ b.0) }
     ensures registers { (a b : Registers) → ⟦<RegVal as PartialEq>⟧.eq a b ≡ true ↔ (a.0 ≡ b.0) }
@@ -167,8 +167,7 @@ pub fn equal_addresses()
         (a ≡ b) }
 {}
 
-/// An address and a value of a register are 0 by default, and the IP address of a user is that of the
-/// connection.
+/// Addresses and register values default to 0; the IP address of a user defaults to `Auto`.
 pub fn default_addresses()
     ensures addresses { (a : Addresses) → ⟦<Addr as Default>⟧.is_default a → a.0 ≡ 0 }
     ensures registers { (a : Registers) → ⟦<RegVal as Default>⟧.is_default a → a.0 ≡ 0 }
@@ -176,8 +175,8 @@ pub fn default_addresses()
         a ≡ Auto }
 {}
 
-/// Addresses, and values of registers, are ordered as their numbers are. Of the IP addresses of users
-/// `Auto` comes first, and then those that are known, as IP addresses are ordered.
+/// Addresses and register values are ordered by their numbers. Of the IP addresses of users, `Auto`
+/// comes first, then the given ones in the order of IP addresses.
 pub fn ordered_addresses()
     ensures addresses { (a b : Addresses) → ⟦<Addr as Ord>⟧.cmp a b ≡ nat_cmp a.0 b.0 }
     ensures registers { (a b : Registers) → ⟦<RegVal as Ord>⟧.cmp a b ≡ nat_cmp a.0 b.0 }
@@ -189,8 +188,7 @@ pub fn ordered_addresses()
         ⟦<std::net::IpAddr as Ord>⟧.cmp ip other }
 {}
 
-/// The URL that a text of UTF-8 is parsed as is valid, whatever its scheme, and is read back from its
-/// own text.
+/// A URL parsed from UTF-8 text is valid, whatever its scheme, and reads back from its own text.
 pub fn parsed_urls()
     ensures valid { (text : List ℕ) (url : Parts) → IsUtf8 text → parse_url None text ≡ Ok url →
         IsValid url }
@@ -198,8 +196,8 @@ pub fn parsed_urls()
         UrlReadsBack url }
 {}
 
-/// URLs in trees. Each is its own normal form, and is written as its text. Equal cells are those of
-/// equal URLs; what a tree shows is readable.
+/// URLs in JSON trees. Each is its own normal form and is written as its text. Equal cells are
+/// those of equal URLs; each URL that a tree shows is readable.
 pub fn url_trees()
     ensures laws { HasLaws url_kind }
     ensures no_null { RefusesNull url_kind }
@@ -212,8 +210,8 @@ pub fn url_trees()
         IsNormal url_kind c }
 {}
 
-/// Each valid URL of the schemes `http`, `https`, `ws`, `wss` and `ftp` is readable, and so is each
-/// valid URL that the parser could have written, whatever its scheme.
+/// Each valid URL of the schemes `http`, `https`, `ws`, `wss` and `ftp` is readable; a valid URL
+/// that the parser could have written is readable whatever its scheme.
 pub fn special_urls_are_readable()
     ensures special { (url : Parts) → IsValid url → kind_of url ≡ SpecialNotFile →
         IsReadable url_kind (url_cell url) }
@@ -221,7 +219,7 @@ pub fn special_urls_are_readable()
         IsReadable url_kind (url_cell url) }
 {}
 
-/// Two readable URLs are equal exactly where their parts are the same.
+/// Two readable URLs are equal exactly if their parts are equal.
 #[tactic(auto, using(crate::proofs::UrlTrees::urls_decide))]
 pub fn equal_urls()
     ensures { (a b : Parts) → UrlReadsBack a → UrlReadsBack b → ⟦<Url as PartialEq>⟧.eq a b ≡ true ↔

@@ -12,9 +12,9 @@ use std::alloc::{AllocError, Global};
 use std::marker::Model;
 use thiserror::Error;
 
-/// How severe a log is: a number from 1, for a trace, to 24, for the end of the program.
+/// Severity number of a log by OpenTelemetry: 1 (`TRACE`) to 24 (`FATAL4`).
 ///
-/// The numbers are those of OpenTelemetry: <https://opentelemetry.io/docs/specs/otel/logs/data-model/#field-severitynumber>.
+/// <https://opentelemetry.io/docs/specs/otel/logs/data-model/#field-severitynumber>
 #[derive(Clone, Copy, Debug, PartialEq)]
 pub struct LogSeverityNumber {
     number: u8,
@@ -30,19 +30,19 @@ impl Model for LogSeverityNumber {
     ghost inverse = { λ n. record { number = n } };
 }
 
-/// The number is not one from 1 to 24.
+/// The error of a severity number that is not from 1 to 24.
 #[derive(Debug, Drop, Error)]
 #[error("Log severity number must be between 1 and 24")]
 pub struct SeverityOutOfRange;
 
 impl LogSeverityNumber {
-    /// The least number.
+    /// Minimum: 1.
     pub const MIN: u8 = 1;
 
-    /// The greatest number.
+    /// Maximum: 24.
     pub const MAX: u8 = 24;
 
-    /// The number.
+    /// Returns the number.
     pub fn value(&self) -> u8
         ensures value { result ≡ self.now }
         ensures within { IsSeverity result }
@@ -56,11 +56,11 @@ impl TryFrom<u8> for LogSeverityNumber {
 
     ghost try_from_gives = { λ n r. OkIff r (IsSeverity n) n };
 
-    /// The severity of this number.
+    /// Creates a severity number from 1 to 24.
     ///
     /// # Errors
     ///
-    /// `SeverityOutOfRange` where the number isn't one from 1 to 24.
+    /// `SeverityOutOfRange` if the number is not from 1 to 24.
     fn try_from(number: u8) -> Result<LogSeverityNumber, SeverityOutOfRange> {
         if number < LogSeverityNumber::MIN || LogSeverityNumber::MAX < number {
             return Err(SeverityOutOfRange);

@@ -6,16 +6,16 @@ ghost use Rattle.sentry_text.specs.Number.{number_of};
 
 use thiserror::Error;
 
-/// The text is no whole number of the form that is asked for, or the number has more than 64 bits.
+/// The error of a text that is not a whole number in the expected form, or has more than 64 bits.
 #[derive(Debug, Drop, Error)]
 #[error("ParseNumberError")]
 pub struct ParseNumberError;
 
-/// The number that the text writes in this base, with or without a plus before its digits.
+/// Parses a whole number in base `base`, with an optional `+` before the digits.
 ///
 /// # Errors
 ///
-/// `ParseNumberError` where the text is no such number, or the number has more than 64 bits.
+/// `ParseNumberError` if the text is no such number or the number has more than 64 bits.
 pub fn parse_number(text: &str, base: u32) -> Result<u64, ParseNumberError>
     requires low { 2 ≤ base }
     requires high { base ≤ 16 }

@@ -20,20 +20,21 @@ use std::fmt;
 use std::str::FromStr;
 use thiserror::Error;
 
-/// The id of a project: any text, as at the end of a DSN's path:
-/// <https://develop.sentry.dev/sdk/overview/#parsing-the-dsn>.
+/// Project id: any text, such as the end of a DSN's path.
+///
+/// <https://develop.sentry.dev/sdk/overview/#parsing-the-dsn>
 #[derive(Debug, Drop, PartialEq, Eq, PartialOrd, Ord, Hash)]
 pub struct ProjectId {
     text: String,
 }
 
-/// A text was refused as a [`ProjectId`].
+/// The error of [`ProjectId::from_str`].
 #[derive(Debug, Drop, PartialEq, Eq, PartialOrd, Ord, Error)]
 pub enum ParseProjectIdError {
     /// The text is empty.
     #[error("empty or missing project id")]
     EmptyValue,
-    /// There was no memory for the text.
+    /// An allocation failed.
     #[error("out of memory")]
     Memory,
 }
@@ -47,11 +48,11 @@ impl From<AllocError> for ParseProjectIdError {
 }
 
 impl ProjectId {
-    /// The id of this text, whatever it is.
+    /// Creates a project id from any text.
     ///
     /// # Errors
     ///
-    /// `AllocError` where there is no memory for the text.
+    /// `AllocError` if an allocation fails.
     pub fn new(alloc: Global, text: &str) -> Result<ProjectId, AllocError>
         ensures { IfOk result (λ id. project_text id ≡ text.now) }
     {
@@ -60,11 +61,11 @@ impl ProjectId {
         })
     }
 
-    /// The id of a text that is not empty.
+    /// Parses a project id: any text that is not empty.
     ///
     /// # Errors
     ///
-    /// `EmptyValue` exactly where the text is empty, else `Memory` where there is none for the text.
+    /// `EmptyValue` exactly if the text is empty; `Memory` if an allocation fails.
     pub fn from_str(alloc: Global, text: &str) -> Result<ProjectId, ParseProjectIdError>
         ensures ok { IfOk result (λ id. project_text id ≡ text.now) }
         ensures empty { IsErrOf result ParseProjectIdError.EmptyValue ↔ (text.now ≡ []) }
@@ -75,18 +76,18 @@ impl ProjectId {
         Ok(ProjectId::new(alloc, text)?)
     }
 
-    /// The text of the id.
+    /// Returns the id as text.
     pub fn value(&self) -> &str
         ensures { result.now ≡ project_text self.now }
     {
         self.text.as_str()
     }
 
-    /// A copy of the id.
+    /// Clones the id.
     ///
     /// # Errors
     ///
-    /// `AllocError` where there is no memory for the text.
+    /// `AllocError` if an allocation fails.
     pub fn clone(&self) -> Result<ProjectId, AllocError>
         ensures { IfOk result (λ id. project_text id ≡ project_text self.now) }
     {
@@ -104,7 +105,7 @@ impl fmt::Display for ProjectId {
     }
 }
 
-/// In a tree the empty text is an id too.
+/// In a JSON tree, the empty string is also a project id.
 impl Formed for ProjectId {
     type Form = AsText;
 }
@@ -132,15 +133,15 @@ impl Spelled for ProjectId {
     }
 }
 
-/// The id of an organization: a number.
+/// Organization id: a number of at most 64 bits.
 ///
-/// It is read from a decimal number of at most 64 bits, with or without a `+` before it. It is the `org_id`
-/// of a trace: <https://develop.sentry.dev/sdk/telemetry/traces/dynamic-sampling-context/>.
+/// Parsed from decimal digits with an optional `+` before them. The id is the `org_id` of a trace:
+/// <https://develop.sentry.dev/sdk/telemetry/traces/dynamic-sampling-context/>.
 #[derive(Clone, Copy, Debug, PartialEq)]
 pub struct OrganizationId(u64);
 
 impl OrganizationId {
-    /// The number.
+    /// Returns the id as a number.
     pub fn value(&self) -> u64
         ensures { result ≡ organization_value self.now }
     {
@@ -161,11 +162,11 @@ impl FromStr for OrganizationId {
 
     ghost from_str_gives = { ReadsAs (number_of 10) organization_value };
 
-    /// The id of a number in base 10, with or without a `+` before it.
+    /// Parses a decimal number, with an optional `+` before the digits.
     ///
     /// # Errors
     ///
-    /// `ParseNumberError` where the text is no such number, or the number has more than 64 bits.
+    /// `ParseNumberError` if the text is no such number or the number has more than 64 bits.
     fn from_str(text: &str) -> Result<OrganizationId, ParseNumberError> {
         Ok(OrganizationId(parse_number(text, 10)?))
     }
@@ -179,7 +180,7 @@ impl fmt::Display for OrganizationId {
     }
 }
 
-/// An organization's id stands in a tree as a number.
+/// An organization id is a number in a JSON tree.
 impl Member for OrganizationId {
     ghost kind = { organization_kind };
 
@@ -213,9 +214,9 @@ impl FromTree for OrganizationId {
     }
 }
 
-/// The form of a number that stands in a tree as a text of decimal digits.
+/// The JSON form of an organization id as a string of decimal digits.
 ///
-/// A `+` before the digits is read, and not written.
+/// A `+` before the digits is accepted when the id is read, and never written.
 pub struct OrganizationText;
 
 impl OrganizationId {

@@ -13,14 +13,14 @@ use serde_json::Value;
 use std::alloc::{AllocError, Global};
 use url::{ParseError, Url};
 
-/// The form of a URL that is its text.
+/// The JSON form of a URL as a string.
 ///
-/// A URL is read from each text that the URL Standard's parser takes without a base, and written as
-/// its serialization. Each URL that was read is read back from that text as it was, and so is each
-/// URL of the schemes `http`, `https`, `ws`, `wss` and `ftp`.
+/// A URL is read from any text that the URL Standard's parser accepts without a base, and written
+/// as its serialization. Each URL that was read reads back from its serialization unchanged, and so
+/// does each URL of the schemes `http`, `https`, `ws`, `wss` and `ftp`.
 ///
-/// Reading fails with `Misfit` where the tree is no text or the text is no URL, and with `Memory` where
-/// memory is refused or the URL takes 4 GB.
+/// Reading fails with `Misfit` if the tree is not a string or the string is not a URL, and with
+/// `Memory` if an allocation fails or the URL would take 4 GB.
 pub struct UrlText;
 
 impl Codec<Url> for UrlText {

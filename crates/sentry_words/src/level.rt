@@ -9,8 +9,9 @@ use std::fmt;
 use std::str::FromStr;
 use thiserror::Error;
 
-/// Severity of an event or a breadcrumb; defaults to [`Level::Info`].
+/// Severity of an event or a breadcrumb.
 ///
+/// The default is [`Level::Info`], also of a breadcrumb; an event's `level` defaults to `error`.
 /// `info` is also read from `log`.
 ///
 /// <https://develop.sentry.dev/sdk/data-model/event-payloads/#optional-attributes>

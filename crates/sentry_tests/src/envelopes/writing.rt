@@ -7,9 +7,15 @@ use sentry_types::protocol::v7::{CountedWriter, Envelope, EnvelopeWriteError};
 use std::alloc::Global;
 use std::test::Fail;
 
-/// An envelope as it is written.
-const TEXT: &[u8] =
-    b"{\"event_id\":\"9ec79c33-ec99-42ab-8353-589fcb2e04dc\"}\n{\"length\":3,\"type\":\"replay_recording\"}\nabc\n";
+/// An envelope as it is written: an event, an attachment of no bytes, and a replay recording.
+const TEXT: &str = concat!(
+    "{\"event_id\":\"9ec79c33-ec99-42ab-8353-589fcb2e04dc\"}\n",
+    "{\"length\":61,\"type\":\"event\"}\n",
+    "{\"event_id\":\"22d00b3fd1b14b5d8d2049d138cd8a9c\",\"timestamp\":1}\n",
+    "{\"attachment_type\":\"event.attachment\",\"content_type\":\"application/octet-stream\",",
+    "\"filename\":\"\",\"length\":0,\"type\":\"attachment\"}\n\n",
+    "{\"length\":3,\"type\":\"replay_recording\"}\nabc\n"
+);
 
 /// Whether writing ends as it should, with room for the whole text or without.
 fn ends(answer: Result<(), EnvelopeWriteError>, whole: bool) -> bool {
@@ -29,8 +35,8 @@ fn is_cut(alloc: Global, envelope: &Envelope, room: usize, by_error: bool) -> bo
     ends(envelope.to_writer(alloc, &mut out), whole)
         && ends(envelope.write_counted(alloc, &mut counted), whole)
         && counted.failures() == if whole { 0 } else { 1 }
-        && out.holds(TEXT, length)
-        && counted.into_inner().holds(TEXT, length)
+        && out.holds(TEXT.as_bytes(), length)
+        && counted.into_inner().holds(TEXT.as_bytes(), length)
 }
 
 /// Whether the text is cut wherever the room ends, and isn't where there is more.
@@ -46,5 +52,5 @@ fn is_cut_anywhere(alloc: Global, envelope: &Envelope) -> bool {
 #[test]
 fn a_failed_write_ends_it(rt: HostRuntime) -> Result<(), Fail> {
     let alloc = rt.alloc();
-    wanted(holds(alloc, read(alloc, TEXT), is_cut_anywhere))
+    wanted(holds(alloc, read(alloc, TEXT.as_bytes()), is_cut_anywhere))
 }

@@ -4,7 +4,7 @@ use super::text_of;
 use crate::envelopes::read;
 use crate::wanted::wanted;
 use sentry_types::protocol::v7::{
-    Envelope, EnvelopeError, EnvelopeItem, EnvelopeWriteError, Frames, ItemKind, read_item_header,
+    Envelope, EnvelopeError, EnvelopeItem, EnvelopeWriteError, Frames, ItemKind,
 };
 use std::alloc::{AllocError, Global};
 use std::test::Fail;
@@ -92,11 +92,11 @@ fn forward_frames(alloc: Global, bytes: &[u8], out: &mut Vec<u8>) -> Result<(), 
     let mut frames = Frames::new(bytes);
     push_line(out, frames.header_line())?;
     for _ in 0..bytes.len() {
-        let Some(frame) = frames.next_frame(alloc) else {
+        let Some(item) = frames.next_item(alloc) else {
             break;
         };
-        let frame = frame?;
-        if read_item_header(alloc, frame.header)?.kind != ItemKind::Attachment {
+        let (frame, header) = item?;
+        if header.kind != ItemKind::Attachment {
             push_line(out, frame.header)?;
             push_line(out, frame.payload)?;
         }

@@ -1,8 +1,10 @@
+//! Fields of a crontab schedule.
+
 ghost use Rattle.std.specs.Prelude.{◌≡◌, ◌≢◌, ℕ, ◌<◌, ◌↔◌, ◌∷◌, ◌++◌, map, IsTrue, IfSome, MatchOption, length, slice_index, Some};
 ghost use Rattle.sentry_text.specs.Number.{IsNumber};
 ghost use Rattle.sentry_text.specs.Crontab.{AreBounds, IsWithin, IsStep, IsRange, IsSteppedRange, IsItem, AreItems, IsPart, IsOneOf, names_of, low_of, high_of};
 
-/// A field of a schedule.
+/// Field of a crontab schedule.
 #[derive(Clone, Copy)]
 pub(crate) enum Field {
     Minute,

@@ -1,6 +1,6 @@
-use Rattle.std.proofs.Common.{rules, ◌≡◌, ◌++◌, ◌∷◌, [], length, slice_set, ap, ◌∙◌, arith, append_assoc}
+use Rattle.std.proofs.Common.{rules, ◌≡◌, ◌++◌, ◌∷◌, [], length, slice_set, if◌then◌else◌, ap, ◌∙◌, arith, append_assoc}
 use Rattle.std.proofs.lemmas.Option.{IfSome_then}
-use Rattle.sentry_tape.proofs.SoFar.{bracket, empty, begins, next_key, next_value, ends, set_back, counted}
+use Rattle.sentry_tape.proofs.SoFar.{bracket, empty, begins, next_key, next_value, ends, set_back, counted, skipped, value_before, string_before}
 use Rattle.sentry_tape.proofs.WordsAndTexts.{string_spelled, text_spelled}
 use Rattle.sentry_tape.proofs.tape.+take.Goals as goal
 
@@ -10,38 +10,56 @@ take_inside-returns-in-Some-clause-spelled t c =
     let close = c.in-Some.ensures ∙ ap (λ b. b ∷ c.in-Some.rest.text.now) c.closing-close.ensures in
     (bracket c.args.object 0, [], pushed, empty c.args.object c.args.text.text.now c.in-Some.rest.text.now c.args.depth close (omega (arith, c.in_ok-depth.ensures)))
 
-pub take_inside-loop-rest-init : goal.take_inside-loop-rest-init
-take_inside-loop-rest-init t c =
+pub take_inside-loop-next-init : goal.take_inside-loop-next-init
+take_inside-loop-next-init t c =
     let pushed : c.push.new.self.items ≡ c.args.tokens.now.items ++ bracket c.args.object 0 ∷ [] = search rules in
     ([], pushed, begins c.args.object c.args.text.text.now c.in_ok-depth.depth, omega arith)
 
-pub take_inside-loop-rest-preserved-then-key : goal.take_inside-loop-rest-preserved-then-key
-take_inside-loop-rest-preserved-then-key t c =
-    let l = c.loop-rest in
+pub take_inside-loop-next-preserved-in-Some-after_space : goal.take_inside-loop-next-preserved-in-Some-after_space
+take_inside-loop-next-preserved-in-Some-after_space t c =
+    let l = c.loop-next in
     let i = l.invariant in
+    let space = c.in-Some-after_space in
+    let next = space.next.text.now in
+    let front = c.skip_space-left.result.text.now in (
+      i.0,
+      i.1,
+      skipped c.args.object l.key c.args.text.text.now next front i.0 c.in_ok-depth.depth c.skip_space-left.ensures.spaced (skipped c.args.object l.key c.args.text.text.now l.left.text.now next i.0 c.in_ok-depth.depth space.ensures.spaced i.2),
+      omega (arith, i.3, space.ensures.shorter, c.skip_space-left.ensures.within),
+    )
+
+pub take_inside-loop-next-preserved-then-key : goal.take_inside-loop-next-preserved-then-key
+take_inside-loop-next-preserved-then-key t c =
+    let l = c.loop-next in
+    let i = l.invariant in
+    let colon = c.in_ok-left.ensures.follows in
     let k = c.in_ok-rest.ensures.string c.if-key.true in (
       i.0 ++ k.0 ∷ [],
       k.1 ∙ ap (λ ts. ts ++ k.0 ∷ []) i.1 ∙ append_assoc c.args.tokens.now.items (bracket c.args.object 0 ∷ i.0) (k.0 ∷ []),
-      next_key c.args.object l.key c.args.text.text.now l.left.text.now c.in_ok-rest.rest.text.now c.in_ok-left.left.text.now i.0 k.0 c.in_ok-depth.depth c.if-key.true i.2 k.2 c.in_ok-left.ensures,
-      omega (arith, i.3, c.in_ok-rest.ensures.shorter, ap length c.in_ok-left.ensures),
+      next_key c.args.object l.key c.args.text.text.now l.left.text.now colon.0 c.in_ok-left.left.text.now i.0 k.0 c.in_ok-depth.depth c.if-key.true i.2 (string_before l.left.text.now c.in_ok-rest.rest.text.now colon.0 k.0 k.2 colon.1) colon.2,
+      omega (arith, i.3, c.in_ok-rest.ensures.shorter, c.in_ok-left.ensures.shorter),
     )
 
-pub take_inside-loop-rest-preserved : goal.take_inside-loop-rest-preserved
-take_inside-loop-rest-preserved t c =
-    let l = c.loop-rest in
-    let i = l.invariant in
-    let v = c.in_ok-rest.ensures.spelled in (
-      i.0 ++ (v.0 ∷ v.1),
-      v.2 ∙ ap (λ ts. ts ++ (v.0 ∷ v.1)) i.1 ∙ append_assoc c.args.tokens.now.items (bracket c.args.object 0 ∷ i.0) (v.0 ∷ v.1),
-      next_value c.args.object l.key c.args.text.text.now l.left.text.now c.in_ok-rest.rest.text.now c.in-Some-after.next.text.now i.0 v.0 v.1 c.in_ok-depth.depth c.if-key.false i.2 v.3 c.in-Some-after.ensures,
-      omega (arith, i.3, c.in_ok-rest.ensures.shorter, ap length c.in-Some-after.ensures),
-    )
-
-pub take_inside-returns-in-loop-rest-clause-spelled : goal.take_inside-returns-in-loop-rest-clause-spelled
-take_inside-returns-in-loop-rest-clause-spelled t c =
-    let l = c.loop-rest in
+pub take_inside-loop-next-preserved : goal.take_inside-loop-next-preserved
+take_inside-loop-next-preserved t c =
+    let l = c.loop-next in
     let i = l.invariant in
     let v = c.in_ok-rest.ensures.spelled in
+    let next = c.in_ok-comma.next.text.now in
+    let comma = c.in_ok-comma.ensures.follows in (
+      i.0 ++ (v.0 ∷ v.1),
+      v.2 ∙ ap (λ ts. ts ++ (v.0 ∷ v.1)) i.1 ∙ append_assoc c.args.tokens.now.items (bracket c.args.object 0 ∷ i.0) (v.0 ∷ v.1),
+      next_value c.args.object l.key c.args.text.text.now l.left.text.now comma.0 next i.0 v.0 v.1 c.in_ok-depth.depth c.if-key.false i.2 (value_before l.left.text.now c.in_ok-rest.rest.text.now comma.0 v.0 v.1 c.in_ok-depth.depth v.3 comma.1) (comma.2 ∙ ap (λ is. (if is then 44 else c.closing-close.result) ∷ next) c.if-comma.true),
+      omega (arith, i.3, c.in_ok-rest.ensures.shorter, c.in_ok-comma.ensures.shorter),
+    )
+
+pub take_inside-returns-in-loop-next-clause-spelled : goal.take_inside-returns-in-loop-next-clause-spelled
+take_inside-returns-in-loop-next-clause-spelled t c =
+    let l = c.loop-next in
+    let i = l.invariant in
+    let v = c.in_ok-rest.ensures.spelled in
+    let next = c.in_ok-comma.next.text.now in
+    let end = c.in_ok-comma.ensures.follows in
     let old = c.args.tokens.now.items in
     let all = c.take_value.new.tokens.items in
     let done = i.0 ++ (v.0 ∷ v.1) in
@@ -49,12 +67,12 @@ take_inside-returns-in-loop-rest-clause-spelled t c =
     let are : all ≡ old ++ open_bracket ∷ done = v.2 ∙ ap (λ ts. ts ++ (v.0 ∷ v.1)) i.1 ∙ append_assoc old (open_bracket ∷ i.0) (v.0 ∷ v.1) in
     let place : c.len-place.result ≡ length old = search rules in
     let long : c.len.result ≡ length all = search rules in
-    let told = c.bracket-in-loop-rest.ensures ∙ ap (bracket c.args.object) (counted all old done c.len.result c.len-place.result open_bracket are long place) in
-    let close = c.in_ok-rest-2.ensures ∙ ap (λ b. b ∷ c.in_ok-rest-2.rest.text.now) c.closing-close.ensures in (
+    let told = c.bracket-in-loop-next.ensures ∙ ap (bracket c.args.object) (counted all old done c.len.result c.len-place.result open_bracket are long place) in
+    let close = end.2 ∙ ap (λ is. (if is then 44 else c.closing-close.result) ∷ next) c.if-comma.false ∙ ap (λ b. b ∷ next) c.closing-close.ensures in (
       bracket c.args.object (length done),
       done,
       ap (slice_set all c.len-place.result) told ∙ set_back all old done c.len-place.result open_bracket (bracket c.args.object (length done)) are place,
-      ends c.args.object l.key c.args.text.text.now l.left.text.now c.in_ok-rest.rest.text.now c.in_ok-rest-2.rest.text.now i.0 v.0 v.1 c.in_ok-depth.depth c.args.depth c.if-key.false i.2 v.3 close (omega (arith, c.in_ok-depth.ensures)),
+      ends c.args.object l.key c.args.text.text.now l.left.text.now end.0 next i.0 v.0 v.1 c.in_ok-depth.depth c.args.depth c.if-key.false i.2 (value_before l.left.text.now c.in_ok-rest.rest.text.now end.0 v.0 v.1 c.in_ok-depth.depth v.3 end.1) close (omega (arith, c.in_ok-depth.ensures)),
     )
 
 pub take_value-returns-in_ok-after-in-34-clause-spelled : goal.take_value-returns-in_ok-after-in-34-clause-spelled
