@@ -41,15 +41,15 @@ impl<'a> Tape<'a> {
     }
 
     /// Reads a line, in place of the one before, and returns its root node. Its numbers are integers
-    /// of at most 19 digits; `None` if it isn't such a line, or if an allocation fails.
+    /// of at most 19 digits, and no white space stands between brackets that hold nothing; `None` if
+    /// it isn't such a line, or if an allocation fails.
     pub fn parse(&mut self, line: &'a [u8]) -> Option<TapeNode<'_, 'a>>
         ensures { IfSome result (λ root. tree_of line.now ≡ Some (node_data root)) }
     {
         self.tokens.clear();
         let text = Rest::new(line)?;
         self.tokens.reserve((line.len() / BYTES).max(LEAST)).ok()?;
-        let front = text.skip_space();
-        let rest = take_value(self.alloc, front, false, DEEPEST, &mut self.tokens)?;
+        let rest = take_value(self.alloc, text, false, DEEPEST, &mut self.tokens)?;
         let end = rest.skip_space();
         if !end.text.is_empty() {
             return None;
@@ -99,7 +99,8 @@ fn take_scalar<'a>(text: Rest<'a>, tokens: &mut Vec<Token<'a>>) -> Option<Rest<'
     Some(rest)
 }
 
-// Appends the tokens of the value at the front, and returns what follows it; a key is a string.
+// Appends the tokens of the value at the front, which white space may stand before, and returns what
+// follows it; a key is a string.
 #[cycle(take)]
 #[inline(always)]
 fn take_value<'a>(
@@ -119,11 +120,34 @@ fn take_value<'a>(
 {
     match text.bytes().first()? {
         b'"' => take_string(alloc, text.after(b'"')?, tokens),
+        b' ' | b'\n' | b'\r' | b'\t' => take_spaced(alloc, text, key, depth, tokens),
         _ if key => None,
         b'{' => take_inside(alloc, text.after(b'{')?, true, depth, tokens),
         b'[' => take_inside(alloc, text.after(b'[')?, false, depth, tokens),
         _ => take_scalar(text, tokens),
     }
+}
+
+// The same of a value behind white space. Not inlined: clients write few lines with white space.
+#[cycle(take)]
+#[inline(never)]
+fn take_spaced<'a>(
+    alloc: Global,
+    text: Rest<'a>,
+    key: bool,
+    depth: u8,
+    tokens: &mut Vec<Token<'a>>,
+) -> Option<Rest<'a>>
+    ensures spelled { IfSome result (λ rest. (first : Token) × (inside : List Token)
+        × (tokens.new.items ≡ tokens.old.items ++ first ∷ inside)
+        × Spells text.entry.text.now rest.text.now first inside depth) }
+    ensures string { IfSome result (λ rest. key ≡ true → (name : Token)
+        × (tokens.new.items ≡ tokens.old.items ++ name ∷ [])
+        × SpellsString text.entry.text.now rest.text.now name) }
+    ensures shorter { IfSome result (λ rest. length rest.text.now < length text.entry.text.now) }
+{
+    let front = text.after_space()?.skip_spaces();
+    take_value(alloc, front, key, depth, tokens)
 }
 
 // The same of an object or an array, behind its opening bracket. A key and its value are one turn
@@ -153,10 +177,6 @@ fn take_inside<'a>(
     let mut left = text;
     let mut key = object;
     loop {
-        if let Some(next) = left.after_space() {
-            left = next.skip_space();
-            continue;
-        }
         let rest = take_value(alloc, left, key, depth, tokens)?;
         if key {
             left = rest.after_spaced(b':')?;
