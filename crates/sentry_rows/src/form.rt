@@ -58,7 +58,11 @@ impl<T: ReadTable + CopyTable> ReadCodec<T> for AsTable {
     fn from_node<N: Node>(alloc: Global, node: &N) -> Result<T, TreeError> {
         let mut from = Reader::new(alloc, node)?;
         let value = T::read(&mut from);
-        from.end(value)
+        // As `from.end(value)`, but a large value is moved once less.
+        match from.failed {
+            None => Ok(value),
+            Some(error) => Err(error),
+        }
     }
 }
 
@@ -72,7 +76,11 @@ impl<T: ReadTableAt + CopyTable> ReadCodecAt<T> for AsTable {
     ) -> Result<T, TreeError> {
         let mut from = Reader::new(alloc, node)?;
         let value = T::read(&mut from, now, ids);
-        from.end(value)
+        // As above.
+        match from.failed {
+            None => Ok(value),
+            Some(error) => Err(error),
+        }
     }
 }
 
@@ -112,6 +120,10 @@ impl<T: ReadKept + CopyKept> ReadCodec<T> for AsKept {
     fn from_node<N: Node>(alloc: Global, node: &N) -> Result<T, TreeError> {
         let mut from = Reader::new(alloc, node)?;
         let value = T::read(&mut from);
-        from.end(value)
+        // As above.
+        match from.failed {
+            None => Ok(value),
+            Some(error) => Err(error),
+        }
     }
 }
