@@ -1,5 +1,5 @@
 -- The items of an array and the members of an object, one after the other: whatever the rest has, the whole has those so far and then these.
-use Rattle.std.proofs.Common.{◌≡◌, ◌≤◌, ◌<◌, ◌-◌, ℕ, List, [], ◌∷◌, ◌++◌, length, slice_set, if◌then◌else◌, true, false, true≢false, Bool, Some, option_map, option_and_then, refl, sym, ap, ap₂, ◌∙◌, arith, append_assoc, append-nil, length-append, drop, take_at}
+use Rattle.std.proofs.Common.{◌≡◌, ◌≤◌, ◌<◌, ◌-◌, ℕ, List, [], ◌∷◌, ◌++◌, length, slice_set, if◌then◌else◌, true, false, true≢false, Bool, subst, Some, option_map, option_and_then, refl, sym, ap, ap₂, ◌∙◌, arith, append_assoc, append-nil, length-append, drop, take_at}
 use Rattle.std.proofs.lemmas.List.{drop_at}
 use Rattle.json.specs.Token as json_token
 use Rattle.json.specs.Json.{Json, array, object, Items, no_items, item, Members, no_members, member}
@@ -188,6 +188,13 @@ within text rest first inside most s = record { json = s.json; lexed = s.lexed; 
 
 -- ---- white space before what was read, and behind it
 
+pub skipped : (of due : Bool) (text left next : List ℕ) (done : List Token) (most : ℕ) → IsSpaced left next → Before of due text left done most → Before of due text next done most
+skipped false false text left next done most space so = subst (λ l. ItemsSoFar text (comma ∷ l) done most) space.lexed so
+skipped false true text left next done most space so = absurd so
+skipped true false text left next done most space k =
+    record { ahead = k.ahead; done = k.done; so = k.so; name = k.name; lexed = k.lexed ∙ ap (λ l. token (json_token.string k.name) ∷ colon ∷ l) space.lexed; key = k.key; named = k.named; tokens = k.tokens }
+skipped true true text left next done most space so = subst (λ l. MembersSoFar text (comma ∷ l) done most) space.lexed so
+
 pub value_behind : (text front rest : List ℕ) (first : Token) (inside : List Token) (most : ℕ) → IsSpaced text front → Spells front rest first inside most → Spells text rest first inside most
 value_behind text front rest first inside most space s = record { json = s.json; lexed = λ ended. space.lexed ∙ s.lexed ended; meant = s.meant; closed = s.closed; shallow = s.shallow }
 
@@ -197,6 +204,3 @@ value_before text rest front first inside most s space =
 
 pub string_before : (text rest front : List ℕ) (first : Token) → SpellsString text rest first → IsSpaced rest front → SpellsString text front first
 string_before text rest front first s space = record { name = s.name; named = s.named; lexed = s.lexed ∙ ap (λ l. token (json_token.string s.name) ∷ l) space.lexed }
-
-pub string_behind : (text front rest : List ℕ) (first : Token) → IsSpaced text front → SpellsString front rest first → SpellsString text rest first
-string_behind text front rest first space s = record { name = s.name; named = s.named; lexed = space.lexed ∙ s.lexed }

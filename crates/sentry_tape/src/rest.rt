@@ -60,9 +60,9 @@ impl<'a> Rest<'a> {
         }
     }
 
-    /// The same. Not inlined: clients write few lines with white space.
+    // The same. Not inlined: clients write few lines with white space.
     #[inline(never)]
-    pub fn skip_spaces(&self) -> Rest<'a>
+    fn skip_spaces(&self) -> Rest<'a>
         ensures spaced { IsSpaced self.now.text.now result.text.now }
         ensures within { length result.text.now ≤ length self.now.text.now }
     {

@@ -49,7 +49,8 @@ impl<'a> Tape<'a> {
         self.tokens.clear();
         let text = Rest::new(line)?;
         self.tokens.reserve((line.len() / BYTES).max(LEAST)).ok()?;
-        let rest = take_value(self.alloc, text, false, DEEPEST, &mut self.tokens)?;
+        let front = text.skip_space();
+        let rest = take_value(self.alloc, front, false, DEEPEST, &mut self.tokens)?;
         let end = rest.skip_space();
         if !end.text.is_empty() {
             return None;
@@ -99,8 +100,7 @@ fn take_scalar<'a>(text: Rest<'a>, tokens: &mut Vec<Token<'a>>) -> Option<Rest<'
     Some(rest)
 }
 
-// Appends the tokens of the value at the front, which white space may stand before, and returns what
-// follows it; a key is a string.
+// Appends the tokens of the value at the front, and returns what follows it; a key is a string.
 #[cycle(take)]
 #[inline(always)]
 fn take_value<'a>(
@@ -120,34 +120,11 @@ fn take_value<'a>(
 {
     match text.bytes().first()? {
         b'"' => take_string(alloc, text.after(b'"')?, tokens),
-        b' ' | b'\n' | b'\r' | b'\t' => take_spaced(alloc, text, key, depth, tokens),
         _ if key => None,
         b'{' => take_inside(alloc, text.after(b'{')?, true, depth, tokens),
         b'[' => take_inside(alloc, text.after(b'[')?, false, depth, tokens),
         _ => take_scalar(text, tokens),
     }
-}
-
-// The same of a value behind white space. Not inlined: clients write few lines with white space.
-#[cycle(take)]
-#[inline(never)]
-fn take_spaced<'a>(
-    alloc: Global,
-    text: Rest<'a>,
-    key: bool,
-    depth: u8,
-    tokens: &mut Vec<Token<'a>>,
-) -> Option<Rest<'a>>
-    ensures spelled { IfSome result (λ rest. (first : Token) × (inside : List Token)
-        × (tokens.new.items ≡ tokens.old.items ++ first ∷ inside)
-        × Spells text.entry.text.now rest.text.now first inside depth) }
-    ensures string { IfSome result (λ rest. key ≡ true → (name : Token)
-        × (tokens.new.items ≡ tokens.old.items ++ name ∷ [])
-        × SpellsString text.entry.text.now rest.text.now name) }
-    ensures shorter { IfSome result (λ rest. length rest.text.now < length text.entry.text.now) }
-{
-    let front = text.after_space()?.skip_spaces();
-    take_value(alloc, front, key, depth, tokens)
 }
 
 // The same of an object or an array, behind its opening bracket. A key and its value are one turn
@@ -177,6 +154,10 @@ fn take_inside<'a>(
     let mut left = text;
     let mut key = object;
     loop {
+        if let Some(next) = left.after_space() {
+            left = next.skip_space();
+            continue;
+        }
         let rest = take_value(alloc, left, key, depth, tokens)?;
         if key {
             left = rest.after_spaced(b':')?;

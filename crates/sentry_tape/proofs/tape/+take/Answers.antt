@@ -1,7 +1,6 @@
 use Rattle.std.proofs.Common.{rules, ◌≡◌, ◌++◌, ◌∷◌, [], length, slice_set, if◌then◌else◌, ap, ◌∙◌, arith, append_assoc}
 use Rattle.std.proofs.lemmas.Option.{IfSome_then}
-use Rattle.sentry_tape.proofs.Spaces.{spaced_more}
-use Rattle.sentry_tape.proofs.SoFar.{bracket, empty, begins, next_key, next_value, ends, set_back, counted, value_before, value_behind, string_before, string_behind}
+use Rattle.sentry_tape.proofs.SoFar.{bracket, empty, begins, next_key, next_value, ends, set_back, counted, skipped, value_before, string_before}
 use Rattle.sentry_tape.proofs.WordsAndTexts.{string_spelled, text_spelled}
 use Rattle.sentry_tape.proofs.tape.+take.Goals as goal
 
@@ -11,14 +10,27 @@ take_inside-returns-in-Some-clause-spelled t c =
     let close = c.in-Some.ensures ∙ ap (λ b. b ∷ c.in-Some.rest.text.now) c.closing-close.ensures in
     (bracket c.args.object 0, [], pushed, empty c.args.object c.args.text.text.now c.in-Some.rest.text.now c.args.depth close (omega (arith, c.in_ok-depth.ensures)))
 
-pub take_inside-loop-rest-init : goal.take_inside-loop-rest-init
-take_inside-loop-rest-init t c =
+pub take_inside-loop-next-init : goal.take_inside-loop-next-init
+take_inside-loop-next-init t c =
     let pushed : c.push.new.self.items ≡ c.args.tokens.now.items ++ bracket c.args.object 0 ∷ [] = search rules in
     ([], pushed, begins c.args.object c.args.text.text.now c.in_ok-depth.depth, omega arith)
 
-pub take_inside-loop-rest-preserved-then-key : goal.take_inside-loop-rest-preserved-then-key
-take_inside-loop-rest-preserved-then-key t c =
-    let l = c.loop-rest in
+pub take_inside-loop-next-preserved-in-Some-after_space : goal.take_inside-loop-next-preserved-in-Some-after_space
+take_inside-loop-next-preserved-in-Some-after_space t c =
+    let l = c.loop-next in
+    let i = l.invariant in
+    let space = c.in-Some-after_space in
+    let next = space.next.text.now in
+    let front = c.skip_space-left.result.text.now in (
+      i.0,
+      i.1,
+      skipped c.args.object l.key c.args.text.text.now next front i.0 c.in_ok-depth.depth c.skip_space-left.ensures.spaced (skipped c.args.object l.key c.args.text.text.now l.left.text.now next i.0 c.in_ok-depth.depth space.ensures.spaced i.2),
+      omega (arith, i.3, space.ensures.shorter, c.skip_space-left.ensures.within),
+    )
+
+pub take_inside-loop-next-preserved-then-key : goal.take_inside-loop-next-preserved-then-key
+take_inside-loop-next-preserved-then-key t c =
+    let l = c.loop-next in
     let i = l.invariant in
     let colon = c.in_ok-left.ensures.follows in
     let k = c.in_ok-rest.ensures.string c.if-key.true in (
@@ -28,9 +40,9 @@ take_inside-loop-rest-preserved-then-key t c =
       omega (arith, i.3, c.in_ok-rest.ensures.shorter, c.in_ok-left.ensures.shorter),
     )
 
-pub take_inside-loop-rest-preserved : goal.take_inside-loop-rest-preserved
-take_inside-loop-rest-preserved t c =
-    let l = c.loop-rest in
+pub take_inside-loop-next-preserved : goal.take_inside-loop-next-preserved
+take_inside-loop-next-preserved t c =
+    let l = c.loop-next in
     let i = l.invariant in
     let v = c.in_ok-rest.ensures.spelled in
     let next = c.in_ok-comma.next.text.now in
@@ -41,9 +53,9 @@ take_inside-loop-rest-preserved t c =
       omega (arith, i.3, c.in_ok-rest.ensures.shorter, c.in_ok-comma.ensures.shorter),
     )
 
-pub take_inside-returns-in-loop-rest-clause-spelled : goal.take_inside-returns-in-loop-rest-clause-spelled
-take_inside-returns-in-loop-rest-clause-spelled t c =
-    let l = c.loop-rest in
+pub take_inside-returns-in-loop-next-clause-spelled : goal.take_inside-returns-in-loop-next-clause-spelled
+take_inside-returns-in-loop-next-clause-spelled t c =
+    let l = c.loop-next in
     let i = l.invariant in
     let v = c.in_ok-rest.ensures.spelled in
     let next = c.in_ok-comma.next.text.now in
@@ -55,7 +67,7 @@ take_inside-returns-in-loop-rest-clause-spelled t c =
     let are : all ≡ old ++ open_bracket ∷ done = v.2 ∙ ap (λ ts. ts ++ (v.0 ∷ v.1)) i.1 ∙ append_assoc old (open_bracket ∷ i.0) (v.0 ∷ v.1) in
     let place : c.len-place.result ≡ length old = search rules in
     let long : c.len.result ≡ length all = search rules in
-    let told = c.bracket-in-loop-rest.ensures ∙ ap (bracket c.args.object) (counted all old done c.len.result c.len-place.result open_bracket are long place) in
+    let told = c.bracket-in-loop-next.ensures ∙ ap (bracket c.args.object) (counted all old done c.len.result c.len-place.result open_bracket are long place) in
     let close = end.2 ∙ ap (λ is. (if is then 44 else c.closing-close.result) ∷ next) c.if-comma.false ∙ ap (λ b. b ∷ next) c.closing-close.ensures in (
       bracket c.args.object (length done),
       done,
@@ -78,19 +90,3 @@ pub take_value-returns-in_ok-after-in-34-clause-string : goal.take_value-returns
 take_value-returns-in_ok-after-in-34-clause-string t c =
     let inside = c.in_ok-after-in-34 in
     IfSome_then c.take_string.result c.take_string.ensures.spelled (λ rest q due. (q.0, q.3, string_spelled c.args.text.text.now inside.field-0.text.now rest.text.now q.1 q.0 inside.ensures q.2 q.4))
-
-pub take_spaced-returns-clause-spelled : goal.take_spaced-returns-clause-spelled
-take_spaced-returns-clause-spelled t c =
-    let text = c.args.text.text.now in
-    let first = c.in_ok-after_space in
-    let front = c.skip_spaces-front in
-    let space = spaced_more text first.field-0.text.now front.result.text.now first.ensures.spaced front.ensures.spaced in
-    IfSome_then c.take_value.result c.take_value.ensures.spelled (λ rest q. (q.0, q.1, q.2, value_behind text front.result.text.now rest.text.now q.0 q.1 c.args.depth space q.3))
-
-pub take_spaced-returns-clause-string : goal.take_spaced-returns-clause-string
-take_spaced-returns-clause-string t c =
-    let text = c.args.text.text.now in
-    let first = c.in_ok-after_space in
-    let front = c.skip_spaces-front in
-    let space = spaced_more text first.field-0.text.now front.result.text.now first.ensures.spaced front.ensures.spaced in
-    IfSome_then c.take_value.result c.take_value.ensures.string (λ rest q due. ((q due).0, (q due).1, string_behind text front.result.text.now rest.text.now (q due).0 space (q due).2))
