@@ -58,11 +58,7 @@ impl<T: ReadTable + CopyTable> ReadCodec<T> for AsTable {
     fn from_node<N: Node>(alloc: Global, node: &N) -> Result<T, TreeError> {
         let mut from = Reader::new(alloc, node)?;
         let value = T::read(&mut from);
-        // As `from.end(value)`, but a large value is moved once less.
-        match from.failed {
-            None => Ok(value),
-            Some(error) => Err(error),
-        }
+        from.end(value)
     }
 }
 
@@ -76,7 +72,7 @@ impl<T: ReadTableAt + CopyTable> ReadCodecAt<T> for AsTable {
     ) -> Result<T, TreeError> {
         let mut from = Reader::new(alloc, node)?;
         let value = T::read(&mut from, now, ids);
-        // As above.
+        // As `from.end(value)`, which would move an event once more.
         match from.failed {
             None => Ok(value),
             Some(error) => Err(error),
@@ -120,10 +116,6 @@ impl<T: ReadKept + CopyKept> ReadCodec<T> for AsKept {
     fn from_node<N: Node>(alloc: Global, node: &N) -> Result<T, TreeError> {
         let mut from = Reader::new(alloc, node)?;
         let value = T::read(&mut from);
-        // As above.
-        match from.failed {
-            None => Ok(value),
-            Some(error) => Err(error),
-        }
+        from.end(value)
     }
 }
