@@ -3,6 +3,7 @@
 ghost use Rattle.std.specs.Prelude.{◌≡◌, ◌^◌, ◌<◌, ◌↔◌, IsTrue, replicate};
 ghost use Rattle.sentry_c.specs.Kinds.{is_listed, kind_bit};
 
+use crate::frames::number_of;
 use crate::losses::{SUMS, add_item};
 use sentry_types::protocol::v7::{EnvelopeFilter, EnvelopeItem, ItemKind};
 
@@ -20,19 +21,7 @@ pub fn are_kinds(kinds: u32) -> bool
 fn bit(kind: ItemKind) -> u32
     ensures { result ≡ kind_bit kind }
 {
-    match kind {
-        ItemKind::Event => 1,
-        ItemKind::SessionUpdate => 2,
-        ItemKind::SessionAggregates => 4,
-        ItemKind::Transaction => 8,
-        ItemKind::Attachment => 16,
-        ItemKind::MonitorCheckIn => 32,
-        ItemKind::UserReport => 64,
-        ItemKind::ReplayRecording => 128,
-        ItemKind::Logs => 256,
-        ItemKind::Metrics => 512,
-        ItemKind::ClientReport => 1024,
-    }
+    1 << number_of(kind)
 }
 
 fn is_listed(kinds: u32, item: &EnvelopeItem) -> bool

@@ -1,7 +1,7 @@
 //! The items of an envelope, as places in its bytes.
 
-ghost use Rattle.std.specs.Prelude.{◌≡◌, ◌≢◌, ◌⊎◌, ◌+◌, ◌≤◌, ◌++◌, ◌∷◌, [], ℕ, List, IfNone, IfSome, false, length, min};
-ghost use Rattle.sentry_framing.specs.Framing.{IsBlank, IsFault, IsFirstFrame, is_space};
+ghost use Rattle.std.specs.Prelude.{◌≡◌, ◌≢◌, ◌⊎◌, ◌+◌, ◌<◌, ◌≤◌, [], ℕ, List, IfNone, IfSome, length, min};
+ghost use Rattle.sentry_framing.specs.Framing.{IsFault, IsFirstFrame};
 ghost use Rattle.sentry_framing.specs.ItemHeader.{stated_length};
 ghost use Rattle.sentry_framing.specs.ItemWords.{item_words, kind_place};
 ghost use Rattle.sentry_framing.specs.View.{frame_of};
@@ -32,8 +32,10 @@ pub struct SentryFrame {
     pub kind: u32,
 }
 
-fn number_of(kind: ItemKind) -> u32
-    ensures { result ≡ kind_place kind }
+// Returns the number of an item type: its place in `ItemKind::ALL`.
+pub(crate) fn number_of(kind: ItemKind) -> u32
+    ensures place { result ≡ kind_place kind }
+    ensures few { result < 32 }
 {
     match kind {
         ItemKind::Event => 0,

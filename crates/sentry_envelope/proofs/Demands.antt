@@ -1,5 +1,5 @@
 -- An envelope meets a demand where its header and its items do.
-use Rattle.std.proofs.Common.{◌≡◌, ◌↔◌, ◌<◌, ◌^◌, ℕ, [], ◌∷◌, length, arith, Bool, true, false, sym, subst, ◌∙◌, IsTrue}
+use Rattle.std.proofs.Common.{◌≡◌, ◌↔◌, ◌<◌, ◌^◌, ℕ, List, [], ◌∷◌, length, Bool, true, false, sym, subst, ◌∙◌, IsTrue}
 use Rattle.std.proofs.lemmas.Bool.{false≢true}
 use Rattle.std.specs.Prelude.{map, Vec, Option, Some, None, IsSomeAnd, IfSome}
 use Rattle.std.specs.declared.alloc.Global.{Global}
@@ -80,7 +80,5 @@ sized_held : (h : Cell) (x : Held) → length (text_by h x) < 2 ^ 64 → IfSome 
 sized_held h (items is) in_memory stored = short profile (record { header = h; items = is }) stored in_memory
 sized_held h (bytes b) in_memory stored = tt
 
-pub sized_where_written : (e : Envelope) (text : Vec ℕ Global) → text.items ≡ text_of e → IfSome (structured e) (IsEnvelopeStored profile) → IfSome (structured e) (IsEnvelopeSized profile)
-sized_where_written e text is stored =
-    let in_memory : length text.items < 2 ^ 64 = omega (arith, text.ok.0, text.ok.1, text.small) in
-    sized_held (header_of e) (held e) (subst (λ t. length t < 2 ^ 64) is in_memory) stored
+pub sized_where_written : (e : Envelope) (text : List ℕ) → text ≡ text_of e → length text < 2 ^ 64 → IfSome (structured e) (IsEnvelopeStored profile) → IfSome (structured e) (IsEnvelopeSized profile)
+sized_where_written e text is in_memory stored = sized_held (header_of e) (held e) (subst (λ t. length t < 2 ^ 64) is in_memory) stored

@@ -81,12 +81,12 @@ module _ (frame : Frame) (h : ItemHeader) (read : read_header item_words frame.h
         subst (λ v. ItemShows profile now frame (placed v)) (sym same) (shows_by k K is json c shown)
 
     pub value_added_at : {T : Type 0} (cell : T → Cell) (old new : List EnvelopeItem) (r : Result ⊤ EnvelopeError) → OnOk r (IsValueAdded (λ v. TextShownAt now K frame.payload (cell v)) (λ v. IsItemOf k (cell v)) old new) → OnOk r (IsAdded now frame old new)
-    value_added_at cell old new (Ok x) (v, i, shown, same, more) = item_added now frame old new i more (value_read_at (cell v) i shown same)
+    value_added_at cell old new (Ok x) (v, shown, (i, same, more)) = item_added now frame old new i more (value_read_at (cell v) i shown same)
     value_added_at cell old new (Err e) none = tt
 
     pub value_added : {T : Type 0} (cell : T → Cell) (old new : List EnvelopeItem) (r : Result ⊤ EnvelopeError) → OnOk r (IsValueAdded (λ v. TextShown K frame.payload (cell v)) (λ v. IsItemOf k (cell v)) old new) → OnOk r (IsAdded now frame old new)
     unfolding TextShown TextShownAt
-    value_added cell old new (Ok x) (v, i, shown, same, more) = value_added_at cell old new (Ok x) (v, i, shown now, same, more)
+    value_added cell old new (Ok x) (v, shown, added) = value_added_at cell old new (Ok x) (v, shown now, added)
     value_added cell old new (Err e) none = tt
 
     abbrev IsRefusal : EnvelopeError → Type 0 → Type 0

@@ -1,4 +1,5 @@
 pub mod Sent
+pub mod Texts
 pub mod Demands
 pub mod HeaderValues
 pub mod HeadersFilled

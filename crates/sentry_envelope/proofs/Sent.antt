@@ -118,7 +118,7 @@ module _ {E : Type 0} (r : Result (Unit {0}) E) where
   abbrev IsEnded : List ℕ → List ℕ → List ℕ → Type 0
   IsEnded before new payload = OnOk r (new ≡ before ++ with_line [] (with_line payload []))
 
-  ended : (old before new header payload : List ℕ) → before ≡ old ++ header → IsEnded before new payload → IsSent old new header payload
+  pub ended : (old before new header payload : List ℕ) → before ≡ old ++ header → IsEnded before new payload → IsSent old new header payload
   ended old before new header payload headed sent =
       then_ok r _ _ (λ e. e ∙ ap (λ b. b ++ newline ∷ with_line payload []) headed ∙ append_assoc old header (newline ∷ with_line payload [])) sent
 

@@ -17,6 +17,10 @@ IsAdded now frame old new = (i : EnvelopeItem) × (new ≡ old ++ i ∷ []) × I
 abbrev pub IsItemOf : ItemKind → Cell → EnvelopeItem → Type 0
 IsItemOf k c i = item_held i ≡ value k c
 
--- an item that holds a value has come behind the others, and the value is shown
+-- an item of this sort has come behind the others
+abbrev pub IsItemAdded : (EnvelopeItem → Type 0) → List EnvelopeItem → List EnvelopeItem → Type 0
+IsItemAdded Is old new = (i : EnvelopeItem) × Is i × (new ≡ old ++ i ∷ [])
+
+-- the same of an item that holds a value, which is shown
 abbrev pub IsValueAdded : {T : Type 0} → (T → Type 0) → (T → EnvelopeItem → Type 0) → List EnvelopeItem → List EnvelopeItem → Type 0
-IsValueAdded {T} Shown Holds old new = (v : T) × (i : EnvelopeItem) × Shown v × Holds v i × (new ≡ old ++ i ∷ [])
+IsValueAdded {T} Shown Holds old new = (v : T) × Shown v × IsItemAdded (Holds v) old new

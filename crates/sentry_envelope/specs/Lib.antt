@@ -14,4 +14,5 @@ pub mod ItemsLeft
 pub mod OneEnvelope
 pub mod Profile
 pub mod SentryProfile
+pub mod Texts
 pub mod Accepted

@@ -6,12 +6,13 @@ use crate::headers::EnvelopeHeaders;
 use crate::items::{EnvelopeItemIter, IntoItems};
 use crate::plain::items_are_plain;
 use crate::reader::read_with;
+use crate::text::Text;
 use crate::write::write_envelope;
 use rand_core::Rng;
 use sentry_event::Event;
 use sentry_framing::EnvelopeError;
 use sentry_items::EnvelopeItem;
-use sentry_items::counted::{CountedWriter, send, send_plain};
+use sentry_items::counted::CountedWriter;
 use sentry_members::{LazyScratch, Member};
 use sentry_moments::Moment;
 use std::alloc::{AllocError, AllocFailed, Global};
@@ -60,6 +61,7 @@ impl Envelope {
     ghost use Rattle.sentry_envelope.specs.HeaderFields.{headers_cell};
     ghost use Rattle.sentry_envelope.specs.ItemsLeft.{items_left, owned_items_left};
     ghost use Rattle.sentry_envelope.specs.SentryProfile.{profile};
+    ghost use Rattle.sentry_envelope.specs.Texts.{bytes_of};
 
     /// Creates a structured envelope without header fields and items.
     pub fn new(alloc: Global) -> Envelope
@@ -311,12 +313,12 @@ impl Envelope {
 
     // Returns the text of the envelope: the header line and the items, or the bytes of a raw
     // envelope.
-    pub(crate) fn write_text(&self, alloc: Global) -> Result<Vec<u8>, AllocError>
-        ensures { IfOk result (λ text. HasReadyParts self.now → text.items ≡ text_of self.now) }
+    fn write_text(&self, alloc: Global) -> Result<Text<'_>, AllocError>
+        ensures { IfOk result (λ text. HasReadyParts self.now → bytes_of text ≡ text_of self.now) }
     {
         match &self.contents {
             Contents::Items(items) => write_envelope(alloc, &self.headers, items),
-            Contents::Raw(bytes) => bytes.clone(),
+            Contents::Raw(bytes) => Text::lent(alloc, bytes),
         }
     }
 
@@ -334,8 +336,11 @@ impl Envelope {
     }
 
     // Returns the text that `to_writer` and `write_counted` write, or their error before any write.
-    fn text(&self, alloc: Global) -> Result<Vec<u8>, EnvelopeWriteError>
-        ensures ok { IfOk result (λ text. text.items ≡ text_of self.now) }
+    //
+    // Parts that lie in memory have fewer than 2^64 bytes together: that is counted here, for
+    // `sized`.
+    fn text(&self, alloc: Global) -> Result<Text<'_>, EnvelopeWriteError>
+        ensures ok { IfOk result (λ text. bytes_of text ≡ text_of self.now) }
         ensures stored { OnOk result (IfSome (structured self.now) (IsEnvelopeStored profile)) }
         ensures sized { OnOk result (IfSome (structured self.now) (IsEnvelopeSized profile)) }
         ensures not_plain { (result ≡ Err EnvelopeWriteError.NotPlain) ↔ IsUnwritable self.now }
@@ -344,9 +349,12 @@ impl Envelope {
         if self.is_unwritable() {
             return Err(EnvelopeWriteError::NotPlain);
         }
-        match self.write_text(alloc) {
-            Ok(text) => Ok(text),
-            Err(_) => Err(EnvelopeWriteError::Memory),
+        let Ok(text) = self.write_text(alloc) else {
+            return Err(EnvelopeWriteError::Memory);
+        };
+        match text.len() {
+            Some(_) => Ok(text),
+            None => Err(EnvelopeWriteError::Memory),
         }
     }
 
@@ -375,7 +383,7 @@ impl Envelope {
             AppendsFront (W.contents writer.old) (W.contents writer.new) (text_of self.now) }
     {
         let text = self.text(alloc)?;
-        match send_plain(&text, writer) {
+        match text.send_plain(writer) {
             Ok(()) => Ok(()),
             Err(_) => Err(EnvelopeWriteError::Io),
         }
@@ -412,7 +420,7 @@ impl Envelope {
             writer_failures writer.new ≡ writer_failures writer.old }
     {
         let text = self.text(alloc)?;
-        match send(&text, writer) {
+        match text.send(writer) {
             Ok(()) => Ok(()),
             Err(_) => Err(EnvelopeWriteError::Io),
         }

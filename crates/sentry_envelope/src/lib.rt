@@ -17,6 +17,7 @@ mod plain;
 mod read;
 pub mod reader;
 mod remake;
+mod text;
 pub mod timed;
 mod write;
 

@@ -1,6 +1,6 @@
 //! Values that payloads of JSON hold, as items.
 
-ghost use Rattle.std.specs.Prelude.{IfOk};
+ghost use Rattle.std.specs.Prelude.{OnOk};
 ghost use Rattle.sentry_event.specs.Events.{event_cell};
 ghost use Rattle.sentry_event.specs.Transactions.{transaction_cell};
 ghost use Rattle.sentry_records.specs.Monitors.{check_in_cell};
@@ -11,7 +11,7 @@ ghost use Rattle.sentry_framing.specs.declared.kind.ItemKind.TheVariants as kind
 ghost use Rattle.sentry_items.specs.Containers.{container_cell};
 ghost use Rattle.sentry_items.specs.declared.container.ItemContainer.TheVariants as containers;
 ghost use Rattle.sentry_items.specs.declared.item.EnvelopeItem.{EnvelopeItem};
-ghost use Rattle.sentry_envelope.specs.ItemAdded.{IsItemOf};
+ghost use Rattle.sentry_envelope.specs.ItemAdded.{IsItemAdded, IsItemOf};
 
 use sentry_event::{Event, Transaction};
 use sentry_items::{EnvelopeItem, ItemContainer, Listed};
@@ -24,85 +24,94 @@ pub(crate) trait Payload: Sized + Drop {
     // which items hold which values
     ghost holds: { Self → EnvelopeItem → Type 0 };
 
-    // Returns the value as an item. `AllocError` if an allocation fails.
-    fn into_item(self, alloc: Global) -> Result<EnvelopeItem, AllocError>
-        ensures { IfOk result (Self.holds self) };
+    // Appends the value as an item. `AllocError` if an allocation fails.
+    fn push_to(self, alloc: Global, items: &mut Vec<EnvelopeItem>) -> Result<(), AllocError>
+        ensures { OnOk result (IsItemAdded (Self.holds self) items.old.items items.new.items) };
 }
 
 impl Payload for Event<'static> {
     ghost holds = { λ value. IsItemOf kinds.Event (event_cell value) };
 
-    fn into_item(self, alloc: Global) -> Result<EnvelopeItem, AllocError> {
-        match EnvelopeItem::event(alloc, self) {
-            Ok(item) => Ok(item),
-            Err(_) => Err(AllocError),
-        }
+    fn push_to(self, alloc: Global, items: &mut Vec<EnvelopeItem>) -> Result<(), AllocError> {
+        let Ok(boxed) = Box::new(alloc, self) else {
+            return Err(AllocError);
+        };
+        items.push(EnvelopeItem::Event(boxed))?;
+        Ok(())
     }
 }
 
 impl Payload for Transaction<'static> {
     ghost holds = { λ value. IsItemOf kinds.Transaction (transaction_cell value) };
 
-    fn into_item(self, alloc: Global) -> Result<EnvelopeItem, AllocError> {
-        match EnvelopeItem::transaction(alloc, self) {
-            Ok(item) => Ok(item),
-            Err(_) => Err(AllocError),
-        }
+    fn push_to(self, alloc: Global, items: &mut Vec<EnvelopeItem>) -> Result<(), AllocError> {
+        let Ok(boxed) = Box::new(alloc, self) else {
+            return Err(AllocError);
+        };
+        items.push(EnvelopeItem::Transaction(boxed))?;
+        Ok(())
     }
 }
 
 impl Payload for SessionUpdate<'static> {
     ghost holds = { λ value. IsItemOf kinds.SessionUpdate (session_cell value) };
 
-    fn into_item(self, _alloc: Global) -> Result<EnvelopeItem, AllocError> {
-        Ok(EnvelopeItem::SessionUpdate(self))
+    fn push_to(self, _alloc: Global, items: &mut Vec<EnvelopeItem>) -> Result<(), AllocError> {
+        items.push(EnvelopeItem::SessionUpdate(self))?;
+        Ok(())
     }
 }
 
 impl Payload for SessionAggregates<'static> {
     ghost holds = { λ value. IsItemOf kinds.SessionAggregates (groups_cell value) };
 
-    fn into_item(self, _alloc: Global) -> Result<EnvelopeItem, AllocError> {
-        Ok(EnvelopeItem::SessionAggregates(self))
+    fn push_to(self, _alloc: Global, items: &mut Vec<EnvelopeItem>) -> Result<(), AllocError> {
+        items.push(EnvelopeItem::SessionAggregates(self))?;
+        Ok(())
     }
 }
 
 impl Payload for MonitorCheckIn {
     ghost holds = { λ value. IsItemOf kinds.MonitorCheckIn (check_in_cell value) };
 
-    fn into_item(self, _alloc: Global) -> Result<EnvelopeItem, AllocError> {
-        Ok(EnvelopeItem::MonitorCheckIn(self))
+    fn push_to(self, _alloc: Global, items: &mut Vec<EnvelopeItem>) -> Result<(), AllocError> {
+        items.push(EnvelopeItem::MonitorCheckIn(self))?;
+        Ok(())
     }
 }
 
 impl Payload for UserReport {
     ghost holds = { λ value. IsItemOf kinds.UserReport (user_report_cell value) };
 
-    fn into_item(self, _alloc: Global) -> Result<EnvelopeItem, AllocError> {
-        Ok(EnvelopeItem::UserReport(self))
+    fn push_to(self, _alloc: Global, items: &mut Vec<EnvelopeItem>) -> Result<(), AllocError> {
+        items.push(EnvelopeItem::UserReport(self))?;
+        Ok(())
     }
 }
 
 impl Payload for Listed<Log> {
     ghost holds = { λ list. IsItemOf kinds.Logs (container_cell (containers.Logs list.items)) };
 
-    fn into_item(self, _alloc: Global) -> Result<EnvelopeItem, AllocError> {
-        Ok(EnvelopeItem::ItemContainer(ItemContainer::Logs(self.items)))
+    fn push_to(self, _alloc: Global, items: &mut Vec<EnvelopeItem>) -> Result<(), AllocError> {
+        items.push(EnvelopeItem::ItemContainer(ItemContainer::Logs(self.items)))?;
+        Ok(())
     }
 }
 
 impl Payload for Listed<Metric> {
     ghost holds = { λ list. IsItemOf kinds.Metrics (container_cell (containers.Metrics list.items)) };
 
-    fn into_item(self, _alloc: Global) -> Result<EnvelopeItem, AllocError> {
-        Ok(EnvelopeItem::ItemContainer(ItemContainer::Metrics(self.items)))
+    fn push_to(self, _alloc: Global, items: &mut Vec<EnvelopeItem>) -> Result<(), AllocError> {
+        items.push(EnvelopeItem::ItemContainer(ItemContainer::Metrics(self.items)))?;
+        Ok(())
     }
 }
 
 impl Payload for Report {
     ghost holds = { λ value. IsItemOf kinds.ClientReport (report_cell value) };
 
-    fn into_item(self, _alloc: Global) -> Result<EnvelopeItem, AllocError> {
-        Ok(EnvelopeItem::ClientReport(self))
+    fn push_to(self, _alloc: Global, items: &mut Vec<EnvelopeItem>) -> Result<(), AllocError> {
+        items.push(EnvelopeItem::ClientReport(self))?;
+        Ok(())
     }
 }

@@ -160,8 +160,11 @@ fn add_value<'a, T: FromTree + Payload>(
     ensures err { IfErr result (λ e. (e ≡ EnvelopeError.OutOfMemory)
         ⊎ ((e ≡ EnvelopeError.InvalidItemPayload) × TextRefused T.kind payload.now)) }
 {
-    let value: T = lines.read(payload).map_err(payload_error)?;
-    items.push(value.into_item(lines.alloc())?)?;
+    let value: T = match lines.read(payload) {
+        Ok(value) => value,
+        Err(error) => return Err(payload_error(error)),
+    };
+    value.push_to(lines.alloc(), items)?;
     Ok(())
 }
 
@@ -181,8 +184,11 @@ fn add_value_at<'a, T: FromTreeAt + Payload, R: Rng>(
         ⊎ ((e ≡ EnvelopeError.InvalidItemPayload) ×
         TextRefusedAt (moment_cell now) T.kind payload.now)) }
 {
-    let value: T = read_at(lines, payload, now, ids).map_err(payload_error)?;
-    items.push(value.into_item(lines.alloc())?)?;
+    let value: T = match read_at(lines, payload, now, ids) {
+        Ok(value) => value,
+        Err(error) => return Err(payload_error(error)),
+    };
+    value.push_to(lines.alloc(), items)?;
     Ok(())
 }
 

@@ -12,8 +12,10 @@ ghost use Rattle.sentry_envelope.specs.Envelope.{envelope_text, frame_text, fram
 ghost use Rattle.sentry_envelope.specs.EnvelopeView.{item_view, AreReady, IsReady};
 ghost use Rattle.sentry_envelope.specs.HeaderFields.{header_kind, headers_cell};
 ghost use Rattle.sentry_envelope.specs.SentryProfile.{profile};
+ghost use Rattle.sentry_envelope.specs.Texts.{bytes_of};
 
 use crate::headers::EnvelopeHeaders;
+use crate::text::Text;
 use json::Writer;
 use sentry_items::attachment::write_header;
 use sentry_items::container::write_container_payload;
@@ -26,26 +28,27 @@ use std::mem;
 // Room for the text of a small envelope: a buffer that has it needn't grow step by step.
 const ROOM: usize = 512;
 
-pub(crate) fn write_envelope(
+pub(crate) fn write_envelope<'e>(
     alloc: Global,
     headers: &EnvelopeHeaders,
-    items: &[EnvelopeItem],
-) -> Result<Vec<u8>, AllocError>
+    items: &'e [EnvelopeItem],
+) -> Result<Text<'e>, AllocError>
     ensures { IfOk result (λ text. IsReady header_kind (headers_cell headers.now) ×
         AreReady (map item_view items.now)
-        → text.items ≡
+        → bytes_of text ≡
         envelope_text profile
         (record { header = headers_cell headers.now; items = map item_view items.now })) }
 {
     let mut out = Vec::with_capacity(alloc, ROOM)?;
     write_headers(headers, &mut out)?;
     out.push(b'\n')?;
+    let mut text = Text::new(alloc, out);
     let mut line = Vec::with_capacity(alloc, ROOM)?;
     let mut payload = Vec::with_capacity(alloc, ROOM)?;
     for item in items {
-        write_item(alloc, item, &mut line, &mut payload, &mut out)?;
+        write_item(alloc, item, &mut line, &mut payload, &mut text)?;
     }
-    Ok(out)
+    Ok(text)
 }
 
 fn write_headers(headers: &EnvelopeHeaders, out: &mut Vec<u8>) -> Result<(), AllocError>
@@ -61,27 +64,27 @@ fn write_headers(headers: &EnvelopeHeaders, out: &mut Vec<u8>) -> Result<(), All
 // `line` and `payload` are buffers. A header is built in `line`, since a JSON writer clears memory
 // ahead of what it writes, and more of it after a long text. A JSON payload is built in `payload`,
 // since its length is written before it.
-fn write_item(
+fn write_item<'e>(
     alloc: Global,
-    item: &EnvelopeItem,
+    item: &'e EnvelopeItem,
     line: &mut Vec<u8>,
     payload: &mut Vec<u8>,
-    out: &mut Vec<u8>,
+    text: &mut Text<'e>,
 ) -> Result<(), AllocError>
     ensures { OnOk result (AreReady (item_view item.now ∷ []) →
-        out.new.items ≡ out.old.items ++
+        bytes_of text.new ≡ bytes_of text.old ++
         frame_text (frame_of_item profile (item_view item.now)) []) }
 {
     line.clear();
     match item {
         EnvelopeItem::Event(event) => {
-            write_value(alloc, "event", event.as_ref(), line, payload, out)
+            write_value(alloc, "event", event.as_ref(), line, payload, text)
         }
         EnvelopeItem::SessionUpdate(session) => {
-            write_value(alloc, "session", session, line, payload, out)
+            write_value(alloc, "session", session, line, payload, text)
         }
         EnvelopeItem::SessionAggregates(groups) => {
-            write_value(alloc, "sessions", groups, line, payload, out)
+            write_value(alloc, "sessions", groups, line, payload, text)
         }
         EnvelopeItem::Transaction(transaction) => {
             write_value(
@@ -90,28 +93,29 @@ fn write_item(
                 transaction.as_ref(),
                 line,
                 payload,
-                out,
+                text,
             )
         }
         EnvelopeItem::Attachment(attachment) => {
-            write_header(attachment, alloc, "attachment", line, out)?;
-            end_frame(&attachment.buffer, out)
+            write_header(attachment, alloc, "attachment", line, &mut text.end)?;
+            end_frame(&attachment.buffer, text)
         }
         EnvelopeItem::MonitorCheckIn(check_in) => {
-            write_value(alloc, "check_in", check_in, line, payload, out)
+            write_value(alloc, "check_in", check_in, line, payload, text)
         }
         EnvelopeItem::UserReport(report) => {
-            write_value(alloc, "user_report", report, line, payload, out)
+            write_value(alloc, "user_report", report, line, payload, text)
         }
         EnvelopeItem::ReplayRecording(recording) => {
             write_short_header(alloc, "replay_recording", &recording.buffer, line)?;
-            write_frame(line, &recording.buffer, out)
+            text.end.extend_from_slice(line)?;
+            end_frame(&recording.buffer, text)
         }
         EnvelopeItem::ItemContainer(container) => {
-            write_container(alloc, container, line, payload, out)
+            write_container(alloc, container, line, payload, text)
         }
         EnvelopeItem::ClientReport(report) => {
-            write_value(alloc, "client_report", report, line, payload, out)
+            write_value(alloc, "client_report", report, line, payload, text)
         }
         EnvelopeItem::Raw => Ok(()),
     }
@@ -123,17 +127,17 @@ fn write_container(
     container: &ItemContainer,
     line: &mut Vec<u8>,
     payload: &mut Vec<u8>,
-    out: &mut Vec<u8>,
+    text: &mut Text<'_>,
 ) -> Result<(), AllocError>
     requires { line.old.items ≡ [] }
     ensures { OnOk result (has_float (container_tree container.now) ≡ false
-        → out.new.items ≡ out.old.items ++
+        → bytes_of text.new ≡ bytes_of text.old ++
         container_text container.now (compact_text (container_tree container.now))) }
 {
     payload.clear();
     write_payload(container, payload)?;
     write_container_header(alloc, container, line)?;
-    write_frame(line, payload, out)
+    write_frame(line, payload, text)
 }
 
 fn write_payload(container: &ItemContainer, out: &mut Vec<u8>) -> Result<(), AllocError>
@@ -194,11 +198,11 @@ fn write_value<T: Member>(
     value: &T,
     line: &mut Vec<u8>,
     payload: &mut Vec<u8>,
-    out: &mut Vec<u8>,
+    text: &mut Text<'_>,
 ) -> Result<(), AllocError>
     requires { line.old.items ≡ [] }
     ensures { OnOk result (has_float (tree T.kind (T.cell_of value.now)) ≡ false
-        → out.new.items ≡ out.old.items ++
+        → bytes_of text.new ≡ bytes_of text.old ++
         with_line
         (header_text (short_header word.now (compact_text (tree T.kind (T.cell_of value.now)))))
         (with_line (compact_text (tree T.kind (T.cell_of value.now))) [])) }
@@ -206,27 +210,30 @@ fn write_value<T: Member>(
     payload.clear();
     write_text(value, payload)?;
     write_short_header(alloc, word, payload, line)?;
-    write_frame(line, payload, out)
+    write_frame(line, payload, text)
 }
 
-// Appends a header and a payload, each with a line feed.
-fn write_frame(header: &[u8], payload: &[u8], out: &mut Vec<u8>) -> Result<(), AllocError>
-    ensures { OnOk result (out.new.items ≡ out.old.items ++
-        with_line header.now (with_line payload.now [])) }
+// Appends a header and a payload, each with a line feed. The payload's bytes are moved if they are
+// many.
+fn write_frame(header: &[u8], payload: &mut Vec<u8>, text: &mut Text<'_>) -> Result<(), AllocError>
+    ensures { OnOk result (bytes_of text.new ≡ bytes_of text.old ++
+        with_line header.now (with_line payload.old.items [])) }
 {
-    out.extend_from_slice(header)?;
-    end_frame(payload, out)
+    text.end.extend_from_slice(header)?;
+    text.end.push(b'\n')?;
+    text.take(payload)?;
+    text.end.push(b'\n')?;
+    Ok(())
 }
 
-// Ends the line of a header, and appends a payload with a line feed. Room for all three is made at
-// once: else the last line feed would move a text that a large payload has just filled.
-fn end_frame(payload: &[u8], out: &mut Vec<u8>) -> Result<(), AllocError>
-    ensures { OnOk result (out.new.items ≡ out.old.items ++
+// Ends the line of a header, and appends a payload with a line feed. The payload is lent if it is
+// large.
+fn end_frame<'e>(payload: &'e [u8], text: &mut Text<'e>) -> Result<(), AllocError>
+    ensures { OnOk result (bytes_of text.new ≡ bytes_of text.old ++
         with_line [] (with_line payload.now [])) }
 {
-    out.reserve(payload.len() + 2)?;
-    out.push(b'\n')?;
-    out.extend_from_slice(payload)?;
-    out.push(b'\n')?;
+    text.end.push(b'\n')?;
+    text.lend(payload)?;
+    text.end.push(b'\n')?;
     Ok(())
 }

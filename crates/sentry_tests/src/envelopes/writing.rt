@@ -4,7 +4,7 @@ use super::read;
 use crate::wanted::{holds, wanted};
 use crate::writers::Full;
 use sentry_types::protocol::v7::{CountedWriter, Envelope, EnvelopeWriteError};
-use std::alloc::Global;
+use std::alloc::{AllocError, Global};
 use std::test::Fail;
 
 /// An envelope as it is written: an event, an attachment of no bytes, and a replay recording.
@@ -26,31 +26,100 @@ fn ends(answer: Result<(), EnvelopeWriteError>, whole: bool) -> bool {
     }
 }
 
-/// Whether a writer with so much room, which takes a byte at a time, gets that much of the text; by
-/// a writer that counts failures too, which counts one where the room is too small.
-fn is_cut(alloc: Global, envelope: &Envelope, room: usize, by_error: bool) -> bool {
-    let (whole, length) = (room >= TEXT.len(), room.min(TEXT.len()));
-    let mut out = Full::new(alloc, room, 1, by_error);
-    let mut counted = CountedWriter::new(Full::new(alloc, room, 1, by_error));
+/// Whether a writer with so much room, which takes so many bytes at a time, gets that much of the
+/// text; by a writer that counts failures too, which counts one where the room is too small.
+fn is_cut(
+    alloc: Global,
+    envelope: &Envelope,
+    text: &[u8],
+    room: usize,
+    at_once: usize,
+    by_error: bool,
+) -> bool {
+    let (whole, length) = (room >= text.len(), room.min(text.len()));
+    let mut out = Full::new(alloc, room, at_once, by_error);
+    let mut counted = CountedWriter::new(Full::new(alloc, room, at_once, by_error));
     ends(envelope.to_writer(alloc, &mut out), whole)
         && ends(envelope.write_counted(alloc, &mut counted), whole)
         && counted.failures() == if whole { 0 } else { 1 }
-        && out.holds(TEXT.as_bytes(), length)
-        && counted.into_inner().holds(TEXT.as_bytes(), length)
+        && out.holds(text, length)
+        && counted.into_inner().holds(text, length)
 }
 
 /// Whether the text is cut wherever the room ends, and isn't where there is more.
 fn is_cut_anywhere(alloc: Global, envelope: &Envelope) -> bool {
-    for room in 0..TEXT.len() {
-        if !is_cut(alloc, envelope, room, false) || !is_cut(alloc, envelope, room, true) {
+    let text = TEXT.as_bytes();
+    for room in 0..text.len() {
+        if !is_cut(alloc, envelope, text, room, 1, false)
+            || !is_cut(alloc, envelope, text, room, 1, true)
+        {
             return false;
         }
     }
-    is_cut(alloc, envelope, TEXT.len(), true) && is_cut(alloc, envelope, usize::MAX, false)
+    is_cut(alloc, envelope, text, text.len(), 1, true)
+        && is_cut(alloc, envelope, text, usize::MAX, 1, false)
+}
+
+/// What stands before, between and behind a large file and a large recording.
+const BEFORE: &str = concat!(
+    "{}\n{\"attachment_type\":\"event.attachment\",",
+    "\"content_type\":\"application/octet-stream\",\"filename\":\"a\",\"length\":65536,",
+    "\"type\":\"attachment\"}\n"
+);
+
+const BETWEEN: &str = "\n{\"length\":65537,\"type\":\"replay_recording\"}\n";
+
+const BEHIND: &str = "\n{\"length\":3,\"type\":\"replay_recording\"}\nabc\n";
+
+/// An envelope as it is written, with a large file and a large recording.
+fn large_text(alloc: Global) -> Result<Vec<u8>, AllocError> {
+    let mut text = Vec::new(alloc);
+    text.extend_from_slice(BEFORE.as_bytes())?;
+    text.resize(BEFORE.len() + 65_536, b'f')?;
+    text.extend_from_slice(BETWEEN.as_bytes())?;
+    text.resize(BEFORE.len() + 65_536 + BETWEEN.len() + 65_537, b'r')?;
+    text.extend_from_slice(BEHIND.as_bytes())?;
+    Ok(text)
+}
+
+/// Whether the text of an envelope with large parts is cut where the room ends: before them, at
+/// their ends and inside.
+fn is_cut_at_parts(alloc: Global, envelope: &Envelope) -> bool {
+    let Ok(text) = large_text(alloc) else {
+        return false;
+    };
+    let file = BEFORE.len();
+    let recording = file + 65_536 + BETWEEN.len();
+    let end = text.len();
+    for room in [
+        0,
+        file - 1,
+        file,
+        file + 1,
+        file + 65_535,
+        file + 65_536,
+        recording,
+        recording + 65_537,
+        end - 1,
+        end,
+        end + 1,
+    ] {
+        if !is_cut(alloc, envelope, &text, room, 4096, room % 2 == 0) {
+            return false;
+        }
+    }
+    true
 }
 
 #[test]
 fn a_failed_write_ends_it(rt: HostRuntime) -> Result<(), Fail> {
     let alloc = rt.alloc();
     wanted(holds(alloc, read(alloc, TEXT.as_bytes()), is_cut_anywhere))
+}
+
+#[test]
+fn large_parts_are_sent_in_order(rt: HostRuntime) -> Result<(), Fail> {
+    let alloc = rt.alloc();
+    let text = large_text(alloc)?;
+    wanted(holds(alloc, read(alloc, &text), is_cut_at_parts))
 }

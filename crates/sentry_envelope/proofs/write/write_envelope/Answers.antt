@@ -1,7 +1,8 @@
-use Rattle.std.proofs.Common.{rules, ◌≡◌, []}
+use Rattle.std.proofs.Common.{rules, ◌≡◌, ◌∙◌, []}
 use Rattle.std.specs.Prelude.{map}
 use Rattle.sentry_envelope.specs.EnvelopeView.{item_view}
 use Rattle.sentry_envelope.specs.HeaderFields.{headers_cell}
+use Rattle.sentry_envelope.specs.Texts.{bytes_of}
 use Rattle.sentry_envelope.proofs.Sent.{envelope_begun, item_written}
 use Rattle.sentry_envelope.proofs.write.write_envelope.Goals as goal
 
@@ -9,10 +10,10 @@ pub loop-item-init : goal.loop-item-init
 loop-item-init c = λ ready.
     let none : c.in_ok-out.out.items ≡ [] = search rules in (
       ready.1,
-      envelope_begun (headers_cell c.args.headers.now) (map item_view c.args.items.now) _ c.push.new.self.items
-          (rw none at c.in_ok-write_headers.ensures ready.0) c.in_ok-push.ensures.items,
+      envelope_begun (headers_cell c.args.headers.now) (map item_view c.args.items.now) _ (bytes_of c.new-text.result)
+          (rw none at c.in_ok-write_headers.ensures ready.0) (c.new-text.ensures ∙ c.in_ok-push.ensures.items),
     )
 
 pub loop-item-preserved : goal.loop-item-preserved
 loop-item-preserved c = λ ready.
-    item_written c.args.items.now c.loop-item.item-index c.item-item.result c.loop-item.out.items c.write_item.new.out.items _ c.loop-item-test.true c.item-item.is c.in_ok-write_item.ensures (c.loop-item.invariant ready)
+    item_written c.args.items.now c.loop-item.item-index c.item-item.result (bytes_of c.loop-item.text) (bytes_of c.write_item.new.text) _ c.loop-item-test.true c.item-item.is c.in_ok-write_item.ensures (c.loop-item.invariant ready)

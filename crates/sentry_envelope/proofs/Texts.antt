@@ -1,0 +1,76 @@
+-- Texts in parts: what is appended, counted and sent, part by part.
+use Rattle.std.proofs.Common.{◌≡◌, ◌+◌, ◌<◌, ◌≤◌, ℕ, suc, length, get_or, drop, drop-cons, add-one, List, [], ◌∷◌, ◌++◌, Option, sym, ap, ◌∙◌, subst, arith, append_assoc, append-nil, length-append}
+use Rattle.std.proofs.lemmas.List.{drop_all}
+use Rattle.std.specs.Io.KnownBytes.{Appends}
+use Rattle.sentry_json.specs.Line.{newline}
+use Rattle.sentry_framing.specs.Framing.{with_line}
+use Rattle.sentry_items.specs.Counted.{AppendsFront}
+use Rattle.sentry_envelope.specs.Texts.{parts_bytes}
+use Rattle.sentry_envelope.specs.declared.text.Part.{Part}
+use Rattle.sentry_items.proofs.Sent.{front_of_first, front_of_second}
+
+-- one part more
+part_behind : (ps : List Part) (p : Part) → parts_bytes (ps ++ p ∷ []) ≡ parts_bytes ps ++ (p.own.items ++ p.lent.now)
+part_behind [] p = append-nil (p.own.items ++ p.lent.now)
+part_behind (q ∷ ps) p =
+    let first = q.own.items ++ q.lent.now in
+    ap (λ s. first ++ s) (part_behind ps p) ∙ sym (append_assoc first (parts_bytes ps) (p.own.items ++ p.lent.now))
+
+-- the end becomes the last part's own bytes
+pub lent_behind : (ps all : List Part) (p : Part) (end none : List ℕ) → all ≡ ps ++ p ∷ [] → p.own.items ≡ end → none ≡ [] → parts_bytes all ++ none ≡ (parts_bytes ps ++ end) ++ p.lent.now
+lent_behind ps all p end none more own empty =
+    ap (λ s. parts_bytes all ++ s) empty ∙ append-nil (parts_bytes all) ∙ ap parts_bytes more ∙ part_behind ps p
+    ∙ ap (λ s. parts_bytes ps ++ (s ++ p.lent.now)) own ∙ sym (append_assoc (parts_bytes ps) end p.lent.now)
+
+-- what the end grows by, the text grows by
+pub end_grows : (parts old new more : List ℕ) → new ≡ old ++ more → parts ++ new ≡ (parts ++ old) ++ more
+end_grows parts old new more is = ap (λ s. parts ++ s) is ∙ sym (append_assoc parts old more)
+
+-- a line feed behind a header, a payload, and a line feed
+pub line_sent : (old header begun told all payload : List ℕ) → begun ≡ (old ++ header) ++ newline ∷ [] → told ≡ begun ++ payload → all ≡ told ++ newline ∷ [] → all ≡ old ++ with_line header (with_line payload [])
+line_sent old header begun told all payload is more end =
+    let ended = payload ++ newline ∷ [] in
+    end ∙ ap (λ s. s ++ newline ∷ []) (more ∙ ap (λ s. s ++ payload) is) ∙ append_assoc ((old ++ header) ++ newline ∷ []) payload (newline ∷ []) ∙ append_assoc (old ++ header) (newline ∷ []) ended ∙ append_assoc old header (newline ∷ ended)
+
+-- the same of a header that is told
+pub rest_sent : (old begun told all payload : List ℕ) → begun ≡ old ++ newline ∷ [] → told ≡ begun ++ payload → all ≡ told ++ newline ∷ [] → all ≡ old ++ with_line [] (with_line payload [])
+rest_sent old begun told all payload is more end =
+    end ∙ ap (λ s. s ++ newline ∷ []) (more ∙ ap (λ s. s ++ payload) is) ∙ append_assoc (old ++ newline ∷ []) payload (newline ∷ []) ∙ append_assoc old (newline ∷ []) (payload ++ newline ∷ [])
+
+-- the end becomes the last part, of which nothing is lent
+pub own_behind : (ps all : List Part) (p : Part) (end taken rest : List ℕ) → all ≡ ps ++ p ∷ [] → p.own.items ≡ end → p.lent.now ≡ [] → rest ≡ taken → parts_bytes all ++ rest ≡ (parts_bytes ps ++ end) ++ taken
+own_behind ps all p end taken rest more own none is =
+    ap (λ s. parts_bytes all ++ s) is ∙ ap (λ s. s ++ taken) (ap parts_bytes more ∙ part_behind ps p ∙ ap (λ s. parts_bytes ps ++ (p.own.items ++ s)) none ∙ ap (λ s. parts_bytes ps ++ s) (append-nil p.own.items ∙ own))
+
+-- the next part, and those behind it
+next_part : (ps : List Part) (i : ℕ) (p : Part) → i < length ps → p ≡ get_or ps i p → drop i ps ≡ p ∷ drop (i + 1) ps
+next_part ps i p within is = rw add-one (drop-cons ps i p within ∙ ap (λ q. q ∷ drop (suc i) ps) (sym is))
+
+pub part_counted : (ps : List Part) (i : ℕ) (p : Part) (all len own lent : ℕ) → i < length ps → p ≡ get_or ps i p → all ≡ len + length (parts_bytes (drop i ps)) → own ≡ length p.own.items → lent ≡ length p.lent.now
+    → all ≡ (len + own) + lent + length (parts_bytes (drop (i + 1) ps))
+part_counted ps i p all len own lent within is so_far is_own is_lent =
+    omega (arith, so_far, is_own, is_lent, ap (λ qs. length (parts_bytes qs)) (next_part ps i p within is), length-append (p.own.items ++ p.lent.now) (parts_bytes (drop (i + 1) ps)), length-append p.own.items p.lent.now)
+
+-- a text of which the next part comes behind a front
+pub part_comes : (ps : List Part) (i : ℕ) (p : Part) (text front end : List ℕ) → i < length ps → p ≡ get_or ps i p → text ≡ front ++ (parts_bytes (drop i ps) ++ end)
+    → text ≡ front ++ (p.own.items ++ (p.lent.now ++ (parts_bytes (drop (i + 1) ps) ++ end)))
+part_comes ps i p text front end within is so_far =
+    let rest = parts_bytes (drop (i + 1) ps) in
+    so_far ∙ ap (λ qs. front ++ (parts_bytes qs ++ end)) (next_part ps i p within is) ∙ ap (λ s. front ++ s) (append_assoc (p.own.items ++ p.lent.now) rest end ∙ append_assoc p.own.items p.lent.now (rest ++ end))
+
+-- a text of which no part is left
+pub end_comes : (ps : List Part) (i : ℕ) (text front end : List ℕ) → length ps ≤ i → text ≡ front ++ (parts_bytes (drop i ps) ++ end) → text ≡ front ++ end
+end_comes ps i text front end past so_far = so_far ∙ ap (λ qs. front ++ (parts_bytes qs ++ end)) (drop_all i ps past)
+
+-- a piece behind the front joins it
+pub piece_joins : (text front piece rest : List ℕ) → text ≡ front ++ (piece ++ rest) → text ≡ (front ++ piece) ++ rest
+piece_joins text front piece rest is = is ∙ sym (append_assoc front piece rest)
+
+-- of a piece behind the front, no more than a beginning was sent
+pub piece_fails : (old between new : Option (List ℕ)) (text front piece rest : List ℕ) → text ≡ front ++ (piece ++ rest) → Appends old between front → AppendsFront between new piece → AppendsFront old new text
+piece_fails old between new text front piece rest is sent failed =
+    subst (AppendsFront old new) (append_assoc front piece rest ∙ sym is) (front_of_first old new (front ++ piece) rest (front_of_second old between new front piece sent failed))
+
+-- the same of the last piece
+pub end_fails : (old between new : Option (List ℕ)) (text front piece : List ℕ) → text ≡ front ++ piece → Appends old between front → AppendsFront between new piece → AppendsFront old new text
+end_fails old between new text front piece is sent failed = subst (AppendsFront old new) (sym is) (front_of_second old between new front piece sent failed)

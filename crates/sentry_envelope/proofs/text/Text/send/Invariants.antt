@@ -1,0 +1,12 @@
+use Rattle.std.proofs.Common.{◌≡◌, ◌++◌, List, ℕ, drop}
+use Rattle.std.specs.Io.KnownBytes.{Appends}
+use Rattle.sentry_items.specs.Counted.{writer_failures, writer_inside}
+use Rattle.sentry_envelope.specs.Texts.{bytes_of, parts_bytes}
+use Rattle.sentry_envelope.proofs.text.Text.send.Given as goal
+
+abbrev pub invariant-loop-part : goal.invariant-loop-part
+invariant-loop-part g l = record {
+  no_failure : writer_failures l.writer ≡ writer_failures l.fn.writer;
+  sent : (front : List ℕ) × (bytes_of l.self ≡ front ++ (parts_bytes (drop l.part-index l.self.parts.items) ++ l.self.end.items))
+      × Appends (g.W.Write.contents (writer_inside l.fn.writer)) (g.W.Write.contents (writer_inside l.writer)) front;
+}

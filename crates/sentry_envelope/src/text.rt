@@ -1,0 +1,123 @@
+//! Texts that are built whole and then sent; large pieces of them are not copied.
+
+ghost use Rattle.std.specs.Prelude.{◌≡◌, ◌+◌, ◌-◌, ◌^◌, ◌<◌, ◌++◌, IfOk, IfSome, OnOk, OnErr, length};
+ghost use Rattle.std.specs.Io.KnownBytes.{Appends};
+ghost use Rattle.sentry_items.specs.Counted.{AppendsFront, writer_failures, writer_inside};
+ghost use Rattle.sentry_envelope.specs.Texts.{bytes_of};
+
+use sentry_items::counted::{CountedWriter, SendFailed, send, send_plain};
+use std::alloc::{AllocError, Global};
+use std::io::Write;
+use std::mem;
+
+// So many bytes are lent or moved: a further write costs less than a copy.
+const LARGE: usize = 1 << 16;
+
+// Bytes of the text's own, and then some that are lent.
+#[derive(Drop)]
+pub(crate) struct Part<'e> {
+    pub(crate) own: Vec<u8>,
+    pub(crate) lent: &'e [u8],
+}
+
+// A text: its parts, and what follows the last one.
+#[derive(Drop)]
+pub(crate) struct Text<'e> {
+    pub(crate) parts: Vec<Part<'e>>,
+    pub(crate) end: Vec<u8>,
+}
+
+impl<'e> Text<'e> {
+    // Returns a text of which nothing is lent.
+    pub fn new(alloc: Global, end: Vec<u8>) -> Text<'e>
+        ensures { bytes_of result ≡ end.items }
+    {
+        Text {
+            parts: Vec::new(alloc),
+            end,
+        }
+    }
+
+    // Returns a text of these bytes, which are lent if they are many.
+    pub fn lent(alloc: Global, bytes: &'e [u8]) -> Result<Text<'e>, AllocError>
+        ensures { IfOk result (λ text. bytes_of text ≡ bytes.now) }
+    {
+        let mut text = Text::new(alloc, Vec::new(alloc));
+        text.lend(bytes)?;
+        Ok(text)
+    }
+
+    // Appends bytes, which are lent if they are many.
+    pub fn lend(&mut self, bytes: &'e [u8]) -> Result<(), AllocError>
+        ensures { OnOk result (bytes_of self.new ≡ bytes_of self.old ++ bytes.now) }
+    {
+        if bytes.len() < LARGE {
+            return self.end.extend_from_slice(bytes);
+        }
+        let alloc = *self.end.allocator();
+        let own = mem::replace(&mut self.end, Vec::new(alloc));
+        self.parts.push(Part { own, lent: bytes })?;
+        Ok(())
+    }
+
+    // Appends the bytes of a buffer, which are moved out of it if they are many.
+    pub fn take(&mut self, bytes: &mut Vec<u8>) -> Result<(), AllocError>
+        ensures { OnOk result (bytes_of self.new ≡ bytes_of self.old ++ bytes.old.items) }
+    {
+        if bytes.len() < LARGE {
+            return self.end.extend_from_slice(bytes);
+        }
+        let alloc = *self.end.allocator();
+        let taken = mem::replace(bytes, Vec::new(alloc));
+        let own = mem::replace(&mut self.end, taken);
+        self.parts.push(Part { own, lent: &[] })?;
+        Ok(())
+    }
+
+    // Returns how many bytes there are; `None` for 2^64 or more.
+    pub fn len(&self) -> Option<usize>
+        ensures value { IfSome result (λ len. length (bytes_of self.now) ≡ len) }
+        ensures fits { IfSome result (λ len. length (bytes_of self.now) < 2 ^ 64) }
+    {
+        let mut len = self.end.len();
+        for part in &self.parts {
+            len = len
+                .checked_add(part.own.len())?
+                .checked_add(part.lent.len())?;
+        }
+        Some(len)
+    }
+
+    // Writes the text to a counted writer, as `send` does.
+    pub fn send<W: Write>(&self, writer: &mut CountedWriter<W>) -> Result<(), SendFailed>
+        requires { writer_failures writer.old < 2 ^ 64 - 1 }
+        ensures whole { OnOk result (Appends (W.contents (writer_inside writer.old))
+            (W.contents (writer_inside writer.new)) (bytes_of self.now)) }
+        ensures front { OnErr result (AppendsFront (W.contents (writer_inside writer.old))
+            (W.contents (writer_inside writer.new)) (bytes_of self.now)) }
+        ensures no_failure { OnOk result (writer_failures writer.new ≡
+            writer_failures writer.old) }
+        ensures one_failure { OnErr result (writer_failures writer.new ≡
+            writer_failures writer.old + 1) }
+    {
+        for part in &self.parts {
+            send(&part.own, writer)?;
+            send(part.lent, writer)?;
+        }
+        send(&self.end, writer)
+    }
+
+    // Writes the text to a writer, as `send_plain` does.
+    pub fn send_plain<W: Write>(&self, writer: &mut W) -> Result<(), SendFailed>
+        ensures whole { OnOk result (Appends (W.contents writer.old) (W.contents writer.new)
+            (bytes_of self.now)) }
+        ensures front { OnErr result (AppendsFront (W.contents writer.old)
+            (W.contents writer.new) (bytes_of self.now)) }
+    {
+        for part in &self.parts {
+            send_plain(&part.own, writer)?;
+            send_plain(part.lent, writer)?;
+        }
+        send_plain(&self.end, writer)
+    }
+}
