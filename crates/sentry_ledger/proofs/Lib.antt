@@ -3,3 +3,4 @@ pub mod HistoryLemmas
 pub mod StepLemmas
 pub mod RecordLemmas
 pub mod Conserved
+pub mod SumLemmas

@@ -13,9 +13,13 @@ use Rattle.sentry_ledger.specs.declared.ledger.Ledger.{Ledger}
 abbrev pub Quantities : Type 0
 Quantities = Category → Reason → ℕ
 
+-- what a row holds of a pair
+abbrev pub held_in : List ℕ → Quantities
+held_in row category reason = slice_index row (pair_place category reason)
+
 -- what a ledger holds of a pair
 abbrev pub quantity_held : Ledger → Quantities
-quantity_held ledger category reason = slice_index ledger.row (pair_place category reason)
+quantity_held ledger category reason = held_in ledger.row category reason
 
 -- nothing is held of any pair
 abbrev pub HoldsNothing : Quantities → Type 0

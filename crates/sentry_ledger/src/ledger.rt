@@ -1,11 +1,9 @@
 //! The ledger of losses that are not reported yet.
 
-ghost use Rattle.std.specs.Prelude.{◌≡◌, ◌↔◌, ◌<◌, ◌^◌, EachIndex, IsTrue, slice_index};
-
+use crate::held_row::{holds_nothing, report_items};
 use sentry_moments::Moment;
 use sentry_reports::kept_sums::{SUMS, pair_place};
-use sentry_reports::{Category, Item, ItemLoss, Reason, Report};
-use sentry_words::IndexedEnum;
+use sentry_reports::{Category, ItemLoss, Reason, Report};
 use std::alloc::{AllocError, Global};
 use thiserror::Error;
 
@@ -22,23 +20,12 @@ pub struct Ledger {
     row: [u64; SUMS],
 }
 
-fn are_zeros(quantities: &[u64]) -> bool
-    ensures zeros { IsTrue result ↔
-        EachIndex quantities.now (λ k. slice_index quantities.now k ≡ 0) }
-    ensures bounded { EachIndex quantities.now (λ k. slice_index quantities.now k < 2 ^ 64) }
-{
-    quantities.iter().all(|quantity| *quantity == 0)
-}
-
 impl Ledger {
-    ghost use Rattle.std.specs.Prelude.{◌≡◌, ◌↔◌, ◌<◌, ◌^◌, ◌∷◌, [], ◌++◌, IsTrue};
-    ghost use Rattle.std.specs.Prelude.{IfErr, IfOk, IfSome, OnErr, OnOk};
-    ghost use Rattle.std.specs.List.{flat_map};
+    ghost use Rattle.std.specs.Prelude.{◌≡◌, ◌↔◌, ◌∷◌, [], IfErr, IfOk, IfSome, IsTrue, OnErr};
     ghost use Rattle.sentry_reports.specs.ReportSums.{report_sum};
     ghost use Rattle.sentry_reports.specs.declared.category.Category.{Category as Categories};
     ghost use Rattle.sentry_reports.specs.declared.reason.Reason.{Reason as Reasons};
-    ghost use Rattle.sentry_ledger.specs.Held.{quantity_held, HoldsNothing, items_held};
-    ghost use Rattle.sentry_ledger.specs.Held.{items_of_category, items_of_pair};
+    ghost use Rattle.sentry_ledger.specs.Held.{quantity_held, HoldsNothing};
     ghost use Rattle.sentry_ledger.specs.Histories.{Holds, IsAnswered, entry_of_flush, entry_of_record};
 
     /// Creates an empty ledger.
@@ -59,7 +46,7 @@ impl Ledger {
     pub fn is_empty(&self) -> bool
         ensures { IsTrue result ↔ HoldsNothing (quantity_held self.now) }
     {
-        self.holds_nothing()
+        holds_nothing(&self.row)
     }
 
     /// Records a loss under its own reason, or under `reason` if the loss has none.
@@ -104,84 +91,12 @@ impl Ledger {
             report_sum category reason made.items ≡ quantity_held self.old category reason)) }
         ensures refused { OnErr result (self.new ≡ self.old) }
     {
-        if self.holds_nothing() {
+        if holds_nothing(&self.row) {
             return Ok(None);
         }
-        let items = self.items(alloc)?;
+        let items = report_items(alloc, &self.row)?;
         self.row = [0; SUMS];
         Ok(Some(Report::new(now, items)))
-    }
-
-    // The clause `bounded` is for `flush`: no other clause says that array elements fit in 64 bits.
-    fn holds_nothing(&self) -> bool
-        ensures nothing { IsTrue result ↔ HoldsNothing (quantity_held self.now) }
-        ensures bounded { (category : Categories) (reason : Reasons) →
-            quantity_held self.now category reason < 2 ^ 64 }
-    {
-        are_zeros(&self.row)
-    }
-
-    #[tactic(auto, unfolding(crate::specs::Held::items_held))]
-    fn items(&self, alloc: Global) -> Result<Vec<Item>, AllocError>
-        ensures { IfOk result (λ items. items.items ≡ items_held (quantity_held self.now)) }
-    {
-        let mut items = Vec::new(alloc);
-        self.push_categories(&mut items, Category::VARIANTS)?;
-        Ok(items)
-    }
-
-    fn push_categories(
-        &self,
-        items: &mut Vec<Item>,
-        categories: &[Category],
-    ) -> Result<(), AllocError>
-        ensures { OnOk result (items.new.items ≡ items.old.items
-            ++ flat_map (items_of_category (quantity_held self.now)) categories.now) }
-    {
-        for category in categories {
-            self.push_category(items, *category)?;
-        }
-        Ok(())
-    }
-
-    #[tactic(auto, unfolding(crate::specs::Held::items_of_category))]
-    fn push_category(&self, items: &mut Vec<Item>, category: Category) -> Result<(), AllocError>
-        ensures { OnOk result (items.new.items ≡ items.old.items
-            ++ items_of_category (quantity_held self.now) category) }
-    {
-        self.push_reasons(items, category, Reason::VARIANTS)
-    }
-
-    fn push_reasons(
-        &self,
-        items: &mut Vec<Item>,
-        category: Category,
-        reasons: &[Reason],
-    ) -> Result<(), AllocError>
-        ensures { OnOk result (items.new.items ≡ items.old.items
-            ++ flat_map (items_of_pair (quantity_held self.now) category) reasons.now) }
-    {
-        for reason in reasons {
-            self.push_pair(items, category, *reason)?;
-        }
-        Ok(())
-    }
-
-    // Appends the item of a pair, unless its quantity is 0.
-    fn push_pair(
-        &self,
-        items: &mut Vec<Item>,
-        category: Category,
-        reason: Reason,
-    ) -> Result<(), AllocError>
-        ensures { OnOk result (items.new.items ≡ items.old.items
-            ++ items_of_pair (quantity_held self.now) category reason) }
-    {
-        let quantity = self.held(category, reason);
-        if quantity != 0 {
-            items.push(Item::new(category, reason, quantity))?;
-        }
-        Ok(())
     }
 }
 

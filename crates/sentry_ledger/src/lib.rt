@@ -1,8 +1,11 @@
-//! A ledger that holds losses until they are reported, and keeps each loss that it accepts.
+//! A ledger that holds losses until they are reported, and keeps each loss that it accepts; sums of
+//! losses.
 #![tactic(auto)]
 
+pub mod held_row;
 pub mod laws;
 pub mod ledger;
+pub mod loss_sums;
 pub mod recorded;
 pub mod steps;
 

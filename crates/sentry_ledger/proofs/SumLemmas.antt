@@ -1,0 +1,81 @@
+-- The sums of losses that are added one by one, and those of a filter that adds what it is handed.
+use Rattle.std.proofs.Common.{arith, ◌≡◌, ℕ, ◌+◌, ◌-◌, ◌^◌, ◌<◌, ◌≤◌, ◌≢◌, min, Bool, true, false, List, [], ◌∷◌, length, fold, get_or, ◌==◌, ◌⊎◌, inl, inr, refl, ap, sym, ◌∙◌, Option, get_or-set_same, get_or-set_other}
+use Rattle.std.specs.List.{filter_map}
+use Rattle.std.proofs.lemmas.List.{length-set, length-replicate, get_or-replicate}
+use Rattle.std.proofs.lemmas.List.Sums.{fold-append}
+use Rattle.std.proofs.lemmas.Bool.Decides.{eqb_tells}
+use Rattle.sentry_items.specs.Losses.{losses_of_item, losses_of_items}
+use Rattle.sentry_items.specs.declared.item.EnvelopeItem.{EnvelopeItem}
+use Rattle.sentry_reports.specs.Sums.{place, lost}
+use Rattle.sentry_reports.specs.declared.category.Category.{Category}
+use Rattle.sentry_reports.specs.declared.item_loss.ItemLoss.{ItemLoss}
+use Rattle.sentry_reports.specs.declared.reason.Reason.{Reason}
+use Rattle.sentry_reports.proofs.Sums.{share, place_below, share_here, share_elsewhere, lost-cons}
+use Rattle.sentry_envelope.specs.Filter.{Call, Ask, Hand, Run, calls, handed, item_of_hand}
+use Rattle.sentry_envelope.proofs.FilterLemmas.{Run-follows}
+use Rattle.sentry_ledger.specs.LossSums.{SumsLosses, add_loss, no_sums, sum_at}
+use Rattle.sentry_ledger.specs.declared.loss_sums.LossSums.{LossSums}
+
+-- what one more loss adds to a sum
+added : (c : Category) (r : Option Reason) (loss : ItemLoss) (sums : LossSums) → length sums.row ≡ 120 → sum_at sums c r ≤ 2 ^ 64 - 1
+    → sum_at (add_loss sums loss) c r ≡ min (sum_at sums c r + share c r loss) (2 ^ 64 - 1)
+added c r loss sums long small = go (eqb_tells (place c r) (place loss.category loss.reason))
+  where
+    go : (((place c r == place loss.category loss.reason) ≡ true) × (place c r ≡ place loss.category loss.reason)) ⊎ (((place c r == place loss.category loss.reason) ≡ false) × (place c r ≢ place loss.category loss.reason))
+        → sum_at (add_loss sums loss) c r ≡ min (sum_at sums c r + share c r loss) (2 ^ 64 - 1)
+    go (inl here) =
+        let within : place loss.category loss.reason < length sums.row = omega (arith, place_below loss.category loss.reason) in
+        rw (here.1, get_or-set_same, share_here c r loss (sym here.1)) refl
+    go (inr elsewhere) =
+        let other = elsewhere.1 in
+        rw (share_elsewhere c r loss other, get_or-set_other) (omega arith)
+
+cut : (m a x l t : ℕ) → t ≡ x + l → min (min (a + x) m + l) m ≡ min (a + t) m
+cut m a x l t e = omega arith
+
+summed : (losses : List ItemLoss) (sums : LossSums) (c : Category) (r : Option Reason) → length sums.row ≡ 120 → sum_at sums c r ≤ 2 ^ 64 - 1
+    → sum_at (fold add_loss sums losses) c r ≡ min (sum_at sums c r + lost c r losses) (2 ^ 64 - 1)
+summed [] sums c r long small = omega arith
+summed (loss ∷ losses) sums c r long small =
+    let one = added c r loss sums long small in
+    let rest = summed losses (add_loss sums loss) c r (length-set sums.row _ _ ∙ long) (rw one (omega arith)) in
+    rest ∙ rw one (cut (2 ^ 64 - 1) (sum_at sums c r) (share c r loss) (lost c r losses) (lost c r (loss ∷ losses)) (lost-cons c r loss losses))
+
+long_summed : (losses : List ItemLoss) (sums : LossSums) → length (fold add_loss sums losses).row ≡ length sums.row
+long_summed [] sums = refl
+long_summed (loss ∷ losses) sums = long_summed losses (add_loss sums loss) ∙ length-set sums.row _ _
+
+-- from nothing, each sum is that of the losses
+pub sums_losses : (sums : LossSums) (losses : List ItemLoss) → sums.row ≡ no_sums → SumsLosses (fold add_loss sums losses) losses
+sums_losses sums losses none =
+    let long : length sums.row ≡ 120 = ap length none ∙ length-replicate {A = ℕ} 120 0 in
+    let start : (c : Category) (r : Option Reason) → sum_at sums c r ≡ 0 =
+    λ c r. ap (λ (row : List ℕ). get_or row (place c r) 0) none ∙ get_or-replicate 120 (place c r) 0 0 (place_below c r) in
+    record {
+      long = long_summed losses sums ∙ long;
+      each = λ c r. summed losses sums c r long (omega (arith, start c r)) ∙ omega (arith, start c r);
+    }
+
+-- ---- filters
+
+-- the sums after a call
+abbrev after : LossSums → Call → LossSums
+after sums (Ask item answer) = sums
+after sums (Hand item) = fold add_loss sums (losses_of_item item)
+
+after_all : (made : List Call) (sums : LossSums) → fold after sums made ≡ fold add_loss sums (losses_of_items (filter_map item_of_hand made))
+after_all [] sums = refl
+after_all (Ask item answer ∷ made) sums = after_all made sums
+after_all (Hand item ∷ made) sums = after_all made (fold add_loss sums (losses_of_item item)) ∙ sym (fold-append add_loss sums (losses_of_item item) (losses_of_items (filter_map item_of_hand made)))
+
+-- a filter with sums in it, which are unchanged by an ask, and to which each hand adds the losses of its item
+module _ {F : Type 0} (ask : F → EnvelopeItem → Bool → F → Type 0) (hand : F → EnvelopeItem → F → Type 0) (sums_in : F → LossSums)
+    (on_ask : (first : F) (item : EnvelopeItem) (answer : Bool) (next : F) → ask first item answer next → sums_in next ≡ sums_in first)
+    (on_hand : (first : F) (item : EnvelopeItem) (next : F) → hand first item next → sums_in next ≡ fold add_loss (sums_in first) (losses_of_item item)) where
+  -- the sums after a run, from nothing, are those of what was handed over
+  pub sums_of_run : (items : List EnvelopeItem) (answers : List Bool) (first last : F) → (sums_in first).row ≡ no_sums → Run ask hand first (calls items answers) last
+      → SumsLosses (sums_in last) (losses_of_items (handed items answers))
+  sums_of_run items answers first last none run =
+      let all : sums_in last ≡ fold add_loss (sums_in first) (losses_of_items (handed items answers)) =
+      Run-follows ask hand sums_in after on_ask on_hand first (calls items answers) last run ∙ after_all (calls items answers) (sums_in first) in
+      rw all (sums_losses (sums_in first) (losses_of_items (handed items answers)) none)
