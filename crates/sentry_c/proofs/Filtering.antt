@@ -1,27 +1,23 @@
 -- What is left of an envelope, and what is lost, where a filter answers by bits and sums losses.
-use Rattle.std.proofs.Common.{◌≡◌, ℕ, Bool, true, false, List, [], ◌∷◌, ◌++◌, length, map, fold, replicate, Option, Some, None, refl, ap, sym, ◌∙◌, subst}
-use Rattle.std.specs.List.{filter_map}
+use Rattle.std.proofs.Common.{◌≡◌, ℕ, Bool, true, false, List, [], ◌∷◌, ◌++◌, length, map, Option, Some, None, refl, ap, ◌∙◌, subst}
 use Rattle.std.specs.Option.{IsSomeAnd, MatchOption}
-use Rattle.std.proofs.lemmas.List.{length-replicate}
-use Rattle.std.proofs.lemmas.List.Sums.{fold-append}
 use Rattle.sentry_tables.specs.Cell.{Cell}
-use Rattle.sentry_items.specs.Losses.{losses_of_item, losses_of_items}
 use Rattle.sentry_items.specs.declared.item.EnvelopeItem.{EnvelopeItem}
 use Rattle.sentry_envelope.specs.Envelope.{Spells, envelope_text}
 use Rattle.sentry_envelope.specs.EnvelopeView.{items as held_items, held_in, item_view, header_of, structured, structured_by, text_by, text_of}
-use Rattle.sentry_envelope.specs.Filter.{Call, Ask, Hand, Run, asks, calls, chosen, first_id_of, handed, item_of_hand, kept, orphans, asked_in, structured_in, FiltersEnvelope, LeavesOf}
+use Rattle.sentry_envelope.specs.Filter.{Call, Hand, Run, asks, calls, chosen, first_id_of, handed, kept, orphans, asked_in, structured_in, FiltersEnvelope, LeavesOf}
 use Rattle.sentry_envelope.specs.HeaderFields.{put_id}
 use Rattle.sentry_envelope.specs.SentryProfile.{profile}
 use Rattle.sentry_envelope.specs.declared.envelope.Contents.{Contents}
 use Rattle.sentry_envelope.specs.declared.envelope.Contents.TheVariants.{Items, Raw}
 use Rattle.sentry_envelope.specs.declared.envelope.Envelope.{Envelope}
-use Rattle.sentry_envelope.proofs.FilterLemmas.{Run-follows}
-use Rattle.sentry_c.specs.Envelopes.{IsLeft, Leaves, LeavesNothing, header_left, left_model, model}
+use Rattle.sentry_ledger.specs.LossSums.{no_sums}
+use Rattle.sentry_ledger.proofs.SumLemmas.{sums_of_run}
+use Rattle.sentry_c.specs.Envelopes.{IsLeft, Leaves, LeavesNothing, header_left, left_model}
 use Rattle.sentry_c.specs.Filtering.{AddsLosses, AnswersByBits}
 use Rattle.sentry_c.specs.Kinds.{answers, is_wanted}
-use Rattle.sentry_c.specs.Losses.{SumsLosses, add_to}
+use Rattle.sentry_c.specs.Losses.{SumsLosses}
 use Rattle.sentry_c.specs.declared.filter.KindFilter.{KindFilter}
-use Rattle.sentry_c.proofs.SumsOfLosses.{length_summed, shown_sums}
 
 -- the answers of a run are those of the bits
 answers_are : (kinds : ℕ) (keep : Bool) (items : List EnvelopeItem) (given : List Bool) (rest : List Call) (first last : KindFilter) → length given ≡ length items → first.kinds ≡ kinds → first.keep ≡ keep
@@ -38,27 +34,12 @@ answers_are kinds keep (item ∷ items) (false ∷ given) rest first last same i
     let one : false ≡ is_wanted kinds keep item = rw (is, is') at run.1.1 in
     cc
 
--- the sums after a call
-abbrev summed : List ℕ → Call → List ℕ
-summed sums (Ask item answer) = sums
-summed sums (Hand item) = fold add_to sums (losses_of_item item)
-
-summed_all : (calls : List Call) (sums : List ℕ) → fold summed sums calls ≡ fold add_to sums (losses_of_items (filter_map item_of_hand calls))
-summed_all [] sums = refl
-summed_all (Ask item answer ∷ calls) sums = summed_all calls sums
-summed_all (Hand item ∷ calls) sums = summed_all calls (fold add_to sums (losses_of_item item)) ∙ sym (fold-append add_to sums (losses_of_item item) (losses_of_items (filter_map item_of_hand calls)))
-
 -- the sums after a run are those of what was handed over
-sums_of_run : (items : List EnvelopeItem) (given : List Bool) (first last : KindFilter) → first.sums ≡ replicate 120 0 → Run AnswersByBits AddsLosses first (calls items given) last
-    → SumsLosses last.sums (handed items given)
-sums_of_run items given first last none run =
-    let sums = Run-follows AnswersByBits AddsLosses (λ f. f.sums) summed (λ f item next answer asked. ap (λ (s : KindFilter). s.sums) asked.0) (λ f item next gave. ap (λ (s : KindFilter). s.sums) gave) first (calls items given) last run in
-    let all : last.sums ≡ fold add_to (replicate {A = ℕ} 120 0) (losses_of_items (handed items given)) =
-    sums ∙ (summed_all (calls items given) first.sums ∙ ap (λ row. fold add_to row (losses_of_items (handed items given))) none) in
-    record {
-      long = ap length all ∙ (length_summed (losses_of_items (handed items given)) (replicate {A = ℕ} 120 0) ∙ length-replicate {A = ℕ} 120 0);
-      each = λ category reason. rw all (shown_sums (losses_of_items (handed items given)) category reason);
-    }
+sums_after : (items : List EnvelopeItem) (given : List Bool) (first last : KindFilter) → first.sums.row ≡ no_sums → Run AnswersByBits AddsLosses first (calls items given) last
+    → SumsLosses last.sums.row (handed items given)
+sums_after items given first last none run =
+    let sums = sums_of_run AnswersByBits AddsLosses (λ f. f.sums) (λ f item answer next asked. ap (λ (s : KindFilter). s.sums) asked.0) (λ f item next gave. ap (λ (s : KindFilter). s.sums) gave) items given first last none run in
+    record { long = sums.long; each = sums.each }
 
 -- ---- what is left
 
@@ -86,8 +67,8 @@ module _ (bytes : List ℕ) (now : Cell) (kinds : ℕ) (keep keep_headers : Bool
   answer header (Raw b) envelope items (item ∷ rest) left has leaves is = cc
 
 pub left_of : (bytes : List ℕ) (now : Cell) (keep_headers : Bool) (envelope : Envelope) (first last : KindFilter) (left : Option Envelope) → IsSomeAnd (structured envelope) (Spells profile bytes now)
-    → first.sums ≡ replicate 120 0 → FiltersEnvelope (header_left keep_headers (header_of envelope)) AnswersByBits AddsLosses envelope first last left
-    → MatchOption left (LeavesNothing bytes now first.kinds first.keep keep_headers last.sums) (λ e. IsLeft bytes now first.kinds first.keep keep_headers last.sums (text_of e))
+    → first.sums.row ≡ no_sums → FiltersEnvelope (header_left keep_headers (header_of envelope)) AnswersByBits AddsLosses envelope first last left
+    → MatchOption left (LeavesNothing bytes now first.kinds first.keep keep_headers last.sums.row) (λ e. IsLeft bytes now first.kinds first.keep keep_headers last.sums.row (text_of e))
 left_of bytes now keep_headers envelope first last left spelled none filtered =
     go envelope.contents spelled filtered.filters.answers filtered.filters.complete filtered.filters.run filtered.left filtered.filters.left_is filtered.leaves
   where
@@ -96,13 +77,13 @@ left_of bytes now keep_headers envelope first last left spelled none filtered =
 
     go : (contents : Contents) → IsSomeAnd (structured_by header (held_in contents)) (Spells profile bytes now) → (given : List Bool) → length given ≡ length (asked_in contents)
         → Run AnswersByBits AddsLosses first (calls (asked_in contents) given) last → (kept_items : List EnvelopeItem) → kept_items ≡ kept (chosen (asked_in contents) given)
-        → LeavesOf contents (header_left keep_headers header) envelope kept_items left → Answer bytes now first.kinds first.keep keep_headers last.sums left
+        → LeavesOf contents (header_left keep_headers header) envelope kept_items left → Answer bytes now first.kinds first.keep keep_headers last.sums.row left
     go (Raw b) spelled given complete run kept_items is leaves = absurd spelled
     go (Items all) spelled given complete run kept_items is leaves =
         let are : given ≡ answers first.kinds first.keep all.items = answers_are first.kinds first.keep all.items given (map Hand (orphans (chosen all.items given))) first last complete refl refl run in
-        let lost : SumsLosses last.sums (handed all.items (answers first.kinds first.keep all.items)) =
-        subst (λ (g : List Bool). SumsLosses last.sums (handed all.items g)) are (sums_of_run all.items given first last none run) in
-        answer bytes now first.kinds first.keep keep_headers last.sums (header_left keep_headers header) (Items all) envelope all.items kept_items left refl
+        let lost : SumsLosses last.sums.row (handed all.items (answers first.kinds first.keep all.items)) =
+        subst (λ (g : List Bool). SumsLosses last.sums.row (handed all.items g)) are (sums_after all.items given first last none run) in
+        answer bytes now first.kinds first.keep keep_headers last.sums.row (header_left keep_headers header) (Items all) envelope all.items kept_items left refl
         (record {
           whole = header;
           items = all.items;

@@ -3,5 +3,4 @@ pub mod Placed
 pub mod Rows
 pub mod Parts
 pub mod Envelopes
-pub mod SumsOfLosses
 pub mod Filtering

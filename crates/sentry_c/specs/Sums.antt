@@ -1,20 +1,14 @@
 -- A ledger in one row of sums.
-use Rattle.std.specs.Prelude.{◌≡◌, ◌<◌, ◌^◌, ℕ, List, slice_index}
+use Rattle.std.specs.Prelude.{◌≡◌, ℕ, List}
 use Rattle.sentry_envelope.specs.Envelope.{envelope_text}
 use Rattle.sentry_envelope.specs.EnvelopeView.{empty, item_view, with_item}
 use Rattle.sentry_envelope.specs.SentryProfile.{profile}
 use Rattle.sentry_items.specs.declared.item.EnvelopeItem.TheVariants as items
 use Rattle.sentry_ledger.specs.Held.{Quantities, items_held}
-use Rattle.sentry_moments.specs.declared.moment.Moment.{Moment}
 use Rattle.sentry_reports.specs.Categories.{category_index, reason_index}
-use Rattle.sentry_reports.specs.ReportSums.{pair_place}
 use Rattle.sentry_reports.specs.declared.category.Category.{Category}
 use Rattle.sentry_reports.specs.declared.reason.Reason.{Reason}
 use Rattle.sentry_reports.specs.declared.report.Report.{Report}
-
--- what the row holds of a pair
-abbrev pub held_in : List ℕ → Quantities
-held_in row category reason = slice_index row (pair_place category reason)
 
 -- the numbers of a pair: its category and its reason by their places in order
 pub record IsPair (category_number reason_number : ℕ) (category : Category) (reason : Reason) : Type 0 where

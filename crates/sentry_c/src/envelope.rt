@@ -1,6 +1,6 @@
 //! Parsing, normalizing and filtering envelopes.
 
-ghost use Rattle.std.specs.Prelude.{◌≡◌, ◌≢◌, ◌⊎◌, ◌^◌, ◌<◌, ◌≤◌, IfErr, IfOk, IsSomeAnd, MatchOption, OnOk, length, replicate};
+ghost use Rattle.std.specs.Prelude.{◌≡◌, ◌≢◌, ◌⊎◌, ◌^◌, ◌<◌, ◌≤◌, IfErr, IfOk, IsSomeAnd, MatchOption, OnOk, length};
 ghost use Rattle.sentry_framing.specs.declared.error.EnvelopeError.{EnvelopeError as Refusal};
 ghost use Rattle.sentry_framing.specs.declared.error.EnvelopeError.TheVariants as refusals;
 ghost use Rattle.sentry_tables.specs.Cell.{moment};
@@ -10,16 +10,17 @@ ghost use Rattle.sentry_envelope.specs.EnvelopeFault.{Fault};
 ghost use Rattle.sentry_envelope.specs.EnvelopeView.{header_of, structured, text_of};
 ghost use Rattle.sentry_envelope.specs.Filter.{FiltersEnvelope};
 ghost use Rattle.sentry_envelope.specs.SentryProfile.{profile};
+ghost use Rattle.sentry_ledger.specs.LossSums.{no_sums};
 ghost use Rattle.sentry_c.specs.Envelopes.{IsLeft, IsNormalForm, IsSpelled, LeavesNothing, header_left};
 ghost use Rattle.sentry_c.specs.Output.{IsTooLong, Puts};
 ghost use Rattle.sentry_c.specs.Statuses.{refusal_status};
 
 use crate::filter::{KindFilter, are_kinds};
-use crate::losses::SUMS;
 use crate::output::deliver;
 use crate::status::{INVALID_ARGUMENT, NO_MOMENT, NO_ROOM, NOTHING_LEFT, OK, of_refusal};
 use rand_core::SeedableRng;
 use rand_pcg::Pcg32;
+use sentry_ledger::loss_sums::SUMS;
 use sentry_types::protocol::v7::{Envelope, EnvelopeError, EnvelopeFilter, Moment};
 use std::alloc::{AllocError, Global};
 
@@ -161,12 +162,12 @@ fn read_left(
     keep_headers: bool,
     filter: &mut KindFilter,
 ) -> Result<Option<Envelope>, EnvelopeError>
-    requires { filter.old.sums ≡ replicate 120 0 }
+    requires { filter.old.sums.row ≡ no_sums }
     ensures left { IfOk result (λ left. MatchOption left
         (LeavesNothing bytes.now (moment_cell now)
-        filter.old.kinds filter.old.keep keep_headers filter.new.sums)
+        filter.old.kinds filter.old.keep keep_headers filter.new.sums.row)
         (λ e. IsLeft bytes.now (moment_cell now)
-        filter.old.kinds filter.old.keep keep_headers filter.new.sums (text_of e))) }
+        filter.old.kinds filter.old.keep keep_headers filter.new.sums.row (text_of e))) }
     ensures fault { IfErr result (λ x. x ≢ EnvelopeError.OutOfMemory → Fault profile bytes.now x) }
 {
     let envelope = read(alloc, bytes, now, seed)?;
@@ -185,12 +186,12 @@ fn text_left(
     keep_headers: bool,
     filter: &mut KindFilter,
 ) -> Result<Option<Vec<u8>>, EnvelopeError>
-    requires { filter.old.sums ≡ replicate 120 0 }
+    requires { filter.old.sums.row ≡ no_sums }
     ensures left { IfOk result (λ left. MatchOption left
         (LeavesNothing bytes.now (moment_cell now)
-        filter.old.kinds filter.old.keep keep_headers filter.new.sums)
+        filter.old.kinds filter.old.keep keep_headers filter.new.sums.row)
         (λ text. IsLeft bytes.now (moment_cell now)
-        filter.old.kinds filter.old.keep keep_headers filter.new.sums text.items)) }
+        filter.old.kinds filter.old.keep keep_headers filter.new.sums.row text.items)) }
     ensures fault { IfErr result (λ x. x ≢ EnvelopeError.OutOfMemory → Fault profile bytes.now x) }
 {
     let Some(left) = read_left(alloc, bytes, now, seed, keep_headers, filter)? else {

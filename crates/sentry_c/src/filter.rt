@@ -1,10 +1,11 @@
 //! The filter of items by their type.
 
-ghost use Rattle.std.specs.Prelude.{◌≡◌, ◌^◌, ◌<◌, ◌↔◌, IsTrue, replicate};
+ghost use Rattle.std.specs.Prelude.{◌≡◌, ◌^◌, ◌<◌, ◌↔◌, IsTrue};
+ghost use Rattle.sentry_ledger.specs.LossSums.{no_sums};
 ghost use Rattle.sentry_c.specs.Kinds.{is_listed, kind_bit};
 
 use crate::frames::number_of;
-use crate::losses::{SUMS, add_item};
+use sentry_ledger::loss_sums::LossSums;
 use sentry_types::protocol::v7::{EnvelopeFilter, EnvelopeItem, ItemKind};
 
 // A bit for each item type.
@@ -38,7 +39,7 @@ fn is_listed(kinds: u32, item: &EnvelopeItem) -> bool
 pub struct KindFilter {
     pub(crate) kinds: u32,
     pub(crate) keep: bool,
-    pub(crate) sums: [u64; SUMS],
+    pub(crate) sums: LossSums,
 }
 
 impl KindFilter {
@@ -46,20 +47,20 @@ impl KindFilter {
     pub fn new(kinds: u32, keep: bool) -> KindFilter
         ensures kinds { result.kinds ≡ kinds }
         ensures keep { result.keep ≡ keep }
-        ensures nothing_lost { result.sums ≡ replicate 120 0 }
+        ensures nothing_lost { result.sums.row ≡ no_sums }
     {
         KindFilter {
             kinds,
             keep,
-            sums: [0; SUMS],
+            sums: LossSums::new(),
         }
     }
 
     /// Returns the sums of what was lost with removed items.
     pub fn sums(&self) -> &[u64]
-        ensures { result.now ≡ self.now.sums }
+        ensures { result.now ≡ self.now.sums.row }
     {
-        &self.sums
+        self.sums.as_slice()
     }
 }
 
@@ -82,6 +83,6 @@ impl EnvelopeFilter for KindFilter {
     }
 
     fn on_filtered(&mut self, item: EnvelopeItem) {
-        add_item(&mut self.sums, &item);
+        self.sums.add_item(&item);
     }
 }

@@ -1,24 +1,24 @@
 //! A ledger of losses in the caller's memory.
 
-ghost use Rattle.std.specs.Prelude.{◌≡◌, ◌≢◌, ◌⊎◌, ◌+◌, ◌-◌, ◌^◌, ◌<◌, ◌≤◌, ◌++◌, ◌↔◌, ℕ, List, EachIndex, IfSome, IfNone, IfOk, IsTrue, OnOk, length, replicate, slice_get, slice_index, slice_set};
-ghost use Rattle.std.specs.List.{flat_map};
+ghost use Rattle.std.specs.Prelude.{◌≡◌, ◌≢◌, ◌⊎◌, ◌+◌, ◌-◌, ◌^◌, ◌<◌, ◌≤◌, IfSome, IfNone, IfOk, length, replicate, slice_get, slice_set};
 ghost use Rattle.sentry_reports.specs.Categories.{categories, reasons};
 ghost use Rattle.sentry_reports.specs.ReportSums.{pair_place};
 ghost use Rattle.sentry_reports.specs.declared.category.Category.{Category as Categories};
 ghost use Rattle.sentry_reports.specs.declared.reason.Reason.{Reason as Reasons};
-ghost use Rattle.sentry_ledger.specs.Held.{HoldsNothing, items_held, items_of_category, items_of_pair};
+ghost use Rattle.sentry_ledger.specs.Held.{HoldsNothing, held_in};
 ghost use Rattle.sentry_tables.specs.Cell.{moment};
 ghost use Rattle.sentry_c.specs.Output.{IsTooLong, Puts};
-ghost use Rattle.sentry_c.specs.Sums.{HasPair, IsPair, IsReportText, held_in};
+ghost use Rattle.sentry_c.specs.Sums.{HasPair, IsPair, IsReportText};
 
 use crate::envelope::text_of;
 use crate::output::deliver;
 use crate::status::{
     INVALID_ARGUMENT, LEDGER_FULL, NO_MOMENT, NO_ROOM, NOTHING_LEFT, OK, OUT_OF_MEMORY,
 };
+use sentry_ledger::held_row::{holds_nothing, report_items};
 use sentry_reports::kept_sums::{SUMS, pair_place};
 use sentry_types::IndexedEnum;
-use sentry_types::protocol::v7::client_report::{Category, Item, Reason, Report};
+use sentry_types::protocol::v7::client_report::{Category, Reason, Report};
 use sentry_types::protocol::v7::{Envelope, EnvelopeItem, Moment};
 use std::alloc::{AllocError, Global};
 
@@ -119,91 +119,6 @@ pub extern "C" fn sentry_ledger_held(
     };
     *quantity = ledger[place];
     OK
-}
-
-fn are_zeros(quantities: &[u64]) -> bool
-    ensures { IsTrue result ↔ EachIndex quantities.now (λ k. slice_index quantities.now k ≡ 0) }
-{
-    quantities.iter().all(|quantity| *quantity == 0)
-}
-
-fn holds_nothing(ledger: &[u64]) -> bool
-    requires { length ledger.now ≡ 108 }
-    ensures { IsTrue result ↔ HoldsNothing (held_in ledger.now) }
-{
-    are_zeros(ledger)
-}
-
-// Appends the item of a pair, unless its quantity is 0.
-fn push_pair(
-    items: &mut Vec<Item>,
-    ledger: &[u64],
-    category: Category,
-    reason: Reason,
-) -> Result<(), AllocError>
-    requires { length ledger.now ≡ 108 }
-    ensures { OnOk result (items.new.items ≡ items.old.items
-        ++ items_of_pair (held_in ledger.now) category reason) }
-{
-    let quantity = ledger[pair_place(category, reason)];
-    if quantity != 0 {
-        items.push(Item::new(category, reason, quantity))?;
-    }
-    Ok(())
-}
-
-fn push_reasons(
-    items: &mut Vec<Item>,
-    ledger: &[u64],
-    category: Category,
-    reasons: &[Reason],
-) -> Result<(), AllocError>
-    requires { length ledger.now ≡ 108 }
-    ensures { OnOk result (items.new.items ≡ items.old.items
-        ++ flat_map (items_of_pair (held_in ledger.now) category) reasons.now) }
-{
-    for reason in reasons {
-        push_pair(items, ledger, category, *reason)?;
-    }
-    Ok(())
-}
-
-#[tactic(auto, unfolding(sentry_ledger::specs::Held::items_of_category))]
-fn push_category(
-    items: &mut Vec<Item>,
-    ledger: &[u64],
-    category: Category,
-) -> Result<(), AllocError>
-    requires { length ledger.now ≡ 108 }
-    ensures { OnOk result (items.new.items ≡ items.old.items
-        ++ items_of_category (held_in ledger.now) category) }
-{
-    push_reasons(items, ledger, category, Reason::VARIANTS)
-}
-
-fn push_categories(
-    items: &mut Vec<Item>,
-    ledger: &[u64],
-    categories: &[Category],
-) -> Result<(), AllocError>
-    requires { length ledger.now ≡ 108 }
-    ensures { OnOk result (items.new.items ≡ items.old.items
-        ++ flat_map (items_of_category (held_in ledger.now)) categories.now) }
-{
-    for category in categories {
-        push_category(items, ledger, *category)?;
-    }
-    Ok(())
-}
-
-#[tactic(auto, unfolding(sentry_ledger::specs::Held::items_held))]
-fn report_items(alloc: Global, ledger: &[u64]) -> Result<Vec<Item>, AllocError>
-    requires { length ledger.now ≡ 108 }
-    ensures { IfOk result (λ items. items.items ≡ items_held (held_in ledger.now)) }
-{
-    let mut items = Vec::new(alloc);
-    push_categories(&mut items, ledger, Category::VARIANTS)?;
-    Ok(items)
 }
 
 // Returns the text of an envelope whose one item is the report of a ledger.

@@ -8,7 +8,6 @@ pub mod envelope;
 mod filter;
 pub mod frames;
 pub mod ledger;
-mod losses;
 mod output;
 pub mod status;
 #[cfg(test)]

@@ -1,5 +1,4 @@
 pub mod CallLemmas
-pub mod SumLemmas
 pub mod LossLemmas
 pub mod RunLemmas
 pub mod PlainLemmas

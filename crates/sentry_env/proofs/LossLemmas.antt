@@ -1,27 +1,23 @@
 -- What is left of an envelope, and what is lost, where a filter refuses kinds and sums losses.
-use Rattle.std.proofs.Common.{◌≡◌, ℕ, Bool, true, false, List, [], ◌∷◌, ◌++◌, length, map, fold, ◌==◌, Option, Some, None, refl, ap, sym, ◌∙◌}
-use Rattle.std.specs.List.{filter_map}
+use Rattle.std.proofs.Common.{◌≡◌, ℕ, Bool, true, false, List, [], ◌∷◌, ◌++◌, length, map, ◌==◌, Option, Some, None, refl, ap, ◌∙◌}
 use Rattle.std.specs.Option.{IsSomeAnd}
-use Rattle.std.proofs.lemmas.List.Sums.{fold-append}
 use Rattle.sentry_tables.specs.Cell.{Cell}
-use Rattle.sentry_items.specs.Losses.{losses_of_item, losses_of_items}
+use Rattle.sentry_items.specs.Losses.{losses_of_items}
 use Rattle.sentry_items.specs.declared.item.EnvelopeItem.{EnvelopeItem}
 use Rattle.sentry_envelope.specs.Envelope.{Envelope as Model}
 use Rattle.sentry_envelope.specs.EnvelopeView.{items as held_items, held_in, item_view, header_of, structured, structured_by, text_by}
-use Rattle.sentry_envelope.specs.Filter.{Call, Ask, Hand, Run, asks, calls, chosen, orphans, handed, item_of_hand, asked_in, structured_in, FiltersEnvelope, LeavesOf}
+use Rattle.sentry_envelope.specs.Filter.{Call, Hand, Run, asks, calls, chosen, orphans, handed, asked_in, structured_in, FiltersEnvelope, LeavesOf}
 use Rattle.sentry_envelope.specs.declared.envelope.Contents.{Contents}
 use Rattle.sentry_envelope.specs.declared.envelope.Contents.TheVariants.{Items, Raw}
 use Rattle.sentry_envelope.specs.declared.envelope.Envelope.{Envelope}
-use Rattle.sentry_envelope.proofs.FilterLemmas.{Run-follows}
+use Rattle.sentry_ledger.specs.LossSums.{no_sums, sum_at}
+use Rattle.sentry_ledger.proofs.SumLemmas.{sums_of_run}
 use Rattle.sentry_env.specs.Listed.{AnswersFor}
 use Rattle.sentry_env.specs.Losing.{AnswersByKind, AddsLosses}
 use Rattle.sentry_env.specs.Run.{IsDue, header_left, kept_text, left_text, left_outcome, model, outcome_of}
-use Rattle.sentry_env.specs.Sums.{add_loss, no_sums, sum_at}
 use Rattle.sentry_env.specs.Table.{table_by, table_of}
 use Rattle.sentry_framing.specs.declared.kind.ItemKind.{ItemKind}
 use Rattle.sentry_env.specs.declared.loss_filter.LossFilter.{LossFilter}
-use Rattle.sentry_env.specs.declared.losses.LossSums.{LossSums}
-use Rattle.sentry_env.proofs.SumLemmas.{table_is}
 
 -- each answer is what the kinds say
 answers_by_kind : (kinds : List ItemKind) (items : List EnvelopeItem) (answers : List Bool) (rest : List Call) (first last : LossFilter) → length answers ≡ length items → first.kinds.now ≡ kinds
@@ -34,22 +30,13 @@ answers_by_kind kinds (item ∷ items) (true ∷ answers) rest first last same i
 answers_by_kind kinds (item ∷ items) (false ∷ answers) rest first last same is run =
     (rw is at run.1.1, answers_by_kind kinds items answers rest run.2.0 last (cc) (rw (run.2.1, run.1.0) is) run.2.2)
 
--- the sums after a call
-abbrev summed : LossSums → Call → LossSums
-summed sums (Ask item answer) = sums
-summed sums (Hand item) = fold add_loss sums (losses_of_item item)
-
-summed_all : (calls : List Call) (sums : LossSums) → fold summed sums calls ≡ fold add_loss sums (losses_of_items (filter_map item_of_hand calls))
-summed_all [] sums = refl
-summed_all (Ask item answer ∷ calls) sums = summed_all calls sums
-summed_all (Hand item ∷ calls) sums = summed_all calls (fold add_loss sums (losses_of_item item)) ∙ sym (fold-append add_loss sums (losses_of_item item) (losses_of_items (filter_map item_of_hand calls)))
-
 -- the table after a run of the filter is that of what was handed over
 table_of_run : (items : List EnvelopeItem) (answers : List Bool) (first last : LossFilter) → first.sums.row ≡ no_sums → Run AnswersByKind AddsLosses first (calls items answers) last
     → table_by (sum_at last.sums) ≡ table_of (losses_of_items (handed items answers))
+unfolding table_of
 table_of_run items answers first last none run =
-    let sums = Run-follows AnswersByKind AddsLosses (λ f. f.sums) summed (λ f item answer next asked. ap (λ (s : LossFilter). s.sums) asked.0) (λ f item next given. ap (λ (s : LossFilter). s.sums) given) first (calls items answers) last run in
-    table_is (losses_of_items (handed items answers)) first.sums last.sums none (sums ∙ summed_all (calls items answers) first.sums)
+    let sums = sums_of_run AnswersByKind AddsLosses (λ f. f.sums) (λ f item answer next asked. ap (λ (s : LossFilter). s.sums) asked.0) (λ f item next given. ap (λ (s : LossFilter). s.sums) given) items answers first last none run in
+    ap table_by (λ i. λ c r. sums.each c r i)
 
 -- ---- what is left
 

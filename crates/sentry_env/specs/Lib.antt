@@ -4,5 +4,4 @@ pub mod Listed
 pub mod Losing
 pub mod Reading
 pub mod Run
-pub mod Sums
 pub mod Table

@@ -2,8 +2,8 @@
 use Rattle.std.specs.Prelude.{◌≡◌, ◌↔◌, Bool, false, fold}
 use Rattle.sentry_items.specs.Losses.{losses_of_item}
 use Rattle.sentry_items.specs.declared.item.EnvelopeItem.{EnvelopeItem}
+use Rattle.sentry_ledger.specs.LossSums.{add_loss}
 use Rattle.sentry_env.specs.Listed.{IsOfKinds}
-use Rattle.sentry_env.specs.Sums.{add_loss}
 use Rattle.sentry_env.specs.declared.loss_filter.LossFilter.{LossFilter}
 
 -- it refuses exactly the items of its kinds, and stays as it is

@@ -4,7 +4,8 @@ ghost use Rattle.std.specs.Prelude.{◌≡◌, ◌↔◌, IsTrue};
 ghost use Rattle.sentry_env.specs.Listed.{IsOfKinds};
 
 use crate::Kind;
-use crate::losses::LossSums;
+use crate::losses::table;
+use sentry_ledger::loss_sums::LossSums;
 use sentry_types::protocol::v7::{EnvelopeFilter, EnvelopeItem};
 use std::alloc::{AllocError, Global};
 
@@ -26,7 +27,7 @@ fn is_of_kinds(item: &EnvelopeItem, kinds: &[Kind]) -> bool
 
 impl<'a> LossFilter<'a> {
     ghost use Rattle.std.specs.Prelude.{◌≡◌, IfOk, string_bytes};
-    ghost use Rattle.sentry_env.specs.Sums.{no_sums, sum_at};
+    ghost use Rattle.sentry_ledger.specs.LossSums.{no_sums, sum_at};
     ghost use Rattle.sentry_env.specs.Table.{table_by};
 
     /// Creates a filter that removes items of these types.
@@ -44,7 +45,7 @@ impl<'a> LossFilter<'a> {
     pub fn table(&self, alloc: Global) -> Result<String, AllocError>
         ensures { IfOk result (λ text. string_bytes text ≡ table_by (sum_at self.now.sums)) }
     {
-        self.sums.table(alloc)
+        table(alloc, &self.sums)
     }
 }
 

@@ -3,8 +3,9 @@
 use crate::Kind;
 use crate::clock::{moment_after, seed_at, time_since_1970};
 use crate::ending::ending;
-use crate::losses::LossSums;
+use crate::losses::table;
 use crate::runs::{INPUT, REWRITTEN, Ran, run_on};
+use sentry_ledger::loss_sums::LossSums;
 use sentry_types::protocol::v7::Moment;
 use sentry_types::protocol::v7::client_report::{Category, ItemLoss, Reason};
 use std::alloc::{AllocError, Global};
@@ -366,13 +367,13 @@ fn a_table_of_losses(rt: HostRuntime) -> Result<(), AllocError> {
     ];
     let mut sums = LossSums::new();
     for (category, quantity, reason) in rows {
-        sums.add(&ItemLoss {
+        sums.add(ItemLoss {
             category,
             quantity,
             reason,
         });
     }
-    let table = sums.table(rt.alloc())?;
+    let table = table(rt.alloc(), &sums)?;
     assert!(rt; table.as_str() == TABLE);
     Ok(())
 }
