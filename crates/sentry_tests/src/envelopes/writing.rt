@@ -90,7 +90,7 @@ fn is_cut_at_parts(alloc: Global, envelope: &Envelope) -> bool {
     };
     let file = BEFORE.len();
     let recording = file + 65_536 + BETWEEN.len();
-    let end = text.len();
+    let end = recording + 65_537 + BEHIND.len();
     for room in [
         0,
         file - 1,
