@@ -1,8 +1,8 @@
 //! What is left of a line.
 
-ghost use Rattle.std.specs.Prelude.{◌≡◌, ◌<◌, ◌≤◌, ◌++◌, ◌∷◌, IfSome, IsUtf8, true, length, take};
+ghost use Rattle.std.specs.Prelude.{◌≡◌, ◌<◌, ◌≤◌, ◌++◌, ◌∷◌, ℕ, IfSome, IsUtf8, List, true, length, take};
 ghost use Rattle.sentry_tape.specs.PlainTexts.{is_plain_text};
-ghost use Rattle.sentry_tape.specs.Spelled.{IsBehind, IsSpaced};
+ghost use Rattle.sentry_tape.specs.Spelled.{IsBehind, IsQuoted, IsSpaced};
 
 use crate::run::run_len;
 use std::str;
@@ -130,6 +130,18 @@ impl<'a> Rest<'a> {
             )
         };
         (run, Rest { text })
+    }
+
+    /// Splits off a string without escapes, whose quotes are left out; `None` if none stands there.
+    #[inline(always)]
+    pub fn split_plain(&self) -> Option<(&'a str, Rest<'a>)>
+        ensures quoted { IfSome result (λ x. (inside : List ℕ)
+            × (self.now.text.now ≡ 34 ∷ inside) × IsQuoted inside x.0.now x.1.text.now) }
+        ensures shorter { IfSome result (λ x. length x.1.text.now < length self.now.text.now) }
+    {
+        let (text, stop) = self.after(b'"')?.split_run();
+        let rest = stop.after(b'"')?;
+        Some((text, rest))
     }
 
     /// Returns what follows a word at the front; `None` if another stands there.

@@ -59,36 +59,27 @@ impl<'a> Tape<'a> {
     }
 }
 
-// Splits off a string behind its opening quote.
-#[inline(always)]
-fn split_string<'a>(alloc: Global, inside: Rest<'a>) -> Option<(Token<'a>, Rest<'a>)>
-    ensures spelled { IfSome result (λ x. (s : List ℕ) × (text_of x.0 ≡ Some s)
-        × IsQuoted inside.entry.text.now s x.1.text.now) }
-    ensures shorter { IfSome result (λ x. length x.1.text.now < length inside.entry.text.now) }
-{
-    let (text, stop) = inside.split_run();
-    if let Some(rest) = stop.after(b'"') {
-        return Some((Token::Text(text), rest));
-    }
-    let (text, rest) = split_escaped(alloc, inside)?;
-    Some((Token::Unescaped(Box::new(alloc, text).ok()?), rest))
-}
-
 // Appends the token of a string, behind its opening quote, and returns what follows it.
 #[inline(always)]
-fn take_string<'a>(alloc: Global, inside: Rest<'a>, tokens: &mut Vec<Token<'a>>) -> Option<Rest<'a>>
+fn take_escaped<'a>(
+    alloc: Global,
+    inside: Rest<'a>,
+    tokens: &mut Vec<Token<'a>>,
+) -> Option<Rest<'a>>
     ensures spelled { IfSome result (λ rest. (token : Token) × (s : List ℕ)
         × (text_of token ≡ Some s) × (tokens.new.items ≡ tokens.old.items ++ token ∷ [])
         × IsQuoted inside.entry.text.now s rest.text.now) }
     ensures shorter { IfSome result (λ rest. length rest.text.now < length inside.entry.text.now) }
 {
-    let (token, rest) = split_string(alloc, inside)?;
-    tokens.push(token).ok()?;
+    let (text, rest) = split_escaped(alloc, inside)?;
+    tokens
+        .push(Token::Unescaped(Box::new(alloc, text).ok()?))
+        .ok()?;
     Some(rest)
 }
 
 // The same of a word or a number.
-#[inline(never)]
+#[inline(always)]
 fn take_scalar<'a>(text: Rest<'a>, tokens: &mut Vec<Token<'a>>) -> Option<Rest<'a>>
     ensures spelled { IfSome result (λ rest. (token : Token)
         × (tokens.new.items ≡ tokens.old.items ++ token ∷ [])
@@ -98,6 +89,32 @@ fn take_scalar<'a>(text: Rest<'a>, tokens: &mut Vec<Token<'a>>) -> Option<Rest<'
     let (token, rest) = split_scalar(text)?;
     tokens.push(token).ok()?;
     Some(rest)
+}
+
+// Appends the token of a string, a word or a number at the front, and returns what follows it; a
+// key is a string. Not inlined: most are strings without escapes, which `take_value` takes itself.
+#[inline(never)]
+fn take_leaf<'a>(
+    alloc: Global,
+    text: Rest<'a>,
+    key: bool,
+    tokens: &mut Vec<Token<'a>>,
+) -> Option<Rest<'a>>
+    ensures spelled { IfSome result (λ rest. (token : Token)
+        × (tokens.new.items ≡ tokens.old.items ++ token ∷ [])
+        × Spells text.entry.text.now rest.text.now token [] 0) }
+    ensures string { IfSome result (λ rest. key ≡ true → (name : Token)
+        × (tokens.new.items ≡ tokens.old.items ++ name ∷ [])
+        × SpellsString text.entry.text.now rest.text.now name) }
+    ensures shorter { IfSome result (λ rest. length rest.text.now < length text.entry.text.now) }
+{
+    if let Some(inside) = text.after(b'"') {
+        return take_escaped(alloc, inside, tokens);
+    }
+    if key {
+        return None;
+    }
+    take_scalar(text, tokens)
 }
 
 // Appends the tokens of the value at the front, and returns what follows it; a key is a string.
@@ -118,13 +135,17 @@ fn take_value<'a>(
         × SpellsString text.entry.text.now rest.text.now name) }
     ensures shorter { IfSome result (λ rest. length rest.text.now < length text.entry.text.now) }
 {
-    match text.bytes().first()? {
-        b'"' => take_string(alloc, text.after(b'"')?, tokens),
-        _ if key => None,
-        b'{' => take_inside(alloc, text.after(b'{')?, true, depth, tokens),
-        b'[' => take_inside(alloc, text.after(b'[')?, false, depth, tokens),
-        _ => take_scalar(text, tokens),
+    if let Some((string, rest)) = text.split_plain() {
+        tokens.push(Token::Text(string)).ok()?;
+        return Some(rest);
     }
+    let byte = *text.bytes().first()?;
+    if !key && (byte == b'{' || byte == b'[') {
+        let rest = take_inside(alloc, text.after(byte)?, byte == b'{', depth, tokens)?;
+        return Some(rest);
+    }
+    let rest = take_leaf(alloc, text, key, tokens)?;
+    Some(rest)
 }
 
 // The same of an object or an array, behind its opening bracket. A key and its value are one turn

@@ -1,7 +1,8 @@
-use Rattle.std.proofs.Common.{rules, ◌≡◌, ◌++◌, ◌∷◌, [], length, slice_set, if◌then◌else◌, ap, ◌∙◌, arith, append_assoc}
+use Rattle.std.proofs.Common.{rules, refl, ◌≡◌, ◌++◌, ◌∷◌, [], length, slice_set, if◌then◌else◌, ap, ◌∙◌, arith, append_assoc}
 use Rattle.std.proofs.lemmas.Option.{IfSome_then}
 use Rattle.sentry_tape.proofs.SoFar.{bracket, empty, begins, next_key, next_value, ends, set_back, counted, skipped, value_before, string_before}
 use Rattle.sentry_tape.proofs.WordsAndTexts.{string_spelled, text_spelled}
+use Rattle.sentry_tape.specs.declared.token.Token.TheVariants as token
 use Rattle.sentry_tape.proofs.tape.+take.Goals as goal
 
 pub take_inside-returns-in-Some-clause-spelled : goal.take_inside-returns-in-Some-clause-spelled
@@ -75,18 +76,18 @@ take_inside-returns-in-loop-next-clause-spelled t c =
       ends c.args.object l.key c.args.text.text.now l.left.text.now end.0 next i.0 v.0 v.1 c.in_ok-depth.depth c.args.depth c.if-key.false i.2 (value_before l.left.text.now c.in_ok-rest.rest.text.now end.0 v.0 v.1 c.in_ok-depth.depth v.3 end.1) close (omega (arith, c.in_ok-depth.ensures)),
     )
 
-pub take_value-returns-in_ok-after-in-34-clause-spelled : goal.take_value-returns-in_ok-after-in-34-clause-spelled
-take_value-returns-in_ok-after-in-34-clause-spelled t c =
+pub take_value-returns-in-Some-clause-spelled : goal.take_value-returns-in-Some-clause-spelled
+take_value-returns-in-Some-clause-spelled t c =
     let text = c.args.text.text.now in
-    let inside = c.in_ok-after-in-34 in
-    IfSome_then c.take_string.result c.take_string.ensures.spelled (λ rest q. (
-      q.0,
-      [],
-      q.3,
-      text_spelled text rest.text.now q.0 c.args.depth (string_spelled text inside.field-0.text.now rest.text.now q.1 q.0 inside.ensures q.2 q.4),
-    ))
+    let plain = c.in-Some in
+    let q = plain.ensures.quoted in
+    let pushed : c.push.new.self.items ≡ c.args.tokens.now.items ++ token.Text plain.string ∷ [] = search rules in
+    (token.Text plain.string, [], pushed, text_spelled text plain.rest.text.now (token.Text plain.string) c.args.depth (string_spelled text q.0 plain.rest.text.now plain.string.now (token.Text plain.string) q.1 refl q.2))
 
-pub take_value-returns-in_ok-after-in-34-clause-string : goal.take_value-returns-in_ok-after-in-34-clause-string
-take_value-returns-in_ok-after-in-34-clause-string t c =
-    let inside = c.in_ok-after-in-34 in
-    IfSome_then c.take_string.result c.take_string.ensures.spelled (λ rest q due. (q.0, q.3, string_spelled c.args.text.text.now inside.field-0.text.now rest.text.now q.1 q.0 inside.ensures q.2 q.4))
+pub take_value-returns-in-Some-clause-string : goal.take_value-returns-in-Some-clause-string
+take_value-returns-in-Some-clause-string t c due =
+    let text = c.args.text.text.now in
+    let plain = c.in-Some in
+    let q = plain.ensures.quoted in
+    let pushed : c.push.new.self.items ≡ c.args.tokens.now.items ++ token.Text plain.string ∷ [] = search rules in
+    (token.Text plain.string, pushed, string_spelled text q.0 plain.rest.text.now plain.string.now (token.Text plain.string) q.1 refl q.2)
