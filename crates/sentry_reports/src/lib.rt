@@ -8,9 +8,11 @@ pub mod kept_sums;
 pub mod laws;
 pub mod reason;
 pub mod report;
+pub mod report_rows;
 
 pub use category::Category;
 pub use item::Item;
 pub use item_loss::ItemLoss;
 pub use reason::Reason;
 pub use report::Report;
+pub use report_rows::ReportRows;

@@ -4,12 +4,13 @@ ghost use Rattle.sentry_reports.specs.Reports.{report_fields, report_in_order};
 
 use crate::category::Category;
 use crate::item::Item;
-use crate::kept_sums::{SUMS, pair_place, sums_of};
+use crate::kept_sums::{SUMS, pair_place};
 use crate::reason::Reason;
+use crate::report_rows::ReportRows;
 use rand_core::Rng;
 use sentry_json::Node;
 use sentry_members::{Formed, Member};
-use sentry_moments::{Moment, Seconds};
+use sentry_moments::Moment;
 use sentry_rows::{AsTable, Copier, CopyTable, ReadTableAt, Reader, Sink, Table};
 use std::alloc::AllocError;
 use std::fmt;
@@ -25,9 +26,8 @@ use std::marker::Model;
 /// <https://develop.sentry.dev/sdk/telemetry/client-reports/>
 #[derive(Drop)]
 pub struct Report {
-    timestamp: Moment,
-    discarded_events: Vec<Item>,
-    sums: [u64; SUMS],
+    pub(crate) rows: ReportRows,
+    pub(crate) sums: [u64; SUMS],
 }
 
 impl Model for Report {
@@ -36,9 +36,9 @@ impl Model for Report {
 
     ghost Value = { Reported };
 
-    ghost view = { λ r. record { timestamp = r.timestamp; items = r.discarded_events.items } };
+    ghost view = { λ r. r.rows };
 
-    ghost invariant = { λ r. KeepsSums r.sums r.discarded_events.items };
+    ghost invariant = { λ r. KeepsSums r.sums r.rows.items };
 }
 
 impl Report {
@@ -52,19 +52,14 @@ impl Report {
         ensures timestamp { result.timestamp ≡ now }
         ensures items { result.items ≡ discarded_events.items }
     {
-        let sums = sums_of(&discarded_events);
-        Report {
-            timestamp: now,
-            discarded_events,
-            sums,
-        }
+        ReportRows::new(now, discarded_events).report()
     }
 
     /// Returns the items, in order.
     pub fn discarded_events(&self) -> &[Item]
         ensures { result.now ≡ self.now.items }
     {
-        &self.discarded_events
+        self.rows.discarded_events()
     }
 
     /// Returns the quantity lost in a category for a reason: the sum over the items, saturating at
@@ -94,8 +89,8 @@ impl fmt::Debug for Report {
     /// Formats the timestamp and the items, without the sums.
     fn fmt<W: fmt::Write>(&self, f: &mut fmt::Formatter<W>) -> fmt::Result {
         f.debug_struct("Report")
-            .field("timestamp", &self.timestamp)
-            .field("discarded_events", &self.discarded_events)
+            .field("timestamp", &self.rows.timestamp)
+            .field("discarded_events", &self.rows.discarded_events)
             .finish()
     }
 }
@@ -114,7 +109,7 @@ impl PartialEq for Report {
     ghost laws = { Prim.search (comparing, rules) };
 
     fn eq(&self, other: &Report) -> bool {
-        self.timestamp == other.timestamp && self.has_sums_of(other)
+        self.rows.timestamp == other.rows.timestamp && self.has_sums_of(other)
     }
 }
 
@@ -122,32 +117,24 @@ impl Formed for Report {
     type Form = AsTable;
 }
 
-#[tactic(auto, unfolding(crate::specs::Reports::report_fields))]
 impl Table for Report {
     ghost lines = { report_fields };
 
     fn rows<S: Sink>(&self, to: &mut S) {
-        to.required("discarded_events", &self.discarded_events);
-        to.at_once_as::<Seconds, Moment>("timestamp", &self.timestamp);
+        self.rows.rows(to);
     }
 
     ghost ordered = { report_in_order };
 }
 
-#[tactic(auto, unfolding(crate::specs::Reports::report_fields))]
 impl ReadTableAt for Report {
-    fn read<N: Node, R: Rng>(from: &mut Reader<'_, N>, now: Moment, _ids: &mut R) -> Report {
-        let discarded_events = from.required("discarded_events", Vec::new(from.alloc));
-        let timestamp = from.at_once_as::<Seconds>("timestamp", now);
-        Report::new(timestamp, discarded_events)
+    fn read<N: Node, R: Rng>(from: &mut Reader<'_, N>, now: Moment, ids: &mut R) -> Report {
+        ReportRows::read(from, now, ids).report()
     }
 }
 
-#[tactic(auto, unfolding(crate::specs::Reports::report_fields))]
 impl CopyTable for Report {
     fn copy_rows(&self, copies: &mut Copier) -> Result<Report, AllocError> {
-        let discarded_events = copies.list(&self.discarded_events);
-        let timestamp = copies.plain_as::<Seconds, Moment>(&self.timestamp);
-        Ok(Report::new(timestamp, discarded_events))
+        Ok(self.rows.copy_rows(copies)?.report())
     }
 }

@@ -1,7 +1,7 @@
--- by hand: the report's own invariant
+-- by hand: the view of the rows
 use Rattle.std.proofs.Common.{inl, inr, refl}
 use Rattle.sentry_reports.specs.Reports.{report_fields}
-use Rattle.sentry_reports.proofs.report.ReportReadTableAt.read.Goals as goal
+use Rattle.sentry_reports.proofs.report_rows.ReportRowsReadTableAt.read.Goals as goal
 
 pub returns : goal.returns
 unfolding report_fields
