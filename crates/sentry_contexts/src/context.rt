@@ -186,30 +186,6 @@ impl Formed for Context {
     type Form = AsCase;
 }
 
-fn remake_box<T: Member>(boxed: &Box<T>, way: Way) -> Result<Box<T>, AllocError>
-    ensures { IfOk result (λ b. T.cell_of b.value ≡ made way T.kind (T.cell_of boxed.now.value)) }
-{
-    Ok(Box::new(*Box::allocator(boxed), boxed.as_ref().remake(way)?)?)
-}
-
-fn read_box<T: FromTree, N: Node>(alloc: Global, node: &N) -> Result<Box<T>, TreeError>
-    ensures { Reads T.kind (λ b. T.cell_of b.value) (N.data_of node.now) result }
-{
-    Ok(Box::new(alloc, T::from_node(alloc, node)?)?)
-}
-
-fn read_box_at<T: FromTreeAt, N: Node, R: Rng>(
-    alloc: Global,
-    node: &N,
-    now: Moment,
-    ids: &mut R,
-) -> Result<Box<T>, TreeError>
-    ensures { ReadsAt (moment_cell now) T.kind (λ b.
-        T.cell_of b.value) (N.data_of node.now) result }
-{
-    Ok(Box::new(alloc, T::from_node(alloc, node, now, ids)?)?)
-}
-
 impl Cased for Context {
     ghost cases = { context_cases };
 
@@ -239,15 +215,15 @@ impl Cased for Context {
 
     fn remake_case(&self, way: Way) -> Result<Context, AllocError> {
         Ok(match self {
-            Context::Device(boxed) => Context::Device(remake_box(boxed, way)?),
-            Context::Os(boxed) => Context::Os(remake_box(boxed, way)?),
-            Context::Runtime(boxed) => Context::Runtime(remake_box(boxed, way)?),
-            Context::App(boxed) => Context::App(remake_box(boxed, way)?),
-            Context::Browser(boxed) => Context::Browser(remake_box(boxed, way)?),
-            Context::Trace(boxed) => Context::Trace(remake_box(boxed, way)?),
-            Context::Gpu(boxed) => Context::Gpu(remake_box(boxed, way)?),
-            Context::Otel(boxed) => Context::Otel(remake_box(boxed, way)?),
-            Context::Response(boxed) => Context::Response(remake_box(boxed, way)?),
+            Context::Device(boxed) => Context::Device(boxed.remake(way)?),
+            Context::Os(boxed) => Context::Os(boxed.remake(way)?),
+            Context::Runtime(boxed) => Context::Runtime(boxed.remake(way)?),
+            Context::App(boxed) => Context::App(boxed.remake(way)?),
+            Context::Browser(boxed) => Context::Browser(boxed.remake(way)?),
+            Context::Trace(boxed) => Context::Trace(boxed.remake(way)?),
+            Context::Gpu(boxed) => Context::Gpu(boxed.remake(way)?),
+            Context::Otel(boxed) => Context::Otel(boxed.remake(way)?),
+            Context::Response(boxed) => Context::Response(boxed.remake(way)?),
             Context::Other(members) => Context::Other(made_members(members, way)?),
         })
     }
@@ -265,15 +241,15 @@ impl ReadCasedAt for Context {
         ids: &mut R,
     ) -> Result<Context, TreeError> {
         match case {
-            0 => Ok(Context::Device(read_box(alloc, node)?)),
-            1 => Ok(Context::Os(read_box(alloc, node)?)),
-            2 => Ok(Context::Runtime(read_box(alloc, node)?)),
-            3 => Ok(Context::App(read_box(alloc, node)?)),
-            4 => Ok(Context::Browser(read_box(alloc, node)?)),
-            5 => Ok(Context::Trace(read_box_at(alloc, node, now, ids)?)),
-            6 => Ok(Context::Gpu(read_box(alloc, node)?)),
-            7 => Ok(Context::Otel(read_box(alloc, node)?)),
-            8 => Ok(Context::Response(read_box(alloc, node)?)),
+            0 => Ok(Context::Device(FromTree::from_node(alloc, node)?)),
+            1 => Ok(Context::Os(FromTree::from_node(alloc, node)?)),
+            2 => Ok(Context::Runtime(FromTree::from_node(alloc, node)?)),
+            3 => Ok(Context::App(FromTree::from_node(alloc, node)?)),
+            4 => Ok(Context::Browser(FromTree::from_node(alloc, node)?)),
+            5 => Ok(Context::Trace(FromTreeAt::from_node(alloc, node, now, ids)?)),
+            6 => Ok(Context::Gpu(FromTree::from_node(alloc, node)?)),
+            7 => Ok(Context::Otel(FromTree::from_node(alloc, node)?)),
+            8 => Ok(Context::Response(FromTree::from_node(alloc, node)?)),
             9 => Ok(Context::Other(read_members(alloc, node)?)),
             _ => Err(TreeError::Misfit),
         }

@@ -16,8 +16,8 @@ ghost use Rattle.sentry_envelope.specs.ItemAdded.{IsItemAdded, IsItemOf};
 use sentry_event::{Event, Transaction};
 use sentry_items::{EnvelopeItem, ItemContainer, Listed};
 use sentry_records::{Log, Metric, MonitorCheckIn, SessionAggregates, SessionUpdate, UserReport};
-use sentry_reports::Report;
-use std::alloc::{AllocError, Global};
+use sentry_reports::ReportRows;
+use std::alloc::AllocError;
 
 // A type of values that payloads of JSON hold.
 pub(crate) trait Payload: Sized + Drop {
@@ -25,30 +25,24 @@ pub(crate) trait Payload: Sized + Drop {
     ghost holds: { Self → EnvelopeItem → Type 0 };
 
     // Appends the value as an item. `AllocError` if an allocation fails.
-    fn push_to(self, alloc: Global, items: &mut Vec<EnvelopeItem>) -> Result<(), AllocError>
+    fn push_to(self, items: &mut Vec<EnvelopeItem>) -> Result<(), AllocError>
         ensures { OnOk result (IsItemAdded (Self.holds self) items.old.items items.new.items) };
 }
 
-impl Payload for Event<'static> {
-    ghost holds = { λ value. IsItemOf kinds.Event (event_cell value) };
+impl Payload for Box<Event<'static>> {
+    ghost holds = { λ value. IsItemOf kinds.Event (event_cell value.value) };
 
-    fn push_to(self, alloc: Global, items: &mut Vec<EnvelopeItem>) -> Result<(), AllocError> {
-        let Ok(boxed) = Box::new(alloc, self) else {
-            return Err(AllocError);
-        };
-        items.push(EnvelopeItem::Event(boxed))?;
+    fn push_to(self, items: &mut Vec<EnvelopeItem>) -> Result<(), AllocError> {
+        items.push(EnvelopeItem::Event(self))?;
         Ok(())
     }
 }
 
-impl Payload for Transaction<'static> {
-    ghost holds = { λ value. IsItemOf kinds.Transaction (transaction_cell value) };
+impl Payload for Box<Transaction<'static>> {
+    ghost holds = { λ value. IsItemOf kinds.Transaction (transaction_cell value.value) };
 
-    fn push_to(self, alloc: Global, items: &mut Vec<EnvelopeItem>) -> Result<(), AllocError> {
-        let Ok(boxed) = Box::new(alloc, self) else {
-            return Err(AllocError);
-        };
-        items.push(EnvelopeItem::Transaction(boxed))?;
+    fn push_to(self, items: &mut Vec<EnvelopeItem>) -> Result<(), AllocError> {
+        items.push(EnvelopeItem::Transaction(self))?;
         Ok(())
     }
 }
@@ -56,7 +50,7 @@ impl Payload for Transaction<'static> {
 impl Payload for SessionUpdate<'static> {
     ghost holds = { λ value. IsItemOf kinds.SessionUpdate (session_cell value) };
 
-    fn push_to(self, _alloc: Global, items: &mut Vec<EnvelopeItem>) -> Result<(), AllocError> {
+    fn push_to(self, items: &mut Vec<EnvelopeItem>) -> Result<(), AllocError> {
         items.push(EnvelopeItem::SessionUpdate(self))?;
         Ok(())
     }
@@ -65,7 +59,7 @@ impl Payload for SessionUpdate<'static> {
 impl Payload for SessionAggregates<'static> {
     ghost holds = { λ value. IsItemOf kinds.SessionAggregates (groups_cell value) };
 
-    fn push_to(self, _alloc: Global, items: &mut Vec<EnvelopeItem>) -> Result<(), AllocError> {
+    fn push_to(self, items: &mut Vec<EnvelopeItem>) -> Result<(), AllocError> {
         items.push(EnvelopeItem::SessionAggregates(self))?;
         Ok(())
     }
@@ -74,7 +68,7 @@ impl Payload for SessionAggregates<'static> {
 impl Payload for MonitorCheckIn {
     ghost holds = { λ value. IsItemOf kinds.MonitorCheckIn (check_in_cell value) };
 
-    fn push_to(self, _alloc: Global, items: &mut Vec<EnvelopeItem>) -> Result<(), AllocError> {
+    fn push_to(self, items: &mut Vec<EnvelopeItem>) -> Result<(), AllocError> {
         items.push(EnvelopeItem::MonitorCheckIn(self))?;
         Ok(())
     }
@@ -83,7 +77,7 @@ impl Payload for MonitorCheckIn {
 impl Payload for UserReport {
     ghost holds = { λ value. IsItemOf kinds.UserReport (user_report_cell value) };
 
-    fn push_to(self, _alloc: Global, items: &mut Vec<EnvelopeItem>) -> Result<(), AllocError> {
+    fn push_to(self, items: &mut Vec<EnvelopeItem>) -> Result<(), AllocError> {
         items.push(EnvelopeItem::UserReport(self))?;
         Ok(())
     }
@@ -92,7 +86,7 @@ impl Payload for UserReport {
 impl Payload for Listed<Log> {
     ghost holds = { λ list. IsItemOf kinds.Logs (container_cell (containers.Logs list.items)) };
 
-    fn push_to(self, _alloc: Global, items: &mut Vec<EnvelopeItem>) -> Result<(), AllocError> {
+    fn push_to(self, items: &mut Vec<EnvelopeItem>) -> Result<(), AllocError> {
         items.push(EnvelopeItem::ItemContainer(ItemContainer::Logs(self.items)))?;
         Ok(())
     }
@@ -101,17 +95,17 @@ impl Payload for Listed<Log> {
 impl Payload for Listed<Metric> {
     ghost holds = { λ list. IsItemOf kinds.Metrics (container_cell (containers.Metrics list.items)) };
 
-    fn push_to(self, _alloc: Global, items: &mut Vec<EnvelopeItem>) -> Result<(), AllocError> {
+    fn push_to(self, items: &mut Vec<EnvelopeItem>) -> Result<(), AllocError> {
         items.push(EnvelopeItem::ItemContainer(ItemContainer::Metrics(self.items)))?;
         Ok(())
     }
 }
 
-impl Payload for Report {
+impl Payload for ReportRows {
     ghost holds = { λ value. IsItemOf kinds.ClientReport (report_cell value) };
 
-    fn push_to(self, _alloc: Global, items: &mut Vec<EnvelopeItem>) -> Result<(), AllocError> {
-        items.push(EnvelopeItem::ClientReport(self))?;
+    fn push_to(self, items: &mut Vec<EnvelopeItem>) -> Result<(), AllocError> {
+        items.push(EnvelopeItem::ClientReport(self.report()))?;
         Ok(())
     }
 }

@@ -25,7 +25,7 @@ use sentry_items::{Attachment, AttachmentType, EnvelopeItem, Listed, ReplayRecor
 use sentry_members::{FromTree, LineReader, TreeError};
 use sentry_moments::Moment;
 use sentry_records::{Log, Metric, MonitorCheckIn, SessionAggregates, SessionUpdate, UserReport};
-use sentry_reports::Report;
+use sentry_reports::ReportRows;
 use sentry_rows::FromTreeAt;
 use std::alloc::{AllocError, Global};
 
@@ -129,7 +129,9 @@ fn add_json_item<'a, R: Rng>(
 {
     let payload = frame.payload;
     match header.kind {
-        ItemKind::Event => { add_value_at::<Event<'static>, R>(lines, payload, now, ids, items) }
+        ItemKind::Event => {
+            add_value_at::<Box<Event<'static>>, R>(lines, payload, now, ids, items)
+        }
         ItemKind::SessionUpdate => {
             add_value_at::<SessionUpdate<'static>, R>(lines, payload, now, ids, items)
         }
@@ -137,13 +139,13 @@ fn add_json_item<'a, R: Rng>(
             add_value::<SessionAggregates<'static>>(lines, payload, items)
         }
         ItemKind::Transaction => {
-            add_value_at::<Transaction<'static>, R>(lines, payload, now, ids, items)
+            add_value_at::<Box<Transaction<'static>>, R>(lines, payload, now, ids, items)
         }
         ItemKind::MonitorCheckIn => add_value::<MonitorCheckIn>(lines, payload, items),
         ItemKind::UserReport => add_value::<UserReport>(lines, payload, items),
         ItemKind::Logs => add_value::<Listed<Log>>(lines, payload, items),
         ItemKind::Metrics => add_value::<Listed<Metric>>(lines, payload, items),
-        ItemKind::ClientReport => { add_value_at::<Report, R>(lines, payload, now, ids, items) }
+        ItemKind::ClientReport => { add_value_at::<ReportRows, R>(lines, payload, now, ids, items) }
         ItemKind::Attachment | ItemKind::ReplayRecording => unreachable!(),
     }
 }
@@ -164,7 +166,7 @@ fn add_value<'a, T: FromTree + Payload>(
         Ok(value) => value,
         Err(error) => return Err(payload_error(error)),
     };
-    value.push_to(lines.alloc(), items)?;
+    value.push_to(items)?;
     Ok(())
 }
 
@@ -188,7 +190,7 @@ fn add_value_at<'a, T: FromTreeAt + Payload, R: Rng>(
         Ok(value) => value,
         Err(error) => return Err(payload_error(error)),
     };
-    value.push_to(lines.alloc(), items)?;
+    value.push_to(items)?;
     Ok(())
 }
 

@@ -120,7 +120,7 @@ impl EnvelopeItem {
         ensures { IfOk result (λ item. item_held item ≡ item_made way (item_held self.now)) }
     {
         Ok(match self {
-            EnvelopeItem::Event(event) => EnvelopeItem::Event(remake_box(event, way)?),
+            EnvelopeItem::Event(event) => EnvelopeItem::Event(event.remake(way)?),
             EnvelopeItem::SessionUpdate(session) => {
                 EnvelopeItem::SessionUpdate(session.remake(way)?)
             }
@@ -128,7 +128,7 @@ impl EnvelopeItem {
                 EnvelopeItem::SessionAggregates(groups.remake(way)?)
             }
             EnvelopeItem::Transaction(transaction) => {
-                EnvelopeItem::Transaction(remake_box(transaction, way)?)
+                EnvelopeItem::Transaction(transaction.remake(way)?)
             }
             EnvelopeItem::Attachment(attachment) => {
                 EnvelopeItem::Attachment(attachment.remake(way)?)
@@ -164,12 +164,6 @@ impl EnvelopeItem {
     {
         self.remake(Way::Normal(alloc))
     }
-}
-
-fn remake_box<T: Member>(boxed: &Box<T>, way: Way) -> Result<Box<T>, AllocError>
-    ensures { IfOk result (λ b. T.cell_of b.value ≡ made way T.kind (T.cell_of boxed.now.value)) }
-{
-    Ok(Box::new(*Box::allocator(boxed), boxed.as_ref().remake(way)?)?)
 }
 
 impl From<SessionUpdate<'static>> for EnvelopeItem {

@@ -7,6 +7,7 @@
 #![tactic(auto)]
 
 pub mod any;
+pub mod boxed;
 pub mod codec;
 pub mod draw;
 pub mod error;
@@ -22,6 +23,7 @@ pub mod tree;
 pub mod way;
 pub mod word;
 
+pub use boxed::AsBoxed;
 pub use codec::{Codec, Own};
 pub use draw::Drawn;
 pub use error::TreeError;

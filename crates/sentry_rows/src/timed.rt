@@ -10,7 +10,7 @@ ghost use Rattle.sentry_json.specs.Nodes.{tree_of};
 
 use rand_core::Rng;
 use sentry_json::{Node, Object};
-use sentry_members::{Codec, Formed, Member, Own, ReadCodec, TreeError};
+use sentry_members::{AsBoxed, Codec, Formed, Member, Own, ReadCodec, TreeError};
 use sentry_moments::Moment;
 use sentry_writing::values::{AsValues, Values};
 use serde_json::Value;
@@ -75,6 +75,18 @@ impl<T: FromTreeAt> ReadCodecAt<T> for Own {
         ids: &mut R,
     ) -> Result<T, TreeError> {
         T::from_node(alloc, node, now, ids)
+    }
+}
+
+impl<T: FromTreeAt> ReadCodecAt<Box<T>> for AsBoxed {
+    #[inline(never)]
+    fn from_node<N: Node, R: Rng>(
+        alloc: Global,
+        node: &N,
+        now: Moment,
+        ids: &mut R,
+    ) -> Result<Box<T>, TreeError> {
+        Ok(Box::new(alloc, T::from_node(alloc, node, now, ids)?)?)
     }
 }
 
