@@ -1,5 +1,5 @@
 //! The item frames of an envelope, borrowed from its bytes.
-ghost use Rattle.std.specs.Prelude.{◌≡◌, ◌≢◌, ◌↔◌, ◌<◌, [], ℕ, IfOk, IfErr, IfSome, IsNone, None, OnOk, Some, ◌⊎◌, length};
+ghost use Rattle.std.specs.Prelude.{◌≡◌, ◌≢◌, ◌↔◌, ◌<◌, [], ℕ, IfOk, IfErr, IfSome, IsNone, None, Some, length};
 ghost use Rattle.sentry_framing.specs.Framing.{CutsPayload, IsFault, IsFirstFrame, IsLineAndBody, Opens, Reading};
 ghost use Rattle.sentry_framing.specs.ItemHeader.{read_header, stated_length};
 ghost use Rattle.sentry_framing.specs.ItemWords.{item_words};
@@ -119,7 +119,8 @@ impl<'a> Frames<'a> {
         ensures none { IsNone result ↔ (self.old.rest ≡ []) }
         ensures none_left { IsNone result → self.new.rest ≡ [] }
         ensures frame { IfSome result (λ answer. IfOk answer (λ item.
-            IsFirstFrame (stated_length item_words) self.old.rest (frame_of item.0) self.new.rest)) }
+            IsFirstFrame (stated_length item_words) self.old.rest (frame_of item.0)
+            self.new.rest)) }
         ensures header { IfSome result (λ answer. IfOk answer (λ item.
             read_header item_words item.0.header.now ≡ Some (header_view item.1))) }
         ensures fault { IfSome result (λ answer. IfErr answer (λ e. e ≢ EnvelopeError.OutOfMemory

@@ -213,7 +213,8 @@ pub fn rows_beside<T: Table, L: Others, S: Sink>(value: &T, others: L, sink: &mu
 /// A written row replaces a tag or member with its key; the tag replaces a member at `type`.
 pub fn rows_among<T: Table, L: Others, S: Sink>(value: &T, tag: Tag<'_>, others: L, sink: &mut S)
     ensures { S.Adds sink.old sink.new (put_all (put_all
-        (rows_given (rows_of T.lines) (cells_by T.lines value.now)) (tag_left tag.entry.word)) (L.left others)) }
+        (rows_given (rows_of T.lines) (cells_by T.lines value.now)) (tag_left tag.entry.word))
+        (L.left others)) }
 {
     let mut rows = Beside { sink, others };
     rows_beside(value, tag, &mut rows);

@@ -34,7 +34,8 @@ pub trait Sink {
     /// Adds a member, whose value is written with the codec `F`.
     fn member<F: Codec<T>, T>(&mut self, key: &str, value: &T)
         ensures { Took Adds Tests (member key.now (written F.kind (F.cell_of value.now)) no_members)
-            (IsPlain F.kind (F.cell_of value.now)) (IsStored F.kind (F.cell_of value.now)) self.old self.new };
+            (IsPlain F.kind (F.cell_of value.now)) (IsStored F.kind (F.cell_of value.now))
+            self.old self.new };
 
     /// Adds a member that is null.
     fn null(&mut self, key: &str)
@@ -48,7 +49,8 @@ pub trait Sink {
     /// Takes a value that its row omits: no member is added, but the value is tested.
     fn left_out<F: Codec<T>, T>(&mut self, value: &T)
         ensures { Took Adds Tests no_members
-            (IsPlain F.kind (F.cell_of value.now)) (IsStored F.kind (F.cell_of value.now)) self.old self.new };
+            (IsPlain F.kind (F.cell_of value.now)) (IsStored F.kind (F.cell_of value.now))
+            self.old self.new };
 
     /// Takes a string that its row omits: no member is added.
     fn left_out_text(&mut self, text: &str)

@@ -84,7 +84,8 @@ fn write_members<T: Table, L: Others>(
     out: &mut Writer,
 ) -> Result<(), AllocError>
     ensures { OnOk result (WritesMembers (put_all (put_all
-        (rows_given (rows_of T.lines) (cells_by T.lines value.now)) (tag_left tag.entry.word)) (L.left others)) out.old out.new) }
+        (rows_given (rows_of T.lines) (cells_by T.lines value.now)) (tag_left tag.entry.word))
+        (L.left others)) out.old out.new) }
 {
     let mut text = TextRows { out, failed: None };
     rows_among(value, tag, others, &mut text);
@@ -111,7 +112,8 @@ pub fn write_rows<T: Table, L: Others>(
     out: &mut Writer,
 ) -> Result<(), AllocError>
     ensures { OnOk result (WritesTree (object (put_all (put_all
-        (rows_given (rows_of T.lines) (cells_by T.lines value.now)) (tag_left tag.entry.word)) (L.left others))) out.old out.new) }
+        (rows_given (rows_of T.lines) (cells_by T.lines value.now)) (tag_left tag.entry.word))
+        (L.left others))) out.old out.new) }
 {
     out.begin_object()?;
     write_members(value, tag, others, out)?;
@@ -191,7 +193,8 @@ pub fn write_case<T: Table, L: Others>(
     out: &mut Writer,
 ) -> Result<(), AllocError>
     ensures { OnOk result (WritesTree
-        (case_written word.now (rows_of T.lines) (cells_by T.lines value.now) (L.left others)) out.old out.new) }
+        (case_written word.now (rows_of T.lines) (cells_by T.lines value.now) (L.left others))
+        out.old out.new) }
 {
     write_rows(value, Tag::new(word), others, out)
 }
