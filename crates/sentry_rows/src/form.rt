@@ -1,8 +1,10 @@
 //! Codecs of tables.
 
+ghost use Rattle.std.specs.Prelude.{◌≡◌};
 ghost use Rattle.sentry_tables.specs.Fields.{table_of, fields_by, rows_of, cells_by};
-ghost use Rattle.sentry_tables.specs.Cell.{fields};
+ghost use Rattle.sentry_tables.specs.Cell.{Cell, fields, same_cell};
 ghost use Rattle.sentry_tables.specs.Kind.{table, kept};
+ghost use Rattle.sentry_tables.specs.Norm.{norm};
 
 use crate::copier::{Copier, CopyKept, CopyTable};
 use crate::read::{ReadKept, ReadTable, ReadTableAt};
@@ -11,6 +13,7 @@ use crate::timed::ReadCodecAt;
 use json::Writer;
 use rand_core::Rng;
 use sentry_json::Node;
+use sentry_members::codec::DefaultedCodec;
 use sentry_members::{Codec, ReadCodec, TreeError, Way};
 use sentry_moments::Moment;
 use sentry_writing::beside::{Kept, Tag};
@@ -77,6 +80,25 @@ impl<T: ReadTableAt + CopyTable> ReadCodecAt<T> for AsTable {
             None => Ok(value),
             Some(error) => Err(error),
         }
+    }
+}
+
+/// A table with a default value, which may be omitted.
+pub trait DefaultedTable: Table {
+    // the default value
+    ghost usual: { Cell };
+
+    /// Returns whether the normal form of the value is the default.
+    fn is_usual(&self) -> bool
+        ensures { result ≡
+            same_cell (norm (table_of Self.lines) (fields_by Self.lines self.now)) usual };
+}
+
+impl<T: DefaultedTable + CopyTable> DefaultedCodec<T> for AsTable {
+    ghost usual = { T.usual };
+
+    fn is_usual(value: &T) -> bool {
+        value.is_usual()
     }
 }
 

@@ -23,7 +23,7 @@ pub mod timed;
 pub use case_map::{AsCaseMap, CasedByKey};
 pub use cased::{AsCase, CaseSink, Cased, ReadCased, ReadCasedAt};
 pub use copier::{Copier, CopyKept, CopyTable};
-pub use form::{AsKept, AsTable};
+pub use form::{AsKept, AsTable, DefaultedTable};
 pub use read::{ReadKept, ReadTable, ReadTableAt};
 pub use reader::Reader;
 pub use rows::MadeCodec;
