@@ -2,7 +2,7 @@
 
 ghost use Rattle.sentry_frames.specs.Mechanisms.{mechanism_fields, mechanism_in_order};
 
-use crate::mechanism_meta::{MechanismMeta, ToldOrNothing};
+use crate::mechanism_meta::MechanismMeta;
 use sentry_json::Node;
 use sentry_members::{Formed, Member};
 use sentry_rows::{AsTable, Copier, CopyTable, ReadTable, Reader, Sink, Table};
@@ -49,7 +49,7 @@ impl Mechanism {
             handled: None,
             synthetic: None,
             data_: Map::new(alloc),
-            meta: MechanismMeta::none(),
+            meta: MechanismMeta::default_in(alloc),
         }
     }
 
@@ -74,7 +74,7 @@ impl Table for Mechanism {
         to.optional("description", &self.description);
         to.optional("handled", &self.handled);
         to.optional_as::<UrlText, Url>("help_link", &self.help_link);
-        to.unless_usual_as::<ToldOrNothing, MechanismMeta>("meta", &self.meta);
+        to.unless_usual_as::<AsTable, MechanismMeta>("meta", &self.meta);
         to.optional("synthetic", &self.synthetic);
         to.required("type", &self.ty);
     }
@@ -90,7 +90,7 @@ impl ReadTable for Mechanism {
             description: from.optional("description"),
             handled: from.optional("handled"),
             help_link: from.optional_as::<UrlText, Url>("help_link"),
-            meta: from.or("meta", MechanismMeta::none()),
+            meta: from.or("meta", MechanismMeta::default_in(from.alloc)),
             synthetic: from.optional("synthetic"),
             ty: from.text("type"),
         }

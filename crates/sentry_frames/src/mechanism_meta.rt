@@ -5,12 +5,9 @@ ghost use Rattle.sentry_frames.specs.Mechanisms.{mechanism_meta_fields, meta_in_
 use crate::c_error::CError;
 use crate::mach_exception::MachException;
 use crate::posix_signal::PosixSignal;
-use json::Writer;
 use sentry_json::Node;
-use sentry_members::codec::DefaultedCodec;
-use sentry_members::{Codec, Formed, Member, Way};
-use sentry_rows::{AsTable, Copier, CopyTable, ReadTable, Reader, Sink, Table};
-use serde_json::Value;
+use sentry_members::{Formed, Member};
+use sentry_rows::{AsTable, Copier, CopyTable, DefaultedTable, ReadTable, Reader, Sink, Table};
 use std::alloc::{AllocError, Global};
 
 /// Operating system or runtime information about the cause of an exception.
@@ -28,38 +25,20 @@ pub struct MechanismMeta {
 
 impl MechanismMeta {
     ghost use Rattle.std.specs.Prelude.{◌≡◌, IfOk};
-    ghost use Rattle.sentry_tables.specs.Cell.{same_cell};
     ghost use Rattle.sentry_tables.specs.Defaults.{IsDefault};
-    ghost use Rattle.sentry_tables.specs.Norm.{norm};
-    ghost use Rattle.sentry_frames.specs.Mechanisms.{mechanism_meta_cell, mechanism_meta_kind};
+    ghost use Rattle.sentry_frames.specs.Mechanisms.{mechanism_meta_cell};
 
     /// Creates meta information with no fields set.
     #[tactic(auto, unfolding(crate::specs::Mechanisms::mechanism_meta_fields))]
     pub fn default_in(_alloc: Global) -> MechanismMeta
-        ensures { IsDefault mechanism_meta_fields result }
-    {
-        MechanismMeta::none()
-    }
-
-    // The value of an absent member `meta`.
-    #[tactic(auto, unfolding(crate::specs::Mechanisms::mechanism_meta_fields))]
-    pub(crate) fn none() -> MechanismMeta
-        ensures { mechanism_meta_cell result ≡ no_meta }
+        ensures rows { IsDefault mechanism_meta_fields result }
+        ensures empty { mechanism_meta_cell result ≡ no_meta }
     {
         MechanismMeta {
             errno: None,
             signal: None,
             mach_exception: None,
         }
-    }
-
-    // Whether no field is set; a mechanism then omits the member `meta`.
-    #[tactic(auto, unfolding(crate::specs::Mechanisms::mechanism_meta_fields))]
-    fn is_nothing(&self) -> bool
-        ensures { result ≡
-            same_cell (norm mechanism_meta_kind (mechanism_meta_cell self.now)) no_meta }
-    {
-        self.errno.is_none() && self.signal.is_none() && self.mach_exception.is_none()
     }
 
     /// Clones the meta information. `AllocError` if an allocation fails.
@@ -109,41 +88,12 @@ impl CopyTable for MechanismMeta {
     }
 }
 
-// The codec of the member `meta`, which is omitted if no field is set.
-pub(crate) struct ToldOrNothing;
-
-impl Codec<MechanismMeta> for ToldOrNothing {
-    ghost use Rattle.sentry_frames.specs.Mechanisms.{mechanism_meta_cell, mechanism_meta_kind};
-
-    ghost kind = { mechanism_meta_kind };
-
-    ghost cell_of = { mechanism_meta_cell };
-
-    fn to_tree(value: &MechanismMeta, alloc: Global) -> Result<Value, AllocError> {
-        value.to_tree(alloc)
-    }
-
-    fn write(value: &MechanismMeta, out: &mut Writer) -> Result<(), AllocError> {
-        value.write(out)
-    }
-
-    fn remake(value: &MechanismMeta, way: Way) -> Result<MechanismMeta, AllocError> {
-        value.remake(way)
-    }
-
-    fn is_null_tree(value: &MechanismMeta) -> bool {
-        value.is_null_tree()
-    }
-
-    fn is_plain(value: &MechanismMeta) -> bool {
-        value.is_plain()
-    }
-}
-
-impl DefaultedCodec<MechanismMeta> for ToldOrNothing {
+// A mechanism omits the member `meta` if no field is set.
+#[tactic(auto, unfolding(crate::specs::Mechanisms::mechanism_meta_fields))]
+impl DefaultedTable for MechanismMeta {
     ghost usual = { no_meta };
 
-    fn is_usual(value: &MechanismMeta) -> bool {
-        value.is_nothing()
+    fn is_usual(&self) -> bool {
+        self.errno.is_none() && self.signal.is_none() && self.mach_exception.is_none()
     }
 }
