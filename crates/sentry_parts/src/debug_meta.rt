@@ -1,15 +1,12 @@
 //! Debug meta information: debug images and SDK information for symbolication.
 
-ghost use Rattle.sentry_parts.specs.Debugging.{empty_meta, debug_meta_cell, debug_meta_fields, debug_meta_in_order, debug_meta_kind};
+ghost use Rattle.sentry_parts.specs.Debugging.{empty_meta, debug_meta_fields, debug_meta_in_order};
 
 use crate::debug_image::DebugImage;
 use crate::system_sdk_info::SystemSdkInfo;
-use json::Writer;
 use sentry_json::Node;
-use sentry_members::member::Defaulted;
-use sentry_members::{Codec, FromTree, Member, ReadCodec, TreeError, Way};
-use sentry_rows::{AsTable, Copier, CopyTable, ReadTable, Reader, Sink, Table};
-use serde_json::Value;
+use sentry_members::{Formed, Member};
+use sentry_rows::{AsTable, Copier, CopyTable, DefaultedTable, ReadTable, Reader, Sink, Table};
 use std::alloc::{AllocError, Global};
 
 /// Debug images and SDK information for symbolication.
@@ -55,36 +52,8 @@ impl DebugMeta {
     }
 }
 
-impl Member for DebugMeta {
-    ghost kind = { debug_meta_kind };
-
-    ghost cell_of = { debug_meta_cell };
-
-    fn to_tree(&self, alloc: Global) -> Result<Value, AllocError> {
-        AsTable::to_tree(self, alloc)
-    }
-
-    fn write(&self, out: &mut Writer) -> Result<(), AllocError> {
-        AsTable::write(self, out)
-    }
-
-    fn remake(&self, way: Way) -> Result<DebugMeta, AllocError> {
-        AsTable::remake(self, way)
-    }
-
-    fn is_null_tree(&self) -> bool {
-        false
-    }
-
-    fn is_plain(&self) -> bool {
-        AsTable::is_plain(self)
-    }
-}
-
-impl FromTree for DebugMeta {
-    fn from_node<N: Node>(alloc: Global, node: &N) -> Result<DebugMeta, TreeError> {
-        AsTable::from_node(alloc, node)
-    }
+impl Formed for DebugMeta {
+    type Form = AsTable;
 }
 
 #[tactic(auto, unfolding(crate::specs::Debugging::debug_meta_fields))]
@@ -119,7 +88,8 @@ impl CopyTable for DebugMeta {
     }
 }
 
-impl Defaulted for DebugMeta {
+// An event omits the member `debug_meta` if it is empty.
+impl DefaultedTable for DebugMeta {
     ghost usual = { empty_meta };
 
     fn is_usual(&self) -> bool {

@@ -1,6 +1,6 @@
 use Rattle.sentry_parts.specs.Debugging.{debug_meta_fields}
 use Rattle.sentry_parts.proofs.DebugMetas.{is_usual}
-use Rattle.sentry_parts.proofs.debug_meta.DebugMetaDefaulted.is_usual.Goals as goal
+use Rattle.sentry_parts.proofs.debug_meta.DebugMetaDefaultedTable.is_usual.Goals as goal
 
 pub returns : goal.returns
 unfolding debug_meta_fields
