@@ -1,7 +1,7 @@
 //! JSON trees as members.
 
 ghost use Rattle.std.specs.Prelude.{OnOk};
-ghost use Rattle.serde_json.specs.Data.{number as number_data};
+ghost use Rattle.serde_json.specs.Data.{array, object, number as number_data};
 ghost use Rattle.serde_json.specs.View.{view, items_view, members_view, number_view};
 ghost use Rattle.sentry_members.specs.Cells.{tree_cell};
 ghost use Rattle.sentry_members.specs.Kinds.{any_kind};
@@ -53,6 +53,7 @@ impl Member for Value {
 ///
 /// `AllocError` if an allocation fails; part of the text may have been written.
 #[cycle(write_value)]
+#[inline(always)]
 pub fn write_value(value: &Value, out: &mut Writer) -> Result<(), AllocError>
     ensures { OnOk result (WritesTree (view value.now) out.old out.new) }
 {
@@ -61,17 +62,30 @@ pub fn write_value(value: &Value, out: &mut Writer) -> Result<(), AllocError>
         Value::Bool(truth) => out.boolean(*truth),
         Value::Number(number) => write_number(number, out),
         Value::String(text) => out.string(text.as_str()),
-        Value::Array(items) => {
-            out.begin_array()?;
-            write_items(items, out)?;
-            out.end_array()
-        }
-        Value::Object(members) => {
-            out.begin_object()?;
-            write_members(members, out)?;
-            out.end_object()
-        }
+        Value::Array(items) => write_array(items, out),
+        Value::Object(members) => write_object(members, out),
     }
+}
+
+// Not inlined, nor is that of objects: what is no list and no map is written where it stands.
+#[cycle(write_value)]
+#[inline(never)]
+fn write_array(items: &Vec<Value>, out: &mut Writer) -> Result<(), AllocError>
+    ensures { OnOk result (WritesTree (array (items_view items.now.items)) out.old out.new) }
+{
+    out.begin_array()?;
+    write_items(items, out)?;
+    out.end_array()
+}
+
+#[cycle(write_value)]
+#[inline(never)]
+fn write_object(members: &Map<String, Value>, out: &mut Writer) -> Result<(), AllocError>
+    ensures { OnOk result (WritesTree (object (members_view members.now.entries)) out.old out.new) }
+{
+    out.begin_object()?;
+    write_members(members, out)?;
+    out.end_object()
 }
 
 #[cycle(write_value)]

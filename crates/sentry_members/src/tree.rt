@@ -15,6 +15,7 @@ use serde_json::{Map, Number, Value};
 /// floats. A tree without floats is sound: its numbers are in range, its strings and keys are
 /// UTF-8, and its keys are in order.
 #[cycle(has_float)]
+#[inline(always)]
 pub fn has_float(value: &Value) -> bool
     ensures float { result ≡ has_float (view value.now) }
     ensures sound { result ≡ false → IsSound (view value.now) }
@@ -41,7 +42,9 @@ fn is_float(number: &Number) -> bool
     }
 }
 
+// Not inlined, nor is that of members: what is no list and no map is judged without a call.
 #[cycle(has_float)]
+#[inline(never)]
 fn items_have_float(items: &Vec<Value>) -> bool
     ensures float { result ≡ items_have_float (items_view items.now.items) }
     ensures sound { result ≡ false → IsSound (array (items_view items.now.items)) }
@@ -55,6 +58,7 @@ fn items_have_float(items: &Vec<Value>) -> bool
 }
 
 #[cycle(has_float)]
+#[inline(never)]
 fn members_have_float(members: &Map<String, Value>) -> bool
     ensures float { result ≡ members_have_float (members_view members.now.entries) }
     ensures sound { result ≡ false → IsSound (object (members_view members.now.entries)) }

@@ -49,10 +49,14 @@ write_value-returns-in-String t c =
     let seen : view c.args.value.now ≡ string c.as_str.result.now = rw c.in-String.is (search (rules, the_lemmas)) in
     rw seen (string_wrote _ _ _ _ c.string.ensures)
 
-pub write_value-returns-in_ok-write_items-in-Array : goal.write_value-returns-in_ok-write_items-in-Array
-write_value-returns-in_ok-write_items-in-Array t c =
-    rw (ap view c.in-Array.is ∙ view-Array c.in-Array.items) (array_wrote _ _ _ _ _ _ c.in_ok-begin_array-in-Array.ensures c.in_ok-write_items-in-Array.ensures c.end_array.ensures)
+pub write_value-returns-in-Array : goal.write_value-returns-in-Array
+write_value-returns-in-Array t c = rw (ap view c.in-Array.is ∙ view-Array c.in-Array.items) c.write_array.ensures
 
-pub write_value-returns-in_ok-write_members-in-Object : goal.write_value-returns-in_ok-write_members-in-Object
-write_value-returns-in_ok-write_members-in-Object t c =
-    rw (ap view c.in-Object.is ∙ view-Object c.in-Object.members) (object_wrote _ _ _ _ _ _ c.in_ok-begin_object-in-Object.ensures c.in_ok-write_members-in-Object.ensures c.end_object.ensures)
+pub write_value-returns-in-Object : goal.write_value-returns-in-Object
+write_value-returns-in-Object t c = rw (ap view c.in-Object.is ∙ view-Object c.in-Object.members) c.write_object.ensures
+
+pub write_array-returns : goal.write_array-returns
+write_array-returns t c = array_wrote _ _ _ _ _ _ c.in_ok-begin_array.ensures c.in_ok-write_items.ensures c.end_array.ensures
+
+pub write_object-returns : goal.write_object-returns
+write_object-returns t c = object_wrote _ _ _ _ _ _ c.in_ok-begin_object.ensures c.in_ok-write_members.ensures c.end_object.ensures
