@@ -240,7 +240,7 @@ impl<'a> Table for Event<'a> {
         to.values("breadcrumbs", &self.breadcrumbs);
         to.unless_usual_as::<AsCaseMap, Map<String, Context>>("contexts", &self.contexts);
         to.optional("culprit", &self.culprit);
-        to.unless_usual("debug_meta", &self.debug_meta);
+        to.unless_usual_as::<AsTable, DebugMeta>("debug_meta", &self.debug_meta);
         to.optional("dist", &self.dist);
         to.optional("environment", &self.environment);
         to.drawn_as::<Simple, Uuid>("event_id", &self.event_id);
