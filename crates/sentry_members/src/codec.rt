@@ -11,7 +11,7 @@ ghost use Rattle.sentry_members.specs.Made.{made, row_made};
 ghost use Rattle.sentry_tables.specs.Kind.{may, may_strict};
 ghost use Rattle.sentry_members.specs.Written.{written, WritesTree};
 
-use crate::member::{Defaulted, Member};
+use crate::member::Member;
 use crate::way::Way;
 use json::Writer;
 use serde_json::Value;
@@ -107,14 +107,6 @@ pub trait DefaultedCodec<T>: Codec<T> {
     /// Returns whether the normal form of the value is the default.
     fn is_usual(value: &T) -> bool
         ensures { result ≡ same_cell (norm Self.kind (Self.cell_of value.now)) usual };
-}
-
-impl<T: Defaulted> DefaultedCodec<T> for Own {
-    ghost usual = { T.usual };
-
-    fn is_usual(value: &T) -> bool {
-        value.is_usual()
-    }
 }
 
 /// Clones an optional value, or returns its normal form, by `way`.

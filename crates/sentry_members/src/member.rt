@@ -140,13 +140,3 @@ impl Usual for u64 {
         *self == *usual
     }
 }
-
-/// A type with a default value, which may be omitted.
-pub trait Defaulted: Member {
-    // the default value
-    ghost usual: { Cell };
-
-    /// Returns whether the normal form of the value is the default.
-    fn is_usual(&self) -> bool
-        ensures { result ≡ same_cell (norm Self.kind (Self.cell_of self.now)) usual };
-}

@@ -12,7 +12,7 @@ ghost use Rattle.sentry_members.specs.Written.{written};
 
 use crate::values::Values;
 use sentry_members::codec::DefaultedCodec;
-use sentry_members::member::{Defaulted, Usual};
+use sentry_members::member::Usual;
 use sentry_members::{Codec, Drawn, Member, Own};
 use serde_json::Map;
 use std::convert::AsStr;
@@ -251,15 +251,6 @@ pub trait Sink {
         } else {
             self.member::<F, T>(key, value)
         }
-    }
-
-    /// Adds a member that is omitted when its value is written the same as the default of its type.
-    #[inline(always)]
-    final fn unless_usual<T: Defaulted>(&mut self, key: &str, value: &T)
-        ensures { GivesRow Adds Tests key.now (default T.usual) T.kind
-            (T.cell_of value.now) self.old self.new }
-    {
-        self.unless_usual_as::<Own, T>(key, value)
     }
 
     ghost nothing: { (s : Self) → Adds s s no_members };
