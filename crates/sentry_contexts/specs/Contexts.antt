@@ -1,5 +1,5 @@
 -- Contexts by their tag, and maps of contexts.
-use Rattle.std.specs.Prelude.{◌≡◌, ℕ, List, codes}
+use Rattle.std.specs.Prelude.{◌≡◌, ℕ, List, Box, codes}
 use Rattle.serde_json.specs.View.{members_view}
 use Rattle.sentry_tables.specs.Cell.{Cell, choice, fields, no_cells}
 use Rattle.sentry_tables.specs.Fields.{rows_of}
@@ -12,15 +12,6 @@ use Rattle.sentry_contexts.specs.Telemetry.{otel_cell, otel_fields, trace_contex
 use Rattle.sentry_contexts.specs.Responses.{response_cell, response_fields}
 use Rattle.sentry_contexts.specs.declared.context.Context.{Context}
 use Rattle.sentry_contexts.specs.declared.context.Context.TheVariants as Variant
-use Rattle.sentry_contexts.specs.declared.device.DeviceContext.{DeviceContext}
-use Rattle.sentry_contexts.specs.declared.os.OsContext.{OsContext}
-use Rattle.sentry_contexts.specs.declared.runtime.RuntimeContext.{RuntimeContext}
-use Rattle.sentry_contexts.specs.declared.app.AppContext.{AppContext}
-use Rattle.sentry_contexts.specs.declared.browser.BrowserContext.{BrowserContext}
-use Rattle.sentry_contexts.specs.declared.gpu.GpuContext.{GpuContext}
-use Rattle.sentry_contexts.specs.declared.otel.OtelContext.{OtelContext}
-use Rattle.sentry_contexts.specs.declared.response.ResponseContext.{ResponseContext}
-use Rattle.sentry_contexts.specs.declared.trace.TraceContext.{TraceContext}
 
 -- the word of each case, its table, and what becomes of members of other keys
 abbrev pub context_cases : Cases
@@ -68,40 +59,7 @@ context_word (Variant.Otel b) = codes "otel"
 context_word (Variant.Response b) = codes "response"
 context_word (Variant.Other m) = codes "unknown"
 
--- ---- the context is this one
+-- ---- the choice holds this value, in a box
 
-abbrev pub IsDevice : DeviceContext → Context → Type 0
-IsDevice x (Variant.Device b) = b.value ≡ x
-IsDevice x _ = ⊥
-
-abbrev pub IsOs : OsContext → Context → Type 0
-IsOs x (Variant.Os b) = b.value ≡ x
-IsOs x _ = ⊥
-
-abbrev pub IsRuntime : RuntimeContext → Context → Type 0
-IsRuntime x (Variant.Runtime b) = b.value ≡ x
-IsRuntime x _ = ⊥
-
-abbrev pub IsApp : AppContext → Context → Type 0
-IsApp x (Variant.App b) = b.value ≡ x
-IsApp x _ = ⊥
-
-abbrev pub IsBrowser : BrowserContext → Context → Type 0
-IsBrowser x (Variant.Browser b) = b.value ≡ x
-IsBrowser x _ = ⊥
-
-abbrev pub IsTrace : TraceContext → Context → Type 0
-IsTrace x (Variant.Trace b) = b.value ≡ x
-IsTrace x _ = ⊥
-
-abbrev pub IsGpu : GpuContext → Context → Type 0
-IsGpu x (Variant.Gpu b) = b.value ≡ x
-IsGpu x _ = ⊥
-
-abbrev pub IsOtel : OtelContext → Context → Type 0
-IsOtel x (Variant.Otel b) = b.value ≡ x
-IsOtel x _ = ⊥
-
-abbrev pub IsResponse : ResponseContext → Context → Type 0
-IsResponse x (Variant.Response b) = b.value ≡ x
-IsResponse x _ = ⊥
+abbrev pub IsBoxed : {T A C : Type 0} → (Box T A → C) → T → C → Type 0
+IsBoxed {T} {A} variant x c = (b : Box T A) × (c ≡ variant b) × (b.value ≡ x)

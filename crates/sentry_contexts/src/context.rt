@@ -4,7 +4,7 @@ ghost use Rattle.std.specs.Prelude.{◌≡◌, IfErr, IfOk, codes, refl};
 ghost use Rattle.sentry_members.specs.Made.{made};
 ghost use Rattle.sentry_members.specs.Reading.{Reads, ReadsAt};
 ghost use Rattle.sentry_moments.specs.Moments.{moment_cell};
-ghost use Rattle.sentry_contexts.specs.Contexts.{context_cases, context_cell, context_word, IsDevice, IsOs, IsRuntime, IsApp, IsBrowser, IsTrace, IsGpu, IsOtel, IsResponse};
+ghost use Rattle.sentry_contexts.specs.Contexts.{context_cases, context_cell, context_word, IsBoxed};
 
 use crate::app::AppContext;
 use crate::browser::BrowserContext;
@@ -59,7 +59,7 @@ pub enum Context {
 impl Context {
     /// Boxes a device context; returns it unchanged if the allocation fails.
     pub fn device(alloc: Global, device: DeviceContext) -> Result<Context, DeviceContext>
-        ensures boxed { IfOk result (IsDevice device) }
+        ensures boxed { IfOk result (IsBoxed Context.Device device) }
         ensures handed_back { IfErr result (λ back. back ≡ device) }
     {
         match Box::new(alloc, device) {
@@ -70,7 +70,7 @@ impl Context {
 
     /// Boxes an operating system context; returns it unchanged if the allocation fails.
     pub fn os(alloc: Global, os: OsContext) -> Result<Context, OsContext>
-        ensures boxed { IfOk result (IsOs os) }
+        ensures boxed { IfOk result (IsBoxed Context.Os os) }
         ensures handed_back { IfErr result (λ back. back ≡ os) }
     {
         match Box::new(alloc, os) {
@@ -81,7 +81,7 @@ impl Context {
 
     /// Boxes a runtime context; returns it unchanged if the allocation fails.
     pub fn runtime(alloc: Global, runtime: RuntimeContext) -> Result<Context, RuntimeContext>
-        ensures boxed { IfOk result (IsRuntime runtime) }
+        ensures boxed { IfOk result (IsBoxed Context.Runtime runtime) }
         ensures handed_back { IfErr result (λ back. back ≡ runtime) }
     {
         match Box::new(alloc, runtime) {
@@ -92,7 +92,7 @@ impl Context {
 
     /// Boxes an app context; returns it unchanged if the allocation fails.
     pub fn app(alloc: Global, app: AppContext) -> Result<Context, AppContext>
-        ensures boxed { IfOk result (IsApp app) }
+        ensures boxed { IfOk result (IsBoxed Context.App app) }
         ensures handed_back { IfErr result (λ back. back ≡ app) }
     {
         match Box::new(alloc, app) {
@@ -103,7 +103,7 @@ impl Context {
 
     /// Boxes a browser context; returns it unchanged if the allocation fails.
     pub fn browser(alloc: Global, browser: BrowserContext) -> Result<Context, BrowserContext>
-        ensures boxed { IfOk result (IsBrowser browser) }
+        ensures boxed { IfOk result (IsBoxed Context.Browser browser) }
         ensures handed_back { IfErr result (λ back. back ≡ browser) }
     {
         match Box::new(alloc, browser) {
@@ -114,7 +114,7 @@ impl Context {
 
     /// Boxes a trace context; returns it unchanged if the allocation fails.
     pub fn trace(alloc: Global, trace: TraceContext) -> Result<Context, TraceContext>
-        ensures boxed { IfOk result (IsTrace trace) }
+        ensures boxed { IfOk result (IsBoxed Context.Trace trace) }
         ensures handed_back { IfErr result (λ back. back ≡ trace) }
     {
         match Box::new(alloc, trace) {
@@ -125,7 +125,7 @@ impl Context {
 
     /// Boxes a GPU context; returns it unchanged if the allocation fails.
     pub fn gpu(alloc: Global, gpu: GpuContext) -> Result<Context, GpuContext>
-        ensures boxed { IfOk result (IsGpu gpu) }
+        ensures boxed { IfOk result (IsBoxed Context.Gpu gpu) }
         ensures handed_back { IfErr result (λ back. back ≡ gpu) }
     {
         match Box::new(alloc, gpu) {
@@ -136,7 +136,7 @@ impl Context {
 
     /// Boxes an OpenTelemetry context; returns it unchanged if the allocation fails.
     pub fn otel(alloc: Global, otel: OtelContext) -> Result<Context, OtelContext>
-        ensures boxed { IfOk result (IsOtel otel) }
+        ensures boxed { IfOk result (IsBoxed Context.Otel otel) }
         ensures handed_back { IfErr result (λ back. back ≡ otel) }
     {
         match Box::new(alloc, otel) {
@@ -147,7 +147,7 @@ impl Context {
 
     /// Boxes a response context; returns it unchanged if the allocation fails.
     pub fn response(alloc: Global, response: ResponseContext) -> Result<Context, ResponseContext>
-        ensures boxed { IfOk result (IsResponse response) }
+        ensures boxed { IfOk result (IsBoxed Context.Response response) }
         ensures handed_back { IfErr result (λ back. back ≡ response) }
     {
         match Box::new(alloc, response) {
