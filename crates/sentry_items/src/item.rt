@@ -1,7 +1,6 @@
 //! Envelope items.
 
 ghost use Rattle.std.specs.Prelude.{◌≡◌, IfOk};
-ghost use Rattle.sentry_members.specs.Made.{made};
 
 use crate::attachment::Attachment;
 use crate::container::ItemContainer;
