@@ -4,6 +4,6 @@ pub mod Equal
 pub mod HeaderTokens
 pub mod Made
 pub mod Sent
-pub mod UsualHeader
+pub mod PlainHeader
 pub mod Cut
 pub mod SameLosses

@@ -8,7 +8,7 @@ ghost use Rattle.sentry_items.specs.View.{attachment_view};
 use crate::attachment_type::AttachmentType;
 use crate::counted::send_both;
 use crate::header::write_last_members;
-use crate::usual::{is_plain, write_usual_header};
+use crate::plain_header::{is_plain, write_plain_header};
 use json::Writer;
 use sentry_members::{Member, Way};
 use std::alloc::{AllocError, Global};
@@ -51,13 +51,14 @@ pub enum AttachmentWriteError {
 impl Attachment {
     ghost use Rattle.std.specs.Prelude.{◌≡◌, ℕ, List, ◌∷◌, ◌++◌, codes, [], None, IfOk, OnOk, IsTrue, option_map, string_bytes};
     ghost use Rattle.std.specs.Io.KnownBytes.{Appends, Keeps};
+    ghost use Rattle.json.specs.Print.{escape};
     ghost use Rattle.json.specs.Token.{begin_object};
     ghost use Rattle.sentry_items.specs.Attached.{attached_type, attached_content_type, attachment_header, attachment_text, attached_norm, IsAttachedStored, IsTypeOption, IsUtf8Option};
     ghost use Rattle.sentry_items.specs.AttachmentWords.{attachment_type_text};
     ghost use Rattle.sentry_items.specs.Counted.{AppendsFront};
     ghost use Rattle.sentry_items.specs.HeaderTokens.{header_text, member_tokens};
     ghost use Rattle.sentry_items.specs.Made.{attached_made};
-    ghost use Rattle.sentry_items.specs.UsualHeader.{HasUsualHeader};
+    ghost use Rattle.sentry_items.specs.PlainHeader.{HasPlainTexts};
     ghost use Rattle.sentry_items.specs.View.{attachment_type_cell, attachment_view};
 
     /// Creates an attachment of no bytes, with an empty file name and without types.
@@ -188,31 +189,31 @@ impl Attachment {
         write_last_members(word, &self.buffer, writer)
     }
 
-    fn is_usual(&self) -> bool
-        ensures { IsTrue result → HasUsualHeader (attachment_view self.now) }
+    // Whether none of the header's texts needs an escape.
+    fn has_plain_texts(&self) -> bool
+        ensures { IsTrue result → HasPlainTexts (attachment_view self.now) }
     {
-        self.has_usual_type() && self.has_usual_content_type() && is_plain(self.filename.as_bytes())
+        self.has_plain_type() && self.has_plain_content_type() && is_plain(self.filename.as_bytes())
     }
 
-    fn has_usual_type(&self) -> bool
+    fn has_plain_type(&self) -> bool
         ensures { IsTrue result →
-            attachment_type_text (attached_type (attachment_view self.now)) ≡
-            codes "event.attachment" }
+            escape (attachment_type_text (attached_type (attachment_view self.now))) ≡
+            attachment_type_text (attached_type (attachment_view self.now)) }
     {
         match &self.ty {
-            Some(AttachmentType::Attachment) => true,
-            Some(_) => false,
+            Some(ty) => is_plain(ty.as_str().as_bytes()),
             None => true,
         }
     }
 
-    // An explicit `application/octet-stream` gives `false`, too.
-    fn has_usual_content_type(&self) -> bool
+    fn has_plain_content_type(&self) -> bool
         ensures { IsTrue result →
-            attached_content_type (attachment_view self.now) ≡ codes "application/octet-stream" }
+            escape (attached_content_type (attachment_view self.now)) ≡
+            attached_content_type (attachment_view self.now) }
     {
         match &self.content_type {
-            Some(_) => false,
+            Some(text) => is_plain(text.as_bytes()),
             None => true,
         }
     }
@@ -279,8 +280,7 @@ impl Attachment {
 /// Appends the item header of an attachment; `word` is its `type`.
 ///
 /// The header is first built in `line`, in place of the contents of `line`, unless `word` is
-/// `attachment`, the media type is absent, the attachment type is absent or the default, and the
-/// file name needs no escape: a JSON writer clears memory ahead of what it writes.
+/// `attachment` and no text needs an escape: a JSON writer clears memory ahead of what it writes.
 ///
 /// # Errors
 ///
@@ -296,8 +296,14 @@ pub fn write_header(
         header_text (attachment_header word.now (attachment_view attachment.now))) }
     ensures kept { (part : List ℕ) × (out.new.items ≡ out.old.items ++ part) }
 {
-    if attachment.is_usual() && word == "attachment" {
-        write_usual_header(attachment.filename.as_str(), attachment.buffer.len(), out)
+    if word == "attachment" && attachment.has_plain_texts() {
+        write_plain_header(
+            attachment.written_type(),
+            attachment.written_content_type(),
+            attachment.filename.as_str(),
+            attachment.buffer.len(),
+            out,
+        )
     } else {
         line.clear();
         attachment.write_any_header(alloc, word, line)?;

@@ -10,9 +10,9 @@ pub mod item;
 pub mod laws;
 mod listed;
 pub mod loss;
+mod plain_header;
 pub mod replay_recording;
 mod sizes;
-mod usual;
 
 pub use attachment::{Attachment, AttachmentWriteError};
 pub use attachment_type::AttachmentType;

@@ -1,17 +1,20 @@
-//! The item header of an attachment with default types and a file name without escapes.
+//! The item header of an attachment whose texts need no escapes.
 ghost use Rattle.std.specs.Prelude.{◌≡◌, ℕ, List, ◌++◌, OnOk, length};
 ghost use Rattle.std.specs.Bool.{OnTrue};
 ghost use Rattle.json.specs.Print.{escape};
 ghost use Rattle.json.specs.Written.{PlainBetween};
 ghost use Rattle.sentry_items.specs.HeaderTokens.{header_text};
-ghost use Rattle.sentry_items.specs.UsualHeader.{usual_header};
+ghost use Rattle.sentry_items.specs.PlainHeader.{plain_header};
 
 use std::alloc::AllocError;
 
-const BEFORE_NAME: &[u8] =
-    b"{\"attachment_type\":\"event.attachment\",\"content_type\":\"application/octet-stream\",\"filename\":\"";
+const BEFORE_TYPE: &[u8] = b"{\"attachment_type\":\"";
 
-const AFTER_NAME: &[u8] = b"\",\"length\":";
+const BEFORE_CONTENT_TYPE: &[u8] = b"\",\"content_type\":\"";
+
+const BEFORE_NAME: &[u8] = b"\",\"filename\":\"";
+
+const BEFORE_LENGTH: &[u8] = b"\",\"length\":";
 
 const AFTER_LENGTH: &[u8] = b",\"type\":\"attachment\"}";
 
@@ -33,24 +36,31 @@ fn has_no_special(text: &[u8]) -> bool
     true
 }
 
-// Appends the item header of an attachment of `len` bytes with default types and a file name
-// without escapes. `AllocError` if an allocation fails; a part of the header may have been
-// appended.
-pub(crate) fn write_usual_header(
+// Appends the item header of an attachment of `len` bytes, whose texts need no escapes.
+// `AllocError` if an allocation fails; a part of the header may have been appended.
+pub(crate) fn write_plain_header(
+    ty: &str,
+    content_type: &str,
     filename: &str,
     len: usize,
     out: &mut Vec<u8>,
 ) -> Result<(), AllocError>
-    requires { escape filename.now ≡ filename.now }
+    requires ty { escape ty.now ≡ ty.now }
+    requires content_type { escape content_type.now ≡ content_type.now }
+    requires filename { escape filename.now ≡ filename.now }
     ensures ok { OnOk result (out.new.items ≡ out.old.items ++
-        header_text (usual_header filename.now len)) }
+        header_text (plain_header ty.now content_type.now filename.now len)) }
     ensures kept { (part : List ℕ) × (out.new.items ≡ out.old.items ++ part) }
 {
     let mut digits = itoa::Buffer::new();
     let digits = digits.format(len as u64);
+    out.extend_from_slice(BEFORE_TYPE)?;
+    out.extend_from_slice(ty.as_bytes())?;
+    out.extend_from_slice(BEFORE_CONTENT_TYPE)?;
+    out.extend_from_slice(content_type.as_bytes())?;
     out.extend_from_slice(BEFORE_NAME)?;
     out.extend_from_slice(filename.as_bytes())?;
-    out.extend_from_slice(AFTER_NAME)?;
+    out.extend_from_slice(BEFORE_LENGTH)?;
     out.extend_from_slice(digits.as_bytes())?;
     out.extend_from_slice(AFTER_LENGTH)
 }
