@@ -15,15 +15,15 @@ const LARGE: usize = 1 << 16;
 
 // Bytes of the text's own, and then some that are lent.
 #[derive(Drop)]
-pub(crate) struct Part<'e> {
-    pub(crate) own: Vec<u8>,
-    pub(crate) lent: &'e [u8],
+struct Part<'e> {
+    own: Vec<u8>,
+    lent: &'e [u8],
 }
 
 // A text: its parts, and what follows the last one.
 #[derive(Drop)]
 pub(crate) struct Text<'e> {
-    pub(crate) parts: Vec<Part<'e>>,
+    parts: Vec<Part<'e>>,
     pub(crate) end: Vec<u8>,
 }
 

@@ -1,11 +1,9 @@
 -- What the values of this crate mean.
-use Rattle.std.specs.Prelude.{◌≡◌, ℕ, List, Option, Some, None, codes, option_map, string_bytes}
+use Rattle.std.specs.Prelude.{ℕ, List, Option, Some, None, codes, option_map, string_bytes}
 use Rattle.sentry_tables.specs.Cell.{Cell}
 use Rattle.sentry_tables.specs.Kind.{Kind, tagged, no_cases}
 use Rattle.sentry_event.specs.Events.{event_cell, event_kind}
 use Rattle.sentry_event.specs.Transactions.{transaction_cell, transaction_kind}
-use Rattle.sentry_event.specs.declared.event.Event.{Event}
-use Rattle.sentry_event.specs.declared.transaction.Transaction.{Transaction}
 use Rattle.sentry_records.specs.Logs.{log_kind}
 use Rattle.sentry_records.specs.Metrics.{metric_kind}
 use Rattle.sentry_records.specs.Monitors.{check_in_cell, check_in_kind}
@@ -85,13 +83,3 @@ payload_kind kinds.ReplayRecording = tagged no_cases
 payload_kind kinds.Logs = container_kind log_kind
 payload_kind kinds.Metrics = container_kind metric_kind
 payload_kind kinds.ClientReport = report_kind
-
--- ---- the item is this event, or this transaction
-
-abbrev pub IsEvent : Event → EnvelopeItem → Type 0
-IsEvent e (item_variants.Event b) = b.value ≡ e
-IsEvent e _ = ⊥
-
-abbrev pub IsTransaction : Transaction → EnvelopeItem → Type 0
-IsTransaction t (item_variants.Transaction b) = b.value ≡ t
-IsTransaction t _ = ⊥

@@ -44,13 +44,14 @@ pub enum EnvelopeItem {
 
 impl EnvelopeItem {
     ghost use Rattle.std.specs.Prelude.{◌≡◌, ◌↔◌, IfErr, IfOk, IsTrue};
+    ghost use Rattle.sentry_contexts.specs.Contexts.{IsBoxed};
     ghost use Rattle.sentry_items.specs.Made.{item_made, item_norm};
     ghost use Rattle.sentry_items.specs.Meets.{IsItemPlain, IsItemStored};
-    ghost use Rattle.sentry_items.specs.View.{item_held, kind_held, IsEvent, IsTransaction};
+    ghost use Rattle.sentry_items.specs.View.{item_held, kind_held};
 
     /// Boxes an event as an item; returns the event unchanged if the allocation fails.
     pub fn event(alloc: Global, event: Event<'static>) -> Result<EnvelopeItem, Event<'static>>
-        ensures boxed { IfOk result (IsEvent event.entry) }
+        ensures boxed { IfOk result (IsBoxed EnvelopeItem.Event event.entry) }
         ensures handed_back { IfErr result (λ back. back ≡ event.entry) }
     {
         match Box::new(alloc, event) {
@@ -64,7 +65,7 @@ impl EnvelopeItem {
         alloc: Global,
         transaction: Transaction<'static>,
     ) -> Result<EnvelopeItem, Transaction<'static>>
-        ensures boxed { IfOk result (IsTransaction transaction.entry) }
+        ensures boxed { IfOk result (IsBoxed EnvelopeItem.Transaction transaction.entry) }
         ensures handed_back { IfErr result (λ back. back ≡ transaction.entry) }
     {
         match Box::new(alloc, transaction) {
