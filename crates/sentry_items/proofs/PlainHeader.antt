@@ -6,7 +6,7 @@ use Rattle.sentry_items.specs.Attached.{Attached, attached_type, attached_conten
 use Rattle.sentry_items.specs.AttachmentWords.{attachment_type_text}
 use Rattle.sentry_items.specs.HeaderTokens.{header_text, member_tokens}
 use Rattle.sentry_items.proofs.HeaderTokens.{print_header}
-use Rattle.sentry_items.specs.PlainHeader.{plain_header}
+use Rattle.sentry_items.specs.PlainHeader.{plain_header, types_text}
 use Rattle.std.specs.Prelude.{None, OnOk, if◌then◌else◌}
 
 -- the tokens of such a header, printed
@@ -27,14 +27,28 @@ module _ (ty content_type filename : List ℕ) (len : ℕ) (plain_type : escape 
       sym (print_header (plain_header ty content_type filename len)) ∙ printed ty content_type filename len ∙ rw (plain_type, plain_content_type, plain_name) (simp append_assoc)
 
   -- what is appended piece by piece is that text, where the last piece may be refused
-  pub pieces : {E : Type 0} (r : Result (Unit {0}) E) (old a b c d e f g h new digits : List ℕ) → digits ≡ decimal len
-      → a ≡ old ++ codes "{\"attachment_type\":\"" → b ≡ a ++ ty → c ≡ b ++ codes "\",\"content_type\":\"" → d ≡ c ++ content_type
-      → e ≡ d ++ codes "\",\"filename\":\"" → f ≡ e ++ filename → g ≡ f ++ codes "\",\"length\":" → h ≡ g ++ digits
-      → new ≡ (if is_ok r then h ++ codes ",\"type\":\"attachment\"}" else h)
+  pub pieces : {E : Type 0} (r : Result (Unit {0}) E) (old a b c d new digits : List ℕ) → digits ≡ decimal len
+      → a ≡ old ++ types_text ty content_type → b ≡ a ++ filename → c ≡ b ++ codes "\",\"length\":" → d ≡ c ++ digits
+      → new ≡ (if is_ok r then d ++ codes ",\"type\":\"attachment\"}" else d)
       → OnOk r (new ≡ old ++ header_text (plain_header ty content_type filename len))
-  pieces (Ok u) old a b c d e f g h new digits is ea eb ec ed ee ef eg eh en =
-      rw (plain_text, en, eh, eg, ef, ee, ed, ec, eb, ea, is) (simp append_assoc)
-  pieces (Err x) old a b c d e f g h new digits is ea eb ec ed ee ef eg eh en = tt
+  pieces (Ok u) old a b c d new digits is ea eb ec ed en =
+      rw (plain_text, en, ed, ec, eb, ea, is) (simp append_assoc)
+  pieces (Err x) old a b c d new digits is ea eb ec ed en = tt
+
+-- both types piece by piece, where the last piece may be refused
+pub types_pieces : {E : Type 0} (r : Result (Unit {0}) E) (ty content_type old a b c d new : List ℕ)
+    → a ≡ old ++ codes "{\"attachment_type\":\"" → b ≡ a ++ ty → c ≡ b ++ codes "\",\"content_type\":\"" → d ≡ c ++ content_type
+    → new ≡ (if is_ok r then d ++ codes "\",\"filename\":\"" else d)
+    → OnOk r (new ≡ old ++ types_text ty content_type)
+types_pieces (Ok u) ty content_type old a b c d new ea eb ec ed en = rw (en, ed, ec, eb, ea) (simp append_assoc)
+types_pieces (Err x) ty content_type old a b c d new ea eb ec ed en = tt
+
+-- the usual types at once, which may be refused
+pub usual_types : {E : Type 0} (r : Result (Unit {0}) E) (ty content_type old new : List ℕ) → ty ≡ codes "event.attachment" → content_type ≡ codes "application/octet-stream"
+    → new ≡ (if is_ok r then old ++ codes "{\"attachment_type\":\"event.attachment\",\"content_type\":\"application/octet-stream\",\"filename\":\"" else old)
+    → OnOk r (new ≡ old ++ types_text ty content_type)
+usual_types (Ok u) ty content_type old new et ec en = rw (et, ec) en
+usual_types (Err x) ty content_type old new et ec en = tt
 
 -- the usual types need no escapes
 pub usual_type : (a : Attached) → a.ty ≡ None → escape (attachment_type_text (attached_type a)) ≡ attachment_type_text (attached_type a)

@@ -4,7 +4,7 @@ ghost use Rattle.std.specs.Bool.{OnTrue};
 ghost use Rattle.json.specs.Print.{escape};
 ghost use Rattle.json.specs.Written.{PlainBetween};
 ghost use Rattle.sentry_items.specs.HeaderTokens.{header_text};
-ghost use Rattle.sentry_items.specs.PlainHeader.{plain_header};
+ghost use Rattle.sentry_items.specs.PlainHeader.{plain_header, types_text};
 
 use std::alloc::AllocError;
 
@@ -13,6 +13,9 @@ const BEFORE_TYPE: &[u8] = b"{\"attachment_type\":\"";
 const BEFORE_CONTENT_TYPE: &[u8] = b"\",\"content_type\":\"";
 
 const BEFORE_NAME: &[u8] = b"\",\"filename\":\"";
+
+const USUAL_TYPES: &[u8] =
+    b"{\"attachment_type\":\"event.attachment\",\"content_type\":\"application/octet-stream\",\"filename\":\"";
 
 const BEFORE_LENGTH: &[u8] = b"\",\"length\":";
 
@@ -36,6 +39,22 @@ fn has_no_special(text: &[u8]) -> bool
     true
 }
 
+// Appends the members of both types, which need no escapes, up to the file name. The usual types
+// are appended at once. `AllocError` if an allocation fails; a part may have been appended.
+fn write_types(ty: &str, content_type: &str, out: &mut Vec<u8>) -> Result<(), AllocError>
+    ensures ok { OnOk result (out.new.items ≡ out.old.items ++ types_text ty.now content_type.now) }
+    ensures kept { (part : List ℕ) × (out.new.items ≡ out.old.items ++ part) }
+{
+    if ty == "event.attachment" && content_type == "application/octet-stream" {
+        return out.extend_from_slice(USUAL_TYPES);
+    }
+    out.extend_from_slice(BEFORE_TYPE)?;
+    out.extend_from_slice(ty.as_bytes())?;
+    out.extend_from_slice(BEFORE_CONTENT_TYPE)?;
+    out.extend_from_slice(content_type.as_bytes())?;
+    out.extend_from_slice(BEFORE_NAME)
+}
+
 // Appends the item header of an attachment of `len` bytes, whose texts need no escapes.
 // `AllocError` if an allocation fails; a part of the header may have been appended.
 pub(crate) fn write_plain_header(
@@ -54,11 +73,7 @@ pub(crate) fn write_plain_header(
 {
     let mut digits = itoa::Buffer::new();
     let digits = digits.format(len as u64);
-    out.extend_from_slice(BEFORE_TYPE)?;
-    out.extend_from_slice(ty.as_bytes())?;
-    out.extend_from_slice(BEFORE_CONTENT_TYPE)?;
-    out.extend_from_slice(content_type.as_bytes())?;
-    out.extend_from_slice(BEFORE_NAME)?;
+    write_types(ty, content_type, out)?;
     out.extend_from_slice(filename.as_bytes())?;
     out.extend_from_slice(BEFORE_LENGTH)?;
     out.extend_from_slice(digits.as_bytes())?;
