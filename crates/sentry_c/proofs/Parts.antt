@@ -1,11 +1,11 @@
 -- Where the parts of a DSN and of an authentication stand in their printed forms.
-use Rattle.std.proofs.Common.{arith, ◌≡◌, ℕ, ◌+◌, ◌-◌, ◌≤◌, List, [], ◌∷◌, ◌++◌, length, codes, decimal, Option, Some, None, option_map, unwrap_or, refl, ap, sym, ◌∙◌, append-nil, append_assoc, length-append, subst}
+use Rattle.std.proofs.Common.{arith, ◌≡◌, ℕ, ◌+◌, ◌-◌, ◌≤◌, List, [], ◌++◌, length, codes, decimal, Option, Some, None, option_map, unwrap_or, refl, ap, sym, ◌∙◌, append-nil, append_assoc, length-append, subst}
 use Rattle.sentry_keys.specs.Auth.{Parts, client_key, secret_key, timestamp_key}
-use Rattle.sentry_keys.specs.AuthText.{ReadsHeader, auth_text, part_text, time_text}
+use Rattle.sentry_keys.specs.AuthText.{auth_text, part_text, time_text}
 use Rattle.sentry_keys.specs.Dsn.{DsnParts, dsn_text, port_text}
 use Rattle.sentry_keys.specs.DsnScheme.{scheme_text}
 use Rattle.sentry_c.specs.Places.{Stands}
-use Rattle.sentry_c.specs.Texts.{IsAt, IsOptionalAt, IsOptionalEnd, optional_len}
+use Rattle.sentry_c.specs.Texts.{IsOptionalAt, IsOptionalEnd, optional_len}
 use Rattle.sentry_c.specs.declared.texts.SentryPlace.{SentryPlace}
 
 -- a part at the front

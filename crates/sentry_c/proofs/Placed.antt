@@ -1,5 +1,5 @@
 -- Where the parts of a frame stand in the bytes.
-use Rattle.std.proofs.Common.{arith, ◌≡◌, ◌≢◌, ◌⊎◌, inl, inr, ℕ, ◌+◌, ◌-◌, ◌<◌, ◌≤◌, List, [], ◌∷◌, ◌++◌, length, take, drop, get_or, min, refl, ap, sym, ◌∙◌, append-nil, append_assoc, length-append, take-append-drop, subst}
+use Rattle.std.proofs.Common.{arith, ◌≡◌, ◌≢◌, inl, inr, ℕ, ◌+◌, ◌-◌, ◌<◌, ◌≤◌, List, [], ◌∷◌, ◌++◌, length, take, drop, get_or, min, refl, ap, sym, ◌∙◌, append-nil, append_assoc, length-append, take-append-drop, subst}
 use Rattle.std.proofs.lemmas.List.{drop_at, drop_more, take_rest}
 use Rattle.std.proofs.lemmas.List.Elements.{All-head}
 use Rattle.sentry_json.specs.Line.{newline}

@@ -1,10 +1,6 @@
-use Rattle.std.proofs.Common.{arith, ◌≡◌, sym, subst}
-use Rattle.sentry_framing.specs.Framing.{IsFirstFrame}
-use Rattle.sentry_framing.specs.ItemHeader.{stated_length}
-use Rattle.sentry_framing.specs.ItemWords.{item_words}
+use Rattle.std.proofs.Common.{arith}
 use Rattle.sentry_framing.specs.HeaderView.{header_view}
 use Rattle.sentry_framing.specs.View.{frame_of}
-use Rattle.sentry_c.specs.Frames.{BodyFrom}
 use Rattle.sentry_c.specs.Places.{EndsWith}
 use Rattle.sentry_c.proofs.Placed.{body_from_ends, end_fits, end_is_dropped, ends_through, frame_ends}
 use Rattle.sentry_c.proofs.frames.sentry_frames_next.Goals as goal

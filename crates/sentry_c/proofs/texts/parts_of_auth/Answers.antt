@@ -1,6 +1,5 @@
 use Rattle.std.proofs.Common.{◌∙◌, ap, length}
-use Rattle.sentry_keys.specs.Auth.{parts_of, time_of}
-use Rattle.sentry_c.specs.Texts.{IsTimestamp}
+use Rattle.sentry_keys.specs.Auth.{parts_of}
 use Rattle.sentry_c.proofs.Parts.{auth_key_at, auth_secret_at, auth_client_at}
 use Rattle.sentry_c.proofs.texts.parts_of_auth.Goals as goal
 

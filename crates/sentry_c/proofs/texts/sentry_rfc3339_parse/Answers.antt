@@ -1,5 +1,3 @@
-use Rattle.std.proofs.Common.{subst}
-use Rattle.sentry_moments.specs.Rfc3339.{IsRfc3339}
 use Rattle.sentry_c.proofs.texts.sentry_rfc3339_parse.Goals as goal
 
 pub returns-in_default-from_rfc3339-clause-invalid : goal.returns-in_default-from_rfc3339-clause-invalid
