@@ -16,7 +16,7 @@ use Rattle.sentry_ledger.proofs.SumLemmas.{sums_of_run}
 use Rattle.sentry_c.specs.Envelopes.{IsLeft, Leaves, LeavesNothing, header_left, left_model}
 use Rattle.sentry_c.specs.Filtering.{AddsLosses, AnswersByBits}
 use Rattle.sentry_c.specs.Kinds.{answers, is_wanted}
-use Rattle.sentry_c.specs.Losses.{SumsLosses}
+use Rattle.sentry_c.specs.Losses.{SumsItemLosses}
 use Rattle.sentry_c.specs.declared.filter.KindFilter.{KindFilter}
 
 -- the answers of a run are those of the bits
@@ -36,7 +36,7 @@ answers_are kinds keep (item ∷ items) (false ∷ given) rest first last same i
 
 -- the sums after a run are those of what was handed over
 sums_after : (items : List EnvelopeItem) (given : List Bool) (first last : KindFilter) → first.sums.row ≡ no_sums → Run AnswersByBits AddsLosses first (calls items given) last
-    → SumsLosses last.sums.row (handed items given)
+    → SumsItemLosses last.sums.row (handed items given)
 sums_after items given first last none run =
     let sums = sums_of_run AnswersByBits AddsLosses (λ f. f.sums) (λ f item answer next asked. ap (λ (s : KindFilter). s.sums) asked.0) (λ f item next gave. ap (λ (s : KindFilter). s.sums) gave) items given first last none run in
     record { long = sums.long; each = sums.each }
@@ -81,8 +81,8 @@ left_of bytes now keep_headers envelope first last left spelled none filtered =
     go (Raw b) spelled given complete run kept_items is leaves = absurd spelled
     go (Items all) spelled given complete run kept_items is leaves =
         let are : given ≡ answers first.kinds first.keep all.items = answers_are first.kinds first.keep all.items given (map Hand (orphans (chosen all.items given))) first last complete refl refl run in
-        let lost : SumsLosses last.sums.row (handed all.items (answers first.kinds first.keep all.items)) =
-        subst (λ (g : List Bool). SumsLosses last.sums.row (handed all.items g)) are (sums_after all.items given first last none run) in
+        let lost : SumsItemLosses last.sums.row (handed all.items (answers first.kinds first.keep all.items)) =
+        subst (λ (g : List Bool). SumsItemLosses last.sums.row (handed all.items g)) are (sums_after all.items given first last none run) in
         answer bytes now first.kinds first.keep keep_headers last.sums.row (header_left keep_headers header) (Items all) envelope all.items kept_items left refl
         (record {
           whole = header;

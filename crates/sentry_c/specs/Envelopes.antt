@@ -8,7 +8,7 @@ use Rattle.sentry_envelope.specs.Filter.{chosen, first_id_of, handed, kept}
 use Rattle.sentry_envelope.specs.HeaderFields.{put_id}
 use Rattle.sentry_envelope.specs.SentryProfile.{profile}
 use Rattle.sentry_c.specs.Kinds.{answers}
-use Rattle.sentry_c.specs.Losses.{SumsLosses}
+use Rattle.sentry_c.specs.Losses.{SumsItemLosses}
 
 -- some envelope is spelled by the bytes at the moment
 abbrev pub IsSpelled : List ℕ → Cell → Type 0
@@ -40,7 +40,7 @@ pub record Leaves (bytes : List ℕ) (now : Cell) (kinds : ℕ) (keep keep_heade
   pub spells : Spells profile bytes now (model whole items)
   pub header_is : header ≡ header_left keep_headers whole
   pub left_is : left ≡ kept (chosen items (answers kinds keep items))
-  pub losses : SumsLosses sums (handed items (answers kinds keep items))
+  pub losses : SumsItemLosses sums (handed items (answers kinds keep items))
 
 -- the text of what the filter leaves, which is not nothing
 pub record IsLeft (bytes : List ℕ) (now : Cell) (kinds : ℕ) (keep keep_headers : Bool) (sums text : List ℕ) : Type 0 where

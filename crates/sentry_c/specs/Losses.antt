@@ -7,6 +7,6 @@ use Rattle.sentry_reports.specs.declared.category.Category.{Category}
 use Rattle.sentry_reports.specs.declared.reason.Reason.{Reason}
 
 -- each sum in the row is that of the losses of these items
-pub record SumsLosses (row : List ℕ) (items : List EnvelopeItem) : Type 0 where
+pub record SumsItemLosses (row : List ℕ) (items : List EnvelopeItem) : Type 0 where
   pub long : length row ≡ 120
   pub each : (category : Category) (reason : Option Reason) → slice_index row (place category reason) ≡ shown category reason (losses_of_items items)
