@@ -3,7 +3,7 @@
 use super::text_of;
 use crate::envelopes::read;
 use crate::wanted::{is_done, wanted};
-use sentry_types::protocol::v7::{Envelope, EnvelopeError, EnvelopeWriteError, Frames};
+use sentry_types::protocol::v7::{Envelope, EnvelopeWriteError, Frames};
 use std::alloc::Global;
 use std::fs;
 use std::test::Fail;
