@@ -1,6 +1,9 @@
 //! `Context`: one of the context types, selected by the member `type`.
 
 ghost use Rattle.std.specs.Prelude.{◌≡◌, IfErr, IfOk, codes, refl};
+ghost use Rattle.sentry_members.specs.Made.{made};
+ghost use Rattle.sentry_members.specs.Reading.{Reads, ReadsAt};
+ghost use Rattle.sentry_moments.specs.Moments.{moment_cell};
 ghost use Rattle.sentry_contexts.specs.Contexts.{context_cases, context_cell, context_word, IsBoxed};
 
 use crate::app::AppContext;
