@@ -1,9 +1,9 @@
 -- Values that are one of several cases: what takes, makes and reads them.
-use Rattle.std.specs.Prelude.{◌≡◌, ℕ, zero, suc, List, [], ◌∷◌, true, Some, Result, Ok, Err}
+use Rattle.std.specs.Prelude.{◌≡◌, ℕ, zero, suc, List, [], ◌∷◌, Some, Result, Ok, Err}
 use Rattle.serde_json.specs.Data.{Data, Members}
 use Rattle.sentry_tables.specs.Cell.{Cell, Cells}
 use Rattle.sentry_tables.specs.Kind.{Kind, table, tagged, Rows, Other, kept, Cases, no_cases, case, words, tag}
-use Rattle.sentry_tables.specs.Shows.{is_object, AreFields, IsChoice, CaseShows, word_at, word_of}
+use Rattle.sentry_tables.specs.Shows.{AreFields, IsChoice, CaseShows, TaggedShows, word_at}
 use Rattle.sentry_members.specs.Made.{made}
 use Rattle.sentry_members.specs.Reading.{Shown, Refused, ShownAt, RefusedAt, Only}
 use Rattle.sentry_members.specs.declared.way.Way.{Way}
@@ -70,7 +70,7 @@ ReadsCaseAt now cases f n d (Err e) = Only e (CaseRefusedAt now cases n d)
 
 -- the member at the key shows the value: by its tag, or where it has none by the key's word
 abbrev pub ShowsEntry : Cases → List ℕ → Cell → List ℕ → Data → Cell → Type 0
-ShowsEntry cases fallback now key d c = (is_object d ≡ true) × IsChoice (CaseShows cases now (word_of (Some (word_at key (words cases) fallback)) d) d) c
+ShowsEntry cases fallback now key = TaggedShows (CaseShows cases now) (Some (word_at key (words cases) fallback))
 
 unfoldable pub EntryShownAt : Cell → Cases → List ℕ → List ℕ → Data → Cell → Type 0
 EntryShownAt now cases fallback key d c = ShowsEntry cases fallback now key d c

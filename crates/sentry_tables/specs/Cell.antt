@@ -4,19 +4,26 @@ use Rattle.serde_json.specs.Data.{Data, Members, no_members}
 
 mutual
   pub data Cell : Type 0 where
+    -- an option without a value, and one with this value
     absent : Cell
     present : Cell → Cell
     text : List ℕ → Cell
     -- bytes that are no text, as those of an id
     octets : List ℕ → Cell
     truth : Bool → Cell
+    -- an integer
     whole : ℤ → Cell
+    -- a tree of JSON that is kept as it is
     any : Data → Cell
+    -- seconds since 1970, and the nanoseconds of the last
     moment : ℕ → ℕ → Cell
+    -- a list
     sequence : Cells → Cell
+    -- a map, in the order of its keys
     mapping : Entries → Cell
     -- one cell for each row, in the order of the rows, and the members that no row names
     fields : Cells → Members → Cell
+    -- the variant of this place in an enumeration, and what it holds
     choice : ℕ → Cell → Cell
 
   pub data Cells : Type 0 where

@@ -47,19 +47,25 @@ pub data Other : Type 0 where
 mutual
   pub data Kind : Type 1 where
     scalar : Scalar → Kind
+    -- an array, each item of which is of this kind
     list : Kind → Kind
+    -- an object of any keys, each member of which is of this kind
     map : Kind → Kind
+    -- a list that is written as an object, under the key `values`; read from a bare array too
     values : Kind → Kind
+    -- an object with these rows, and other members
     table : Rows → Other → Kind
+    -- an object whose text at the key `type` picks the case
     tagged : Cases → Kind
-    -- of a member without a tag the key is the tag, where it is a word of the cases, and else this word is
+    -- an object of any keys, each member of which is tagged: of a member without a tag the key is the tag, where it is a word of the cases, and else this word is
     tagged_map : Cases → List ℕ → Kind
 
+  -- in the order of the keys
   pub data Rows : Type 1 where
     no_rows : Rows
     row : List ℕ → Rule → Kind → Rows → Rows
 
-  -- by the word at the key `type`
+  -- by the word at the key `type`: each with the rows of its table
   pub data Cases : Type 1 where
     no_cases : Cases
     case : List ℕ → Rows → Other → Cases → Cases
