@@ -1,6 +1,6 @@
 //! Words and numbers, at the front of a text.
 
-ghost use Rattle.std.specs.Prelude.{◌≡◌, ◌<◌, [], IfSome, length};
+ghost use Rattle.std.specs.Prelude.{◌<◌, [], IfSome, length};
 ghost use Rattle.sentry_tape.specs.Spelled.{Spells};
 
 use crate::number::{split_negative, split_whole};

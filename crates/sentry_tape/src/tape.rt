@@ -9,6 +9,7 @@ ghost use Rattle.sentry_tape.specs.declared.token.Token.{Token};
 ghost use Rattle.sentry_tape.specs.declared.token.Token.TheVariants as token;
 
 use crate::escape::split_escaped;
+use crate::number::split_whole;
 use crate::rest::Rest;
 use crate::scalar::split_scalar;
 use crate::tape_node::TapeNode;
@@ -91,6 +92,20 @@ fn take_scalar<'a>(text: Rest<'a>, tokens: &mut Vec<Token<'a>>) -> Option<Rest<'
     Some(rest)
 }
 
+// The same of an integer without a sign. It has a call of its own, so that its token goes onto the
+// tape from registers.
+#[inline(never)]
+fn take_whole<'a>(text: Rest<'a>, tokens: &mut Vec<Token<'a>>) -> Option<Rest<'a>>
+    ensures spelled { IfSome result (λ rest. (token : Token)
+        × (tokens.new.items ≡ tokens.old.items ++ token ∷ [])
+        × Spells text.entry.text.now rest.text.now token [] 0) }
+    ensures shorter { IfSome result (λ rest. length rest.text.now < length text.entry.text.now) }
+{
+    let (token, rest) = split_whole(text)?;
+    tokens.push(token).ok()?;
+    Some(rest)
+}
+
 // Appends the token of a string, a word or a number at the front, and returns what follows it; a
 // key is a string. Not inlined: most are strings without escapes, which `take_value` takes itself.
 #[inline(never)]
@@ -135,6 +150,8 @@ fn take_value<'a>(
         × SpellsString text.entry.text.now rest.text.now name) }
     ensures shorter { IfSome result (λ rest. length rest.text.now < length text.entry.text.now) }
 {
+    // Each call's answer is taken apart before the ways join, so that the place in the line stays in
+    // registers.
     if let Some((string, rest)) = text.split_plain() {
         tokens.push(Token::Text(string)).ok()?;
         return Some(rest);
@@ -142,6 +159,10 @@ fn take_value<'a>(
     let byte = *text.bytes().first()?;
     if !key && (byte == b'{' || byte == b'[') {
         let rest = take_inside(alloc, text.after(byte)?, byte == b'{', depth, tokens)?;
+        return Some(rest);
+    }
+    if !key && byte.is_ascii_digit() {
+        let rest = take_whole(text, tokens)?;
         return Some(rest);
     }
     let rest = take_leaf(alloc, text, key, tokens)?;
