@@ -1,13 +1,13 @@
-//! Words and numbers, at the front of a text.
+//! Words and integers with a minus, at the front of a text.
 
 ghost use Rattle.std.specs.Prelude.{◌<◌, [], IfSome, length};
 ghost use Rattle.sentry_tape.specs.Spelled.{Spells};
 
-use crate::number::{split_negative, split_whole};
+use crate::number::split_negative;
 use crate::rest::Rest;
 use crate::token::Token;
 
-// Splits off a value that is no string, no array and no object.
+// Splits off a word or an integer with a minus.
 #[inline(always)]
 pub(crate) fn split_scalar<'a>(text: Rest<'a>) -> Option<(Token<'a>, Rest<'a>)>
     ensures spelled { IfSome result (λ x. Spells text.entry.text.now x.1.text.now x.0 [] 0) }
@@ -18,6 +18,6 @@ pub(crate) fn split_scalar<'a>(text: Rest<'a>) -> Option<(Token<'a>, Rest<'a>)>
         b't' => Some((Token::Bool(true), text.after_word("true")?)),
         b'f' => Some((Token::Bool(false), text.after_word("false")?)),
         b'-' => split_negative(text),
-        _ => split_whole(text),
+        _ => None,
     }
 }

@@ -79,7 +79,7 @@ fn take_escaped<'a>(
     Some(rest)
 }
 
-// The same of a word or a number.
+// The same of a word or an integer with a minus.
 #[inline(always)]
 fn take_scalar<'a>(text: Rest<'a>, tokens: &mut Vec<Token<'a>>) -> Option<Rest<'a>>
     ensures spelled { IfSome result (λ rest. (token : Token)
@@ -88,20 +88,6 @@ fn take_scalar<'a>(text: Rest<'a>, tokens: &mut Vec<Token<'a>>) -> Option<Rest<'
     ensures shorter { IfSome result (λ rest. length rest.text.now < length text.entry.text.now) }
 {
     let (token, rest) = split_scalar(text)?;
-    tokens.push(token).ok()?;
-    Some(rest)
-}
-
-// The same of an integer without a sign. It has a call of its own, so that its token goes onto the
-// tape from registers.
-#[inline(never)]
-fn take_whole<'a>(text: Rest<'a>, tokens: &mut Vec<Token<'a>>) -> Option<Rest<'a>>
-    ensures spelled { IfSome result (λ rest. (token : Token)
-        × (tokens.new.items ≡ tokens.old.items ++ token ∷ [])
-        × Spells text.entry.text.now rest.text.now token [] 0) }
-    ensures shorter { IfSome result (λ rest. length rest.text.now < length text.entry.text.now) }
-{
-    let (token, rest) = split_whole(text)?;
     tokens.push(token).ok()?;
     Some(rest)
 }
@@ -128,6 +114,10 @@ fn take_leaf<'a>(
     }
     if key {
         return None;
+    }
+    if let Some((number, rest)) = split_whole(text) {
+        tokens.push(number).ok()?;
+        return Some(rest);
     }
     take_scalar(text, tokens)
 }
@@ -159,10 +149,6 @@ fn take_value<'a>(
     let byte = *text.bytes().first()?;
     if !key && (byte == b'{' || byte == b'[') {
         let rest = take_inside(alloc, text.after(byte)?, byte == b'{', depth, tokens)?;
-        return Some(rest);
-    }
-    if !key && byte.is_ascii_digit() {
-        let rest = take_whole(text, tokens)?;
         return Some(rest);
     }
     let rest = take_leaf(alloc, text, key, tokens)?;
