@@ -56,16 +56,24 @@ pub enum Context {
     Other(Map<String, Value>),
 }
 
+// Boxes a value; returns it unchanged if the allocation fails.
+fn boxed<T>(alloc: Global, value: T) -> Result<Box<T>, T>
+    ensures boxed { IfOk result (λ it. it.value ≡ value) }
+    ensures handed_back { IfErr result (λ back. back ≡ value) }
+{
+    match Box::new(alloc, value) {
+        Ok(boxed) => Ok(boxed),
+        Err(refused) => Err(refused.value),
+    }
+}
+
 impl Context {
     /// Boxes a device context; returns it unchanged if the allocation fails.
     pub fn device(alloc: Global, device: DeviceContext) -> Result<Context, DeviceContext>
         ensures boxed { IfOk result (IsBoxed Context.Device device) }
         ensures handed_back { IfErr result (λ back. back ≡ device) }
     {
-        match Box::new(alloc, device) {
-            Ok(boxed) => Ok(Context::Device(boxed)),
-            Err(refused) => Err(refused.value),
-        }
+        Ok(Context::Device(boxed(alloc, device)?))
     }
 
     /// Boxes an operating system context; returns it unchanged if the allocation fails.
@@ -73,10 +81,7 @@ impl Context {
         ensures boxed { IfOk result (IsBoxed Context.Os os) }
         ensures handed_back { IfErr result (λ back. back ≡ os) }
     {
-        match Box::new(alloc, os) {
-            Ok(boxed) => Ok(Context::Os(boxed)),
-            Err(refused) => Err(refused.value),
-        }
+        Ok(Context::Os(boxed(alloc, os)?))
     }
 
     /// Boxes a runtime context; returns it unchanged if the allocation fails.
@@ -84,10 +89,7 @@ impl Context {
         ensures boxed { IfOk result (IsBoxed Context.Runtime runtime) }
         ensures handed_back { IfErr result (λ back. back ≡ runtime) }
     {
-        match Box::new(alloc, runtime) {
-            Ok(boxed) => Ok(Context::Runtime(boxed)),
-            Err(refused) => Err(refused.value),
-        }
+        Ok(Context::Runtime(boxed(alloc, runtime)?))
     }
 
     /// Boxes an app context; returns it unchanged if the allocation fails.
@@ -95,10 +97,7 @@ impl Context {
         ensures boxed { IfOk result (IsBoxed Context.App app) }
         ensures handed_back { IfErr result (λ back. back ≡ app) }
     {
-        match Box::new(alloc, app) {
-            Ok(boxed) => Ok(Context::App(boxed)),
-            Err(refused) => Err(refused.value),
-        }
+        Ok(Context::App(boxed(alloc, app)?))
     }
 
     /// Boxes a browser context; returns it unchanged if the allocation fails.
@@ -106,10 +105,7 @@ impl Context {
         ensures boxed { IfOk result (IsBoxed Context.Browser browser) }
         ensures handed_back { IfErr result (λ back. back ≡ browser) }
     {
-        match Box::new(alloc, browser) {
-            Ok(boxed) => Ok(Context::Browser(boxed)),
-            Err(refused) => Err(refused.value),
-        }
+        Ok(Context::Browser(boxed(alloc, browser)?))
     }
 
     /// Boxes a trace context; returns it unchanged if the allocation fails.
@@ -117,10 +113,7 @@ impl Context {
         ensures boxed { IfOk result (IsBoxed Context.Trace trace) }
         ensures handed_back { IfErr result (λ back. back ≡ trace) }
     {
-        match Box::new(alloc, trace) {
-            Ok(boxed) => Ok(Context::Trace(boxed)),
-            Err(refused) => Err(refused.value),
-        }
+        Ok(Context::Trace(boxed(alloc, trace)?))
     }
 
     /// Boxes a GPU context; returns it unchanged if the allocation fails.
@@ -128,10 +121,7 @@ impl Context {
         ensures boxed { IfOk result (IsBoxed Context.Gpu gpu) }
         ensures handed_back { IfErr result (λ back. back ≡ gpu) }
     {
-        match Box::new(alloc, gpu) {
-            Ok(boxed) => Ok(Context::Gpu(boxed)),
-            Err(refused) => Err(refused.value),
-        }
+        Ok(Context::Gpu(boxed(alloc, gpu)?))
     }
 
     /// Boxes an OpenTelemetry context; returns it unchanged if the allocation fails.
@@ -139,10 +129,7 @@ impl Context {
         ensures boxed { IfOk result (IsBoxed Context.Otel otel) }
         ensures handed_back { IfErr result (λ back. back ≡ otel) }
     {
-        match Box::new(alloc, otel) {
-            Ok(boxed) => Ok(Context::Otel(boxed)),
-            Err(refused) => Err(refused.value),
-        }
+        Ok(Context::Otel(boxed(alloc, otel)?))
     }
 
     /// Boxes a response context; returns it unchanged if the allocation fails.
@@ -150,10 +137,7 @@ impl Context {
         ensures boxed { IfOk result (IsBoxed Context.Response response) }
         ensures handed_back { IfErr result (λ back. back ≡ response) }
     {
-        match Box::new(alloc, response) {
-            Ok(boxed) => Ok(Context::Response(boxed)),
-            Err(refused) => Err(refused.value),
-        }
+        Ok(Context::Response(boxed(alloc, response)?))
     }
 
     /// Returns the value of the member `type`; `unknown` for `Other`.

@@ -1,11 +1,11 @@
 //! Laws of the definitions: a written value reads back as its normal form only; the normal form is
 //! its own normal form, and two values share one exactly if their normal forms are written alike.
 
-ghost use Rattle.std.specs.Prelude.{◌≡◌, ◌↔◌, true};
+ghost use Rattle.std.specs.Prelude.{◌≡◌, ◌↔◌, true, IfSome};
 ghost use Rattle.sentry_tables.specs.Kind.{default, values};
 ghost use Rattle.sentry_tables.specs.Laws.{HasLaws};
 ghost use Rattle.sentry_tables.specs.Lawful.{RuleLaws};
-ghost use Rattle.sentry_tables.specs.Meets.{IsReadable};
+ghost use Rattle.sentry_text.specs.UrlTree.{UrlReadsBack};
 ghost use Rattle.sentry_parts.specs.Breadcrumbs.{breadcrumb_kind};
 ghost use Rattle.sentry_parts.specs.ClientSdk.{package_cell, package_kind, sdk_cell, sdk_kind};
 ghost use Rattle.sentry_parts.specs.DebugImages.{apple_cell, apple_kind, image_cell, image_kind, proguard_cell, proguard_kind, symbolic_cell, symbolic_kind, wasm_cell, wasm_kind};
@@ -68,9 +68,8 @@ pub fn equal_tables()
         (package_cell a ≡ package_cell b) }
     ensures software { (a b : Software) → ⟦<ClientSdkInfo as PartialEq>⟧.eq a b ≡ true ↔
         (sdk_cell a ≡ sdk_cell b) }
-    ensures requests { (a b : Requests) → IsReadable request_kind (request_cell a) →
-        IsReadable request_kind (request_cell b) → ⟦<Request as PartialEq>⟧.eq a b ≡ true ↔
-        (request_cell a ≡ request_cell b) }
+    ensures requests { (a b : Requests) → IfSome a.url UrlReadsBack → IfSome b.url UrlReadsBack →
+        ⟦<Request as PartialEq>⟧.eq a b ≡ true ↔ (request_cell a ≡ request_cell b) }
     ensures systems { (a b : Systems) → ⟦<SystemSdkInfo as PartialEq>⟧.eq a b ≡ true ↔
         (system_cell a ≡ system_cell b) }
     ensures apple_images { (a b : Apples) → ⟦<AppleDebugImage as PartialEq>⟧.eq a b ≡ true ↔

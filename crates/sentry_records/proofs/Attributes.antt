@@ -123,7 +123,7 @@ module _ (e : Data) where
   integer_read (number (float x)) h is = absurd h
   integer_read _ h is = absurd cc
 
-  typed_by : (a b c : Bool) (v : Data) → IsSound v → cond a (text_value v) (cond b (integer_value v) (cond c (truth_value v) None)) ≡ Some e → IsRead e
+  typed_by : (a b c : Bool) (v : Data) → IsSound v → option_and_then (λ reader. reader v) (cond a (Some text_value) (cond b (Some integer_value) (cond c (Some truth_value) None))) ≡ Some e → IsRead e
   typed_by true b c v h is = text_read v h is
   typed_by false true c v h is = integer_read v h is
   typed_by false false true v h is = truth_read v h is

@@ -1,5 +1,5 @@
 -- Attributes of logs and metrics: objects of a type and a value.
-use Rattle.std.specs.Prelude.{◌≡◌, ℕ, List, [], codes, Bool, false, cond, bytes_eq, is_some, Result, Ok, Err, Option, Some, None, option_map, option_and_then, ⊤}
+use Rattle.std.specs.Prelude.{◌≡◌, ℕ, List, [], ◌∷◌, codes, Bool, false, cond, is_some, Result, Ok, Err, Option, Some, None, option_map, option_and_then, ⊤}
 use Rattle.serde_json.specs.Data.{Num, Data, null, boolean, number, string, array, object, Members, no_members, member}
 use Rattle.serde_json.specs.Find.{get, as_str, as_bool, as_number, as_i64, of_integer}
 use Rattle.serde_json.specs.Written.{has_float, compact_text}
@@ -11,6 +11,7 @@ use Rattle.serde_json.specs.declared.value.Value.{Value}
 use Rattle.sentry_members.specs.Cells.{tree_cell}
 use Rattle.sentry_members.specs.Reading.{Only}
 use Rattle.sentry_members.specs.declared.error.TreeError.{TreeError}
+use Rattle.sentry_words.specs.Lookup.{lookup}
 use Rattle.sentry_records.specs.declared.log_attribute.LogAttribute.{LogAttribute}
 
 -- `value`
@@ -32,9 +33,13 @@ integer_value d = option_map (λ z. number (of_integer z)) (option_and_then as_i
 abbrev pub truth_value : Data → Option Data
 truth_value d = option_map boolean (as_bool d)
 
+-- `string` names a text, `integer` a whole number of 64 bits with sign, `boolean` a truth value; no other word has a value
+abbrev pub readers : List (List ℕ × (Data → Option Data))
+readers = (codes "string", text_value) ∷ (codes "integer", integer_value) ∷ (codes "boolean", truth_value) ∷ []
+
 -- the value, where it is of the type that is named
 abbrev pub typed_value : List ℕ → Data → Option Data
-typed_value word d = cond (bytes_eq word (codes "string")) (text_value d) (cond (bytes_eq word (codes "integer")) (integer_value d) (cond (bytes_eq word (codes "boolean")) (truth_value d) None))
+typed_value word d = option_and_then (λ reader. reader d) (lookup readers word)
 
 -- what a reader of such a value answers
 abbrev pub ReadsTyped : List ℕ → Data → Result Value TreeError → Type 0

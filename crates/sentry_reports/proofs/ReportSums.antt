@@ -1,10 +1,11 @@
 -- The row of a report's sums: it keeps the sum of each pair, item by item.
-use Rattle.std.proofs.Common.{arith, Bool, nat_eq, ◌≡◌, ℕ, zero, suc, ◌+◌, ◌-◌, ◌/◌, ◌%◌, ◌^◌, ◌<◌, ◌≢◌, ◌⊎◌, inl, inr, min, true, false, List, [], ◌∷◌, ◌++◌, length, Some, ◌==◌, get_or, set, replicate, take, refl, ap, sym, ◌∙◌, get_or-set_same, get_or-set_other, length-set}
+use Rattle.std.proofs.Common.{rules, arith, Bool, nat_eq, ◌≡◌, ℕ, zero, suc, ◌+◌, ◌-◌, ◌/◌, ◌%◌, ◌^◌, ◌<◌, ◌≢◌, ◌⊎◌, inl, inr, min, true, false, List, [], ◌∷◌, ◌++◌, length, Some, ◌==◌, get_or, set, replicate, take, refl, ap, sym, ◌∙◌, get_or-set_same, get_or-set_other, length-set}
 use Rattle.std.proofs.lemmas.List.{ext_get_or, get_or-replicate, map-append, take_more}
+use Rattle.std.specs.Prelude.{⊤}
 use Rattle.std.specs.Cmp.Lexicographic.{pointwise}
 use Rattle.std.proofs.lemmas.List.Sums.{sum_by_push}
 use Rattle.std.proofs.lemmas.Bool.Decides.{eqb_tells}
-use Rattle.sentry_reports.specs.Categories.{category_index, reason_index}
+use Rattle.sentry_reports.specs.Categories.{categories, category_index, reasons, reason_index}
 use Rattle.sentry_reports.specs.Items.{item_loss, losses_reported}
 use Rattle.sentry_reports.specs.ReportSums.{report_sum, pair_place, all_sums, KeepsSums}
 use Rattle.sentry_reports.specs.Sums.{place, lost}
@@ -12,10 +13,11 @@ use Rattle.sentry_reports.specs.declared.category.Category.TheVariants as catego
 use Rattle.sentry_reports.specs.declared.reason.Reason.TheVariants as reason
 use Rattle.sentry_reports.specs.declared.category.Category.{Category}
 use Rattle.sentry_reports.specs.declared.item.Item.{Item}
+use Rattle.sentry_reports.specs.declared.kept_sums.TheConstants.{SUMS}
 use Rattle.sentry_reports.specs.declared.reason.Reason.{Reason}
 use Rattle.sentry_reports.proofs.Sums.{share, category_below, reason_below, share_here, share_elsewhere}
 
-pub pair_below : (c : Category) (r : Reason) → pair_place c r < 108
+pub pair_below : (c : Category) (r : Reason) → pair_place c r < SUMS
 pair_below c r = omega (arith, category_below c, reason_below r)
 
 -- what one more item adds to the sum of a pair, without bound
@@ -47,9 +49,9 @@ pub other_place : (c d : Category) (r s : Reason) → pair_place c r ≢ pair_pl
 other_place c d r s ne e = ne (omega (arith, reason_below r, reason_below s))
 
 -- nothing is lost with no items
-pub keeps_nothing : KeepsSums (replicate 108 0) []
+pub keeps_nothing : KeepsSums (replicate SUMS 0) []
 unfolding report_sum
-keeps_nothing = record { long = refl; each = λ c r. get_or-replicate 108 (pair_place c r) 0 0 (pair_below c r) }
+keeps_nothing = record { long = refl; each = λ c r. get_or-replicate SUMS (pair_place c r) 0 0 (pair_below c r) }
 
 -- one more item in the sum at its place, which is cut, and in no other
 each_more : (sums : List ℕ) (items : List Item) (item : Item) → KeepsSums sums items → (c : Category) (r : Reason)
@@ -87,41 +89,31 @@ keeps_next sums items i d at sum within here is keeps = record {
 
 -- ---- the sums of all pairs
 
-abbrev HasCategory : ℕ → Type 0
-HasCategory i = (c : Category) × (category_index c ≡ i)
+-- the elements have these indices, which count up from a number on
+abbrev CountsUp : {A : Type 0} → (A → ℕ) → ℕ → List A → Type 0
+CountsUp index start [] = ⊤
+CountsUp index start (x ∷ xs) = (index x ≡ start) × CountsUp index (suc start) xs
 
-abbrev HasReason : ℕ → Type 0
-HasReason i = (r : Reason) × (reason_index r ≡ i)
+-- so each index is that of an element
+element_at : {A : Type 0} (index : A → ℕ) (start : ℕ) (xs : List A) (i : ℕ) → CountsUp index start xs → i < length xs → (x : A) × (index x ≡ start + i)
+element_at index start [] i counts h = absurd (omega (arith, h))
+element_at index start (x ∷ xs) zero counts h = (x, omega (arith, counts.0))
+element_at index start (x ∷ xs) (suc i) counts h =
+    let found = element_at index (suc start) xs i counts.1 (omega (arith, h)) in
+    (found.0, omega (arith, found.1))
 
-category_at : (i : ℕ) → i < 12 → HasCategory i
-category_at zero h = (category.Error, refl)
-category_at (suc zero) h = (category.Session, refl)
-category_at (suc (suc zero)) h = (category.Transaction, refl)
-category_at (suc (suc (suc zero))) h = (category.Span, refl)
-category_at (suc (suc (suc (suc zero)))) h = (category.Attachment, refl)
-category_at (suc (suc (suc (suc (suc zero))))) h = (category.Monitor, refl)
-category_at (suc (suc (suc (suc (suc (suc zero)))))) h = (category.LogItem, refl)
-category_at (suc (suc (suc (suc (suc (suc (suc zero))))))) h = (category.LogByte, refl)
-category_at (suc (suc (suc (suc (suc (suc (suc (suc zero)))))))) h = (category.TraceMetric, refl)
-category_at (suc (suc (suc (suc (suc (suc (suc (suc (suc zero))))))))) h = (category.TraceMetricByte, refl)
-category_at (suc (suc (suc (suc (suc (suc (suc (suc (suc (suc zero)))))))))) h = (category.Feedback, refl)
-category_at (suc (suc (suc (suc (suc (suc (suc (suc (suc (suc (suc zero))))))))))) h = (category.Replay, refl)
-category_at (suc (suc (suc (suc (suc (suc (suc (suc (suc (suc (suc (suc i)))))))))))) h = absurd (omega (arith, h))
+category_at : (i : ℕ) → i < 12 → (c : Category) × (category_index c ≡ i)
+category_at i h =
+    let found = element_at category_index 0 categories i (search rules) h in
+    (found.0, omega (arith, found.1))
 
-reason_at : (i : ℕ) → i < 9 → HasReason i
-reason_at zero h = (reason.SendError, refl)
-reason_at (suc zero) h = (reason.InternalSdkError, refl)
-reason_at (suc (suc zero)) h = (reason.NetworkError, refl)
-reason_at (suc (suc (suc zero))) h = (reason.RatelimitBackoff, refl)
-reason_at (suc (suc (suc (suc zero)))) h = (reason.QueueOverflow, refl)
-reason_at (suc (suc (suc (suc (suc zero))))) h = (reason.BufferOverflow, refl)
-reason_at (suc (suc (suc (suc (suc (suc zero)))))) h = (reason.EventProcessor, refl)
-reason_at (suc (suc (suc (suc (suc (suc (suc zero))))))) h = (reason.BeforeSend, refl)
-reason_at (suc (suc (suc (suc (suc (suc (suc (suc zero)))))))) h = (reason.SampleRate, refl)
-reason_at (suc (suc (suc (suc (suc (suc (suc (suc (suc i))))))))) h = absurd (omega (arith, h))
+reason_at : (i : ℕ) → i < 9 → (r : Reason) × (reason_index r ≡ i)
+reason_at i h =
+    let found = element_at reason_index 0 reasons i (search rules) h in
+    (found.0, omega (arith, found.1))
 
 -- each place in the row is that of a pair
-pub pair_at : (i : ℕ) → i < 108 → (c : Category) × (r : Reason) × (pair_place c r ≡ i)
+pub pair_at : (i : ℕ) → i < SUMS → (c : Category) × (r : Reason) × (pair_place c r ≡ i)
 pair_at i h =
     let c = category_at (i / 9) (omega arith) in
     let r = reason_at (i % 9) (omega arith) in
@@ -144,7 +136,7 @@ all_at items category.Feedback reason.SendError = refl
 all_at items category.Replay reason.SendError = refl
 all_at items _ _ = refl
 
-all_long : (items : List Item) → length (all_sums items) ≡ 108
+all_long : (items : List Item) → length (all_sums items) ≡ SUMS
 unfolding all_sums
 all_long items = refl
 

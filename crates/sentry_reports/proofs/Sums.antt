@@ -12,28 +12,11 @@ use Rattle.sentry_reports.specs.declared.reason.Reason.TheVariants as reason
 
 pub category_below : (c : Category) → category_index c < 12
 category_below category.Error = lit< tt
-category_below category.Session = lit< tt
-category_below category.Transaction = lit< tt
-category_below category.Span = lit< tt
-category_below category.Attachment = lit< tt
-category_below category.Monitor = lit< tt
-category_below category.LogItem = lit< tt
-category_below category.LogByte = lit< tt
-category_below category.TraceMetric = lit< tt
-category_below category.TraceMetricByte = lit< tt
-category_below category.Feedback = lit< tt
-category_below category.Replay = lit< tt
+category_below _ = lit< tt
 
 pub reason_below : (r : Reason) → reason_index r < 9
 reason_below reason.SendError = lit< tt
-reason_below reason.InternalSdkError = lit< tt
-reason_below reason.NetworkError = lit< tt
-reason_below reason.RatelimitBackoff = lit< tt
-reason_below reason.QueueOverflow = lit< tt
-reason_below reason.BufferOverflow = lit< tt
-reason_below reason.EventProcessor = lit< tt
-reason_below reason.BeforeSend = lit< tt
-reason_below reason.SampleRate = lit< tt
+reason_below _ = lit< tt
 
 pub reason_place_below : (r : Option Reason) → reason_place r < 10
 reason_place_below None = lit< tt

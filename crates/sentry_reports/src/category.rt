@@ -81,20 +81,7 @@ impl IndexedEnum for Category {
     ];
 
     fn as_index(&self) -> usize {
-        match self {
-            Category::Error => 0,
-            Category::Session => 1,
-            Category::Transaction => 2,
-            Category::Span => 3,
-            Category::Attachment => 4,
-            Category::Monitor => 5,
-            Category::LogItem => 6,
-            Category::LogByte => 7,
-            Category::TraceMetric => 8,
-            Category::TraceMetricByte => 9,
-            Category::Feedback => 10,
-            Category::Replay => 11,
-        }
+        *self as usize
     }
 
     ghost in_place = { category_in_place };

@@ -17,7 +17,7 @@ const REASONS: usize = 9;
 /// Returns the index of a sum: category by category, and by reason in each category.
 pub fn pair_place(category: Category, reason: Reason) -> usize
     ensures same { result ≡ pair_place category reason }
-    ensures within { result < 108 }
+    ensures within { result < SUMS }
 {
     REASONS * category.as_index() + reason.as_index()
 }

@@ -69,17 +69,7 @@ impl IndexedEnum for Reason {
     ];
 
     fn as_index(&self) -> usize {
-        match self {
-            Reason::SendError => 0,
-            Reason::InternalSdkError => 1,
-            Reason::NetworkError => 2,
-            Reason::RatelimitBackoff => 3,
-            Reason::QueueOverflow => 4,
-            Reason::BufferOverflow => 5,
-            Reason::EventProcessor => 6,
-            Reason::BeforeSend => 7,
-            Reason::SampleRate => 8,
-        }
+        *self as usize
     }
 
     ghost in_place = { reason_in_place };

@@ -1,6 +1,6 @@
 -- The spelling of URLs is lawful.
 use Rattle.std.proofs.Common.{◌≡◌, ◌⊎◌, ℕ, List, [], ◌∷◌, Option, Some, None, Ok, Err, inl, inr, refl, sym, ap, subst, ◌∙◌, IsUtf8}
-use Rattle.std.specs.Prelude.{◌↔◌, true, bytes_eq, Result, IfOk, OnOk}
+use Rattle.std.specs.Prelude.{◌≢◌, ◌↔◌, true, bytes_eq, Result, IfOk, OnOk}
 use Rattle.std.proofs.lemmas.Slice.Eq.{bytes_eq-Decides}
 use Rattle.std.proofs.lemmas.Str.{IsUtf8-from_ascii}
 use Rattle.json.specs.Token.{Token}
@@ -10,10 +10,12 @@ use Rattle.serde_json.specs.View.{view}
 use Rattle.serde_json.specs.declared.value.Value.{Value}
 use Rattle.url.specs.declared.host.Host.{Host}
 use Rattle.url.specs.declared.host.Host.TheVariants.{Domain, Ipv4, Ipv6}
+use Rattle.url.specs.declared.scheme.SchemeType.{SchemeType}
+use Rattle.url.specs.declared.scheme.SchemeType.TheVariants.{File, SpecialNotFile, NotSpecial}
 use Rattle.url.specs.Canonical.{IsCanonical}
 use Rattle.url.specs.Parser.{Parsed, parse_url}
-use Rattle.url.specs.Parts.{Parts, serialize, IsValid}
-use Rattle.url.proofs.Theorems.{parse_url-serialize, parse_url_idempotent}
+use Rattle.url.specs.Parts.{Parts, kind_of, serialize, IsValid}
+use Rattle.url.proofs.Theorems.{parse_url-serialize, parse_url-serialize_special, parse_url_idempotent}
 use Rattle.url.proofs.ValidLemmas.{IsAscii-serialize}
 use Rattle.sentry_json.specs.Sound.{IsSound}
 use Rattle.sentry_tables.specs.Cell.{Cell, text}
@@ -82,16 +84,31 @@ named_valid s url utf8 parsed = parsed_valid s url (utf8_bytes s utf8) parsed
 pub named_reads_back : (s : List ℕ) (url : Parts) → IsUtf8 s → parse_url None s ≡ Ok url → UrlReadsBack url
 named_reads_back s url utf8 parsed = parse_url_idempotent None None s url tt (named_valid s url utf8 parsed) parsed
 
+-- what is asked of a readable URL
+abbrev Demand : Parts → Type 0
+Demand url = kind_of url ≢ SpecialNotFile → UrlReadsBack url
+
+reads_back : (kind : SchemeType) (url : Parts) → kind_of url ≡ kind → IsValid url → Demand url → UrlReadsBack url
+reads_back SpecialNotFile url is valid other = parse_url-serialize_special url None valid is
+reads_back File url is valid other = other (λ special. let both = sym is ∙ special in cc)
+reads_back NotSpecial url is valid other = other (λ special. let both = sym is ∙ special in cc)
+
+-- a valid URL that is readable is read back
+cell_reads_back : (c : Cell) → url_spelling.stored c → url_spelling.readable c → url_spelling.spells (serialize (url_of c)) c
+cell_reads_back c (url, is, valid) (other, also, demand) =
+    let readable = subst Demand (one_url other url (also ∙ sym is)) demand in
+    (url, is, ap (parse_url None) (cell_written c url is) ∙ reads_back (kind_of url) url refl valid readable)
+
 pub url_laws : SpellingLaws url_spelling
 url_laws = record {
-  back = λ c p q. (q.0, q.1, ap (parse_url None) (cell_written c q.0 q.1) ∙ q.2);
+  back = cell_reads_back;
   one = one_spelled;
   again = λ c p. refl;
   stored_norm = λ c p. p;
   readable_norm = λ c p q. q;
   utf8 = λ c p. subst IsUtf8 (sym (cell_written c p.0 p.1)) (IsUtf8-from_ascii (serialize p.0) (IsAscii-serialize p.0 p.2));
   spelled_stored = λ s c utf8 h. (h.0, h.1, named_valid s h.0 utf8 h.2);
-  spelled_readable = λ s c utf8 h. (h.0, h.1, named_reads_back s h.0 utf8 h.2);
+  spelled_readable = λ s c utf8 h. (h.0, h.1, λ other. named_reads_back s h.0 utf8 h.2);
   spelled_written = λ s c utf8 h. refl;
   decide = λ s. some_spelled s (parse_url None s) refl;
 }

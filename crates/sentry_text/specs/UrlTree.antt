@@ -1,11 +1,12 @@
 -- URLs in trees of JSON: as their texts.
-use Rattle.std.specs.Prelude.{◌≡◌, ℕ, List, [], ◌∷◌, Option, Some, None, Ok, pos}
+use Rattle.std.specs.Prelude.{◌≡◌, ◌≢◌, ℕ, List, [], ◌∷◌, Option, Some, None, Ok, pos}
 use Rattle.std.specs.Net.Addr.{ipv4_octets, ipv6_segments}
 use Rattle.url.specs.declared.error.ParseError.{ParseError}
 use Rattle.url.specs.declared.error.ParseError.TheVariants.{Overflow, OutOfMemory}
 use Rattle.url.specs.declared.host.Host.{Host}
 use Rattle.url.specs.declared.host.Host.TheVariants.{Domain, Ipv4, Ipv6}
-use Rattle.url.specs.Parts.{Parts, serialize, IsValid}
+use Rattle.url.specs.declared.scheme.SchemeType.TheVariants.{SpecialNotFile}
+use Rattle.url.specs.Parts.{Parts, kind_of, serialize, IsValid}
 use Rattle.url.specs.Parser.{parse_url}
 use Rattle.sentry_tables.specs.Cell.{Cell, present, text, octets, whole, sequence, Cells, no_cells, cell}
 use Rattle.sentry_tables.specs.Kind.{Kind}
@@ -80,15 +81,17 @@ url_of c =
 abbrev pub UrlReadsBack : Parts → Type 0
 UrlReadsBack url = parse_url None (serialize url) ≡ Ok url
 
--- A text spells the URL that it is parsed as, with no base. A URL is stored where it is valid, and
--- readable where its text is read as that URL.
+-- A text spells the URL that it is parsed as, with no base. A URL is stored where it is valid. A URL
+-- of another scheme than `http`, `https`, `ws`, `wss` and `ftp` is readable where its text is read as
+-- that URL; of these schemes each valid URL is.
 abbrev pub url_spelling : Spelling
 url_spelling = record {
   spells = λ s c. (url : Parts) × (url_cell url ≡ c) × (parse_url None s ≡ Ok url);
   written = λ c. serialize (url_of c);
   norm = λ c. c;
   stored = λ c. (url : Parts) × (url_cell url ≡ c) × IsValid url;
-  readable = λ c. (url : Parts) × (url_cell url ≡ c) × UrlReadsBack url;
+  readable = λ c. (url : Parts) × (url_cell url ≡ c)
+      × (kind_of url ≢ SpecialNotFile → UrlReadsBack url);
 }
 
 abbrev pub url_kind : Kind

@@ -219,7 +219,7 @@ pub fn special_urls_are_readable()
         IsReadable url_kind (url_cell url) }
 {}
 
-/// Two readable URLs are equal exactly if their parts are equal.
+/// Two URLs that read back from their texts are equal exactly if their parts are equal.
 #[tactic(auto, using(crate::proofs::UrlTrees::urls_decide))]
 pub fn equal_urls()
     ensures { (a b : Parts) → UrlReadsBack a → UrlReadsBack b → ⟦<Url as PartialEq>⟧.eq a b ≡ true ↔
