@@ -25,25 +25,13 @@ use std::alloc::{AllocError, Global};
 fn category_of(number: u32) -> Option<Category>
     ensures { result ≡ slice_get categories number }
 {
-    let variants = Category::VARIANTS;
-    let place = number as usize;
-    if place < variants.len() {
-        Some(variants[place])
-    } else {
-        None
-    }
+    Category::VARIANTS.get(number as usize).copied()
 }
 
 fn reason_of(number: u32) -> Option<Reason>
     ensures { result ≡ slice_get reasons number }
 {
-    let variants = Reason::VARIANTS;
-    let place = number as usize;
-    if place < variants.len() {
-        Some(variants[place])
-    } else {
-        None
-    }
+    Reason::VARIANTS.get(number as usize).copied()
 }
 
 // Returns the index of the sum of a category and a reason, by their numbers, in a ledger of the
