@@ -5,6 +5,7 @@ ghost use Rattle.sentry_framing.specs.declared.error.EnvelopeError.{EnvelopeErro
 ghost use Rattle.sentry_framing.specs.declared.error.EnvelopeError.TheVariants as refusals;
 ghost use Rattle.sentry_tables.specs.Cell.{moment};
 ghost use Rattle.sentry_moments.specs.Moments.{moment_cell};
+ghost use Rattle.sentry_moments.specs.Rfc3339.{IsMomentTime};
 ghost use Rattle.sentry_envelope.specs.Envelope.{Spells, envelope_norm, envelope_text};
 ghost use Rattle.sentry_envelope.specs.EnvelopeFault.{Fault};
 ghost use Rattle.sentry_envelope.specs.EnvelopeView.{header_of, structured, text_of};
@@ -81,9 +82,8 @@ pub extern "C" fn sentry_envelope_normalize(
         IsTooLong (IsNormalForm bytes.now (moment now_secs now_nanos)) out.old needed.new }
     ensures fault { (x : Refusal) → result ≡ refusal_status x → x ≢ refusals.OutOfMemory →
         Fault profile bytes.now x }
-    ensures no_moment { result ≡ NO_MOMENT →
-        (now_secs ≤ 253_402_300_799) × (now_nanos < 10 ^ 9) → ⊥ }
-    ensures is_moment { result ≢ NO_MOMENT → (now_secs ≤ 253_402_300_799) × (now_nanos < 10 ^ 9) }
+    ensures no_moment { result ≡ NO_MOMENT → ¬ IsMomentTime now_secs now_nanos }
+    ensures is_moment { result ≢ NO_MOMENT → IsMomentTime now_secs now_nanos }
     ensures unchanged { result ≢ OK → out.new ≡ out.old }
     ensures no_text { result ≢ OK → result ≢ NO_ROOM → needed.new ≡ 0 }
     ensures answers { (result ≡ OK) ⊎ ((result ≡ NO_ROOM) ⊎ ((result ≡ NO_MOMENT) ⊎
@@ -121,9 +121,8 @@ pub extern "C" fn sentry_envelope_check(
     ensures spelled { result ≡ OK → IsSpelled bytes.now (moment now_secs now_nanos) }
     ensures fault { (x : Refusal) → result ≡ refusal_status x → x ≢ refusals.OutOfMemory →
         Fault profile bytes.now x }
-    ensures no_moment { result ≡ NO_MOMENT →
-        (now_secs ≤ 253_402_300_799) × (now_nanos < 10 ^ 9) → ⊥ }
-    ensures is_moment { result ≢ NO_MOMENT → (now_secs ≤ 253_402_300_799) × (now_nanos < 10 ^ 9) }
+    ensures no_moment { result ≡ NO_MOMENT → ¬ IsMomentTime now_secs now_nanos }
+    ensures is_moment { result ≢ NO_MOMENT → IsMomentTime now_secs now_nanos }
     ensures answers { (result ≡ OK) ⊎ ((result ≡ NO_MOMENT) ⊎
         ((x : Refusal) × (result ≡ refusal_status x))) }
 {
@@ -229,8 +228,9 @@ pub extern "C" fn sentry_envelope_filter(
         kinds keep keep_headers losses.new }
     ensures fault { (x : Refusal) → result ≡ refusal_status x → x ≢ refusals.OutOfMemory →
         Fault profile bytes.now x }
-    ensures no_moment { result ≡ NO_MOMENT →
-        (now_secs ≤ 253_402_300_799) × (now_nanos < 10 ^ 9) → ⊥ }
+    ensures no_moment { result ≡ NO_MOMENT → ¬ IsMomentTime now_secs now_nanos }
+    ensures is_moment { result ≢ NO_MOMENT → result ≢ INVALID_ARGUMENT →
+        IsMomentTime now_secs now_nanos }
     ensures argument { result ≡ INVALID_ARGUMENT → (length losses.old ≢ 120) ⊎ (2 ^ 11 ≤ kinds) }
     ensures long { result ≢ INVALID_ARGUMENT → length losses.old ≡ 120 }
     ensures kinds { result ≢ INVALID_ARGUMENT → kinds < 2 ^ 11 }

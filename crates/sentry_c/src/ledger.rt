@@ -6,7 +6,7 @@ ghost use Rattle.sentry_reports.specs.ReportSums.{pair_place};
 ghost use Rattle.sentry_reports.specs.declared.category.Category.{Category as Categories};
 ghost use Rattle.sentry_reports.specs.declared.reason.Reason.{Reason as Reasons};
 ghost use Rattle.sentry_ledger.specs.Held.{HoldsNothing, held_in};
-ghost use Rattle.sentry_tables.specs.Cell.{moment};
+ghost use Rattle.sentry_moments.specs.Rfc3339.{IsMomentTime};
 ghost use Rattle.sentry_c.specs.Output.{IsTooLong, Puts};
 ghost use Rattle.sentry_c.specs.Sums.{HasPair, IsPair, IsReportText};
 
@@ -140,9 +140,9 @@ pub extern "C" fn sentry_ledger_flush(
         IsTooLong (IsReportText (held_in ledger.old) now_secs now_nanos) out.old needed.new }
     ensures nothing { result ≡ NOTHING_LEFT → HoldsNothing (held_in ledger.old) }
     ensures something { (result ≡ OK) ⊎ (result ≡ NO_ROOM) → ¬ HoldsNothing (held_in ledger.old) }
-    ensures moment { result ≡ NO_MOMENT → (now_secs ≤ 253_402_300_799) × (now_nanos < 10 ^ 9) → ⊥ }
+    ensures moment { result ≡ NO_MOMENT → ¬ IsMomentTime now_secs now_nanos }
     ensures is_moment { result ≢ NO_MOMENT → result ≢ INVALID_ARGUMENT →
-        (now_secs ≤ 253_402_300_799) × (now_nanos < 10 ^ 9) }
+        IsMomentTime now_secs now_nanos }
     ensures argument { result ≡ INVALID_ARGUMENT → length ledger.old ≢ 108 }
     ensures long { result ≢ INVALID_ARGUMENT → length ledger.old ≡ 108 }
     ensures memory { result ≡ OUT_OF_MEMORY → ¬ HoldsNothing (held_in ledger.old) }
