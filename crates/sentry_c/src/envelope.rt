@@ -12,7 +12,7 @@ ghost use Rattle.sentry_envelope.specs.EnvelopeView.{header_of, structured, text
 ghost use Rattle.sentry_envelope.specs.Filter.{FiltersEnvelope};
 ghost use Rattle.sentry_envelope.specs.SentryProfile.{profile};
 ghost use Rattle.sentry_ledger.specs.LossSums.{no_sums};
-ghost use Rattle.sentry_c.specs.Envelopes.{IsLeft, IsNormalForm, IsSpelled, LeavesNothing, header_left};
+ghost use Rattle.sentry_c.specs.Envelopes.{IsLeft, IsNormalText, IsSpelled, LeavesNothing, header_left};
 ghost use Rattle.sentry_c.specs.Output.{IsTooLong, Puts};
 ghost use Rattle.sentry_c.specs.Statuses.{refusal_status};
 
@@ -55,7 +55,7 @@ fn normal_form(
     now: Moment,
     seed: u64,
 ) -> Result<Vec<u8>, EnvelopeError>
-    ensures ok { IfOk result (λ text. IsNormalForm bytes.now (moment_cell now) text.items) }
+    ensures ok { IfOk result (λ text. IsNormalText bytes.now (moment_cell now) text.items) }
     ensures fault { IfErr result (λ x. x ≢ EnvelopeError.OutOfMemory → Fault profile bytes.now x) }
 {
     let envelope = read(alloc, bytes, now, seed)?;
@@ -76,10 +76,10 @@ pub extern "C" fn sentry_envelope_normalize(
     out: &mut [u8],
     needed: &mut u64,
 ) -> i32
-    ensures written { result ≡ OK → Puts (IsNormalForm bytes.now (moment now_secs now_nanos))
+    ensures written { result ≡ OK → Puts (IsNormalText bytes.now (moment now_secs now_nanos))
         out.old out.new needed.new }
     ensures no_room { result ≡ NO_ROOM →
-        IsTooLong (IsNormalForm bytes.now (moment now_secs now_nanos)) out.old needed.new }
+        IsTooLong (IsNormalText bytes.now (moment now_secs now_nanos)) out.old needed.new }
     ensures fault { (x : Refusal) → result ≡ refusal_status x → x ≢ refusals.OutOfMemory →
         Fault profile bytes.now x }
     ensures no_moment { result ≡ NO_MOMENT → ¬ IsMomentTime now_secs now_nanos }
