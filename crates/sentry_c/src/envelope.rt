@@ -1,6 +1,7 @@
 //! Parsing, normalizing and filtering envelopes.
 
 ghost use Rattle.std.specs.Prelude.{◌≡◌, ◌≢◌, ◌⊎◌, ◌^◌, ◌<◌, ◌≤◌, IfErr, IfOk, IsSomeAnd, MatchOption, OnOk, length};
+ghost use Rattle.sentry_framing.specs.ItemWords.{item_kinds};
 ghost use Rattle.sentry_framing.specs.declared.error.EnvelopeError.{EnvelopeError as Refusal};
 ghost use Rattle.sentry_framing.specs.declared.error.EnvelopeError.TheVariants as refusals;
 ghost use Rattle.sentry_tables.specs.Cell.{moment};
@@ -231,9 +232,10 @@ pub extern "C" fn sentry_envelope_filter(
     ensures no_moment { result ≡ NO_MOMENT → ¬ IsMomentTime now_secs now_nanos }
     ensures is_moment { result ≢ NO_MOMENT → result ≢ INVALID_ARGUMENT →
         IsMomentTime now_secs now_nanos }
-    ensures argument { result ≡ INVALID_ARGUMENT → (length losses.old ≢ 120) ⊎ (2 ^ 11 ≤ kinds) }
-    ensures long { result ≢ INVALID_ARGUMENT → length losses.old ≡ 120 }
-    ensures kinds { result ≢ INVALID_ARGUMENT → kinds < 2 ^ 11 }
+    ensures argument { result ≡ INVALID_ARGUMENT →
+        (length losses.old ≢ SUMS) ⊎ (2 ^ length item_kinds ≤ kinds) }
+    ensures long { result ≢ INVALID_ARGUMENT → length losses.old ≡ SUMS }
+    ensures kinds { result ≢ INVALID_ARGUMENT → kinds < 2 ^ length item_kinds }
     ensures unchanged { result ≢ OK → out.new ≡ out.old }
     ensures losses_unchanged { result ≢ OK → result ≢ NO_ROOM → result ≢ NOTHING_LEFT →
         losses.new ≡ losses.old }

@@ -40,9 +40,9 @@ fn reason_of(number: u32) -> Option<Reason>
 fn place_in(ledger: &[u64], category: u32, reason: u32) -> Option<usize>
     ensures found { IfSome result (λ place. (c : Categories) × (r : Reasons) ×
         IsPair category reason c r × (place ≡ pair_place c r)) }
-    ensures long { IfSome result (λ place. length ledger.now ≡ 108) }
+    ensures long { IfSome result (λ place. length ledger.now ≡ SUMS) }
     ensures within { IfSome result (λ place. place < length ledger.now) }
-    ensures none { IfNone result ((length ledger.now ≢ 108) ⊎ ¬ HasPair category reason) }
+    ensures none { IfNone result ((length ledger.now ≢ SUMS) ⊎ ¬ HasPair category reason) }
 {
     if ledger.len() != SUMS {
         return None;
@@ -66,10 +66,10 @@ pub extern "C" fn sentry_ledger_record(
         held_in ledger.old c r + quantity ≤ 2 ^ 64 - 1 }
     ensures full { result ≡ LEDGER_FULL → (c : Categories) (r : Reasons) →
         IsPair category reason c r → 2 ^ 64 - 1 < held_in ledger.old c r + quantity }
-    ensures argument { result ≡ INVALID_ARGUMENT → (length ledger.old ≢ 108) ⊎
+    ensures argument { result ≡ INVALID_ARGUMENT → (length ledger.old ≢ SUMS) ⊎
         ¬ HasPair category reason }
     ensures pair { result ≢ INVALID_ARGUMENT → HasPair category reason }
-    ensures long { result ≢ INVALID_ARGUMENT → length ledger.old ≡ 108 }
+    ensures long { result ≢ INVALID_ARGUMENT → length ledger.old ≡ SUMS }
     ensures unchanged { result ≢ OK → ledger.new ≡ ledger.old }
     ensures answers { (result ≡ OK) ⊎ ((result ≡ LEDGER_FULL) ⊎ (result ≡ INVALID_ARGUMENT)) }
 {
@@ -95,10 +95,10 @@ pub extern "C" fn sentry_ledger_held(
 ) -> i32
     ensures held { result ≡ OK → (c : Categories) (r : Reasons) → IsPair category reason c r →
         quantity.new ≡ held_in ledger.now c r }
-    ensures argument { result ≡ INVALID_ARGUMENT → (length ledger.now ≢ 108) ⊎
+    ensures argument { result ≡ INVALID_ARGUMENT → (length ledger.now ≢ SUMS) ⊎
         ¬ HasPair category reason }
     ensures pair { result ≡ OK → HasPair category reason }
-    ensures long { result ≡ OK → length ledger.now ≡ 108 }
+    ensures long { result ≡ OK → length ledger.now ≡ SUMS }
     ensures unchanged { result ≢ OK → quantity.new ≡ quantity.old }
     ensures answers { (result ≡ OK) ⊎ (result ≡ INVALID_ARGUMENT) }
 {
@@ -111,7 +111,7 @@ pub extern "C" fn sentry_ledger_held(
 
 // Returns the text of an envelope whose one item is the report of a ledger.
 fn report_text(alloc: Global, ledger: &[u64], now: Moment) -> Result<Vec<u8>, AllocError>
-    requires { length ledger.now ≡ 108 }
+    requires { length ledger.now ≡ SUMS }
     ensures { IfOk result (λ text.
         IsReportText (held_in ledger.now) now.secs now.nanos text.items) }
 {
@@ -135,7 +135,7 @@ pub extern "C" fn sentry_ledger_flush(
 ) -> i32
     ensures written { result ≡ OK → Puts (IsReportText (held_in ledger.old) now_secs now_nanos)
         out.old out.new needed.new }
-    ensures emptied { result ≡ OK → ledger.new ≡ replicate 108 0 }
+    ensures emptied { result ≡ OK → ledger.new ≡ replicate SUMS 0 }
     ensures no_room { result ≡ NO_ROOM →
         IsTooLong (IsReportText (held_in ledger.old) now_secs now_nanos) out.old needed.new }
     ensures nothing { result ≡ NOTHING_LEFT → HoldsNothing (held_in ledger.old) }
@@ -143,8 +143,8 @@ pub extern "C" fn sentry_ledger_flush(
     ensures moment { result ≡ NO_MOMENT → ¬ IsMomentTime now_secs now_nanos }
     ensures is_moment { result ≢ NO_MOMENT → result ≢ INVALID_ARGUMENT →
         IsMomentTime now_secs now_nanos }
-    ensures argument { result ≡ INVALID_ARGUMENT → length ledger.old ≢ 108 }
-    ensures long { result ≢ INVALID_ARGUMENT → length ledger.old ≡ 108 }
+    ensures argument { result ≡ INVALID_ARGUMENT → length ledger.old ≢ SUMS }
+    ensures long { result ≢ INVALID_ARGUMENT → length ledger.old ≡ SUMS }
     ensures memory { result ≡ OUT_OF_MEMORY → ¬ HoldsNothing (held_in ledger.old) }
     ensures unchanged { result ≢ OK → ledger.new ≡ ledger.old }
     ensures out_unchanged { result ≢ OK → out.new ≡ out.old }
