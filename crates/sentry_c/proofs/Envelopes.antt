@@ -10,7 +10,7 @@ use Rattle.sentry_envelope.specs.declared.envelope.Envelope.{Envelope}
 use Rattle.sentry_items.specs.declared.item.EnvelopeItem.TheVariants as items
 use Rattle.sentry_ledger.specs.Held.{Quantities, items_held}
 use Rattle.sentry_reports.specs.declared.report.Report.{Report}
-use Rattle.sentry_c.specs.Envelopes.{IsNormalForm, IsSpelled}
+use Rattle.sentry_c.specs.Envelopes.{IsNormalText, IsSpelled}
 use Rattle.sentry_c.specs.Sums.{IsReportText}
 
 pub is_spelled : (bytes : List ℕ) (now : Cell) (envelope : Envelope) → IsSomeAnd (structured envelope) (Spells profile bytes now) → IsSpelled bytes now
@@ -21,11 +21,11 @@ is_spelled bytes now envelope spelled = go (held envelope) spelled
     go (held_bytes b) spelled = absurd spelled
 
 pub normal_form_is : (bytes text : List ℕ) (now : Cell) (envelope : Envelope) → IsSomeAnd (structured envelope) (Spells profile bytes now)
-    → IsSomeAnd (structured envelope) (λ m. envelope_text profile m ≡ envelope_text profile (envelope_norm profile m)) → text ≡ text_of envelope → IsNormalForm bytes now text
+    → IsSomeAnd (structured envelope) (λ m. envelope_text profile m ≡ envelope_text profile (envelope_norm profile m)) → text ≡ text_of envelope → IsNormalText bytes now text
 normal_form_is bytes text now envelope spelled rewritten is = go (held envelope) spelled rewritten is
   where
     go : (h : Held) → IsSomeAnd (structured_by (header_of envelope) h) (Spells profile bytes now) → IsSomeAnd (structured_by (header_of envelope) h) (λ m. envelope_text profile m ≡ envelope_text profile (envelope_norm profile m))
-        → text ≡ text_by (header_of envelope) h → IsNormalForm bytes now text
+        → text ≡ text_by (header_of envelope) h → IsNormalText bytes now text
     go (held_items is) spelled rewritten same = record { envelope = record { header = header_of envelope; items = is }; spells = spelled; text_is = same; normal = same ∙ rewritten }
     go (held_bytes b) spelled rewritten same = absurd spelled
 

@@ -14,8 +14,8 @@ use Rattle.sentry_c.specs.Losses.{SumsItemLosses}
 abbrev pub IsSpelled : List ℕ → Cell → Type 0
 IsSpelled bytes now = (envelope : Model) × Spells profile bytes now envelope
 
--- the text of an envelope that the bytes spell at the moment, which is also that of its normal form
-pub record IsNormalForm (bytes : List ℕ) (now : Cell) (text : List ℕ) : Type 0 where
+-- the text of an envelope that the bytes spell at the moment, and of its normal form
+pub record IsNormalText (bytes : List ℕ) (now : Cell) (text : List ℕ) : Type 0 where
   pub envelope : Model
   pub spells : Spells profile bytes now envelope
   pub text_is : text ≡ envelope_text profile envelope

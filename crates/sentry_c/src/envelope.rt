@@ -1,17 +1,19 @@
 //! Parsing, normalizing and filtering envelopes.
 
 ghost use Rattle.std.specs.Prelude.{◌≡◌, ◌≢◌, ◌⊎◌, ◌^◌, ◌<◌, ◌≤◌, IfErr, IfOk, IsSomeAnd, MatchOption, OnOk, length};
+ghost use Rattle.sentry_framing.specs.ItemWords.{item_kinds};
 ghost use Rattle.sentry_framing.specs.declared.error.EnvelopeError.{EnvelopeError as Refusal};
 ghost use Rattle.sentry_framing.specs.declared.error.EnvelopeError.TheVariants as refusals;
 ghost use Rattle.sentry_tables.specs.Cell.{moment};
 ghost use Rattle.sentry_moments.specs.Moments.{moment_cell};
+ghost use Rattle.sentry_moments.specs.Rfc3339.{IsMomentTime};
 ghost use Rattle.sentry_envelope.specs.Envelope.{Spells, envelope_norm, envelope_text};
 ghost use Rattle.sentry_envelope.specs.EnvelopeFault.{Fault};
 ghost use Rattle.sentry_envelope.specs.EnvelopeView.{header_of, structured, text_of};
 ghost use Rattle.sentry_envelope.specs.Filter.{FiltersEnvelope};
 ghost use Rattle.sentry_envelope.specs.SentryProfile.{profile};
 ghost use Rattle.sentry_ledger.specs.LossSums.{no_sums};
-ghost use Rattle.sentry_c.specs.Envelopes.{IsLeft, IsNormalForm, IsSpelled, LeavesNothing, header_left};
+ghost use Rattle.sentry_c.specs.Envelopes.{IsLeft, IsNormalText, IsSpelled, LeavesNothing, header_left};
 ghost use Rattle.sentry_c.specs.Output.{IsTooLong, Puts};
 ghost use Rattle.sentry_c.specs.Statuses.{refusal_status};
 
@@ -54,7 +56,7 @@ fn normal_form(
     now: Moment,
     seed: u64,
 ) -> Result<Vec<u8>, EnvelopeError>
-    ensures ok { IfOk result (λ text. IsNormalForm bytes.now (moment_cell now) text.items) }
+    ensures ok { IfOk result (λ text. IsNormalText bytes.now (moment_cell now) text.items) }
     ensures fault { IfErr result (λ x. x ≢ EnvelopeError.OutOfMemory → Fault profile bytes.now x) }
 {
     let envelope = read(alloc, bytes, now, seed)?;
@@ -75,15 +77,14 @@ pub extern "C" fn sentry_envelope_normalize(
     out: &mut [u8],
     needed: &mut u64,
 ) -> i32
-    ensures written { result ≡ OK → Puts (IsNormalForm bytes.now (moment now_secs now_nanos))
+    ensures written { result ≡ OK → Puts (IsNormalText bytes.now (moment now_secs now_nanos))
         out.old out.new needed.new }
     ensures no_room { result ≡ NO_ROOM →
-        IsTooLong (IsNormalForm bytes.now (moment now_secs now_nanos)) out.old needed.new }
+        IsTooLong (IsNormalText bytes.now (moment now_secs now_nanos)) out.old needed.new }
     ensures fault { (x : Refusal) → result ≡ refusal_status x → x ≢ refusals.OutOfMemory →
         Fault profile bytes.now x }
-    ensures no_moment { result ≡ NO_MOMENT →
-        (now_secs ≤ 253_402_300_799) × (now_nanos < 10 ^ 9) → ⊥ }
-    ensures is_moment { result ≢ NO_MOMENT → (now_secs ≤ 253_402_300_799) × (now_nanos < 10 ^ 9) }
+    ensures no_moment { result ≡ NO_MOMENT → ¬ IsMomentTime now_secs now_nanos }
+    ensures is_moment { result ≢ NO_MOMENT → IsMomentTime now_secs now_nanos }
     ensures unchanged { result ≢ OK → out.new ≡ out.old }
     ensures no_text { result ≢ OK → result ≢ NO_ROOM → needed.new ≡ 0 }
     ensures answers { (result ≡ OK) ⊎ ((result ≡ NO_ROOM) ⊎ ((result ≡ NO_MOMENT) ⊎
@@ -121,9 +122,8 @@ pub extern "C" fn sentry_envelope_check(
     ensures spelled { result ≡ OK → IsSpelled bytes.now (moment now_secs now_nanos) }
     ensures fault { (x : Refusal) → result ≡ refusal_status x → x ≢ refusals.OutOfMemory →
         Fault profile bytes.now x }
-    ensures no_moment { result ≡ NO_MOMENT →
-        (now_secs ≤ 253_402_300_799) × (now_nanos < 10 ^ 9) → ⊥ }
-    ensures is_moment { result ≢ NO_MOMENT → (now_secs ≤ 253_402_300_799) × (now_nanos < 10 ^ 9) }
+    ensures no_moment { result ≡ NO_MOMENT → ¬ IsMomentTime now_secs now_nanos }
+    ensures is_moment { result ≢ NO_MOMENT → IsMomentTime now_secs now_nanos }
     ensures answers { (result ≡ OK) ⊎ ((result ≡ NO_MOMENT) ⊎
         ((x : Refusal) × (result ≡ refusal_status x))) }
 {
@@ -229,11 +229,13 @@ pub extern "C" fn sentry_envelope_filter(
         kinds keep keep_headers losses.new }
     ensures fault { (x : Refusal) → result ≡ refusal_status x → x ≢ refusals.OutOfMemory →
         Fault profile bytes.now x }
-    ensures no_moment { result ≡ NO_MOMENT →
-        (now_secs ≤ 253_402_300_799) × (now_nanos < 10 ^ 9) → ⊥ }
-    ensures argument { result ≡ INVALID_ARGUMENT → (length losses.old ≢ 120) ⊎ (2 ^ 11 ≤ kinds) }
-    ensures long { result ≢ INVALID_ARGUMENT → length losses.old ≡ 120 }
-    ensures kinds { result ≢ INVALID_ARGUMENT → kinds < 2 ^ 11 }
+    ensures no_moment { result ≡ NO_MOMENT → ¬ IsMomentTime now_secs now_nanos }
+    ensures is_moment { result ≢ NO_MOMENT → result ≢ INVALID_ARGUMENT →
+        IsMomentTime now_secs now_nanos }
+    ensures argument { result ≡ INVALID_ARGUMENT →
+        (length losses.old ≢ SUMS) ⊎ (2 ^ length item_kinds ≤ kinds) }
+    ensures long { result ≢ INVALID_ARGUMENT → length losses.old ≡ SUMS }
+    ensures kinds { result ≢ INVALID_ARGUMENT → kinds < 2 ^ length item_kinds }
     ensures unchanged { result ≢ OK → out.new ≡ out.old }
     ensures losses_unchanged { result ≢ OK → result ≢ NO_ROOM → result ≢ NOTHING_LEFT →
         losses.new ≡ losses.old }

@@ -1,6 +1,7 @@
 //! The filter of items by their type.
 
-ghost use Rattle.std.specs.Prelude.{◌≡◌, ◌^◌, ◌<◌, ◌↔◌, IsTrue};
+ghost use Rattle.std.specs.Prelude.{◌≡◌, ◌^◌, ◌<◌, ◌↔◌, IsTrue, length};
+ghost use Rattle.sentry_framing.specs.ItemWords.{item_kinds};
 ghost use Rattle.sentry_ledger.specs.LossSums.{no_sums};
 ghost use Rattle.sentry_c.specs.Kinds.{is_listed, kind_bit};
 
@@ -9,11 +10,11 @@ use sentry_ledger::loss_sums::LossSums;
 use sentry_types::protocol::v7::{EnvelopeFilter, EnvelopeItem, ItemKind};
 
 // A bit for each item type.
-const ALL_KINDS: u32 = 2047;
+const ALL_KINDS: u32 = (1 << 11) - 1;
 
 /// Returns whether all bits are those of item types.
 pub fn are_kinds(kinds: u32) -> bool
-    ensures { IsTrue result ↔ (kinds < 2 ^ 11) }
+    ensures { IsTrue result ↔ (kinds < 2 ^ length item_kinds) }
 {
     kinds <= ALL_KINDS
 }

@@ -37,19 +37,7 @@ pub(crate) fn number_of(kind: ItemKind) -> u32
     ensures place { result ≡ kind_place kind }
     ensures few { result < 32 }
 {
-    match kind {
-        ItemKind::Event => 0,
-        ItemKind::SessionUpdate => 1,
-        ItemKind::SessionAggregates => 2,
-        ItemKind::Transaction => 3,
-        ItemKind::Attachment => 4,
-        ItemKind::MonitorCheckIn => 5,
-        ItemKind::UserReport => 6,
-        ItemKind::ReplayRecording => 7,
-        ItemKind::Logs => 8,
-        ItemKind::Metrics => 9,
-        ItemKind::ClientReport => 10,
-    }
+    kind as u32
 }
 
 // Returns a reader of the items from an offset on; `None` if no item can begin there. Past the

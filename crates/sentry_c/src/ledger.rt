@@ -6,7 +6,7 @@ ghost use Rattle.sentry_reports.specs.ReportSums.{pair_place};
 ghost use Rattle.sentry_reports.specs.declared.category.Category.{Category as Categories};
 ghost use Rattle.sentry_reports.specs.declared.reason.Reason.{Reason as Reasons};
 ghost use Rattle.sentry_ledger.specs.Held.{HoldsNothing, held_in};
-ghost use Rattle.sentry_tables.specs.Cell.{moment};
+ghost use Rattle.sentry_moments.specs.Rfc3339.{IsMomentTime};
 ghost use Rattle.sentry_c.specs.Output.{IsTooLong, Puts};
 ghost use Rattle.sentry_c.specs.Sums.{HasPair, IsPair, IsReportText};
 
@@ -25,25 +25,13 @@ use std::alloc::{AllocError, Global};
 fn category_of(number: u32) -> Option<Category>
     ensures { result ≡ slice_get categories number }
 {
-    let variants = Category::VARIANTS;
-    let place = number as usize;
-    if place < variants.len() {
-        Some(variants[place])
-    } else {
-        None
-    }
+    Category::VARIANTS.get(number as usize).copied()
 }
 
 fn reason_of(number: u32) -> Option<Reason>
     ensures { result ≡ slice_get reasons number }
 {
-    let variants = Reason::VARIANTS;
-    let place = number as usize;
-    if place < variants.len() {
-        Some(variants[place])
-    } else {
-        None
-    }
+    Reason::VARIANTS.get(number as usize).copied()
 }
 
 // Returns the index of the sum of a category and a reason, by their numbers, in a ledger of the
@@ -52,9 +40,9 @@ fn reason_of(number: u32) -> Option<Reason>
 fn place_in(ledger: &[u64], category: u32, reason: u32) -> Option<usize>
     ensures found { IfSome result (λ place. (c : Categories) × (r : Reasons) ×
         IsPair category reason c r × (place ≡ pair_place c r)) }
-    ensures long { IfSome result (λ place. length ledger.now ≡ 108) }
+    ensures long { IfSome result (λ place. length ledger.now ≡ SUMS) }
     ensures within { IfSome result (λ place. place < length ledger.now) }
-    ensures none { IfNone result ((length ledger.now ≢ 108) ⊎ ¬ HasPair category reason) }
+    ensures none { IfNone result ((length ledger.now ≢ SUMS) ⊎ ¬ HasPair category reason) }
 {
     if ledger.len() != SUMS {
         return None;
@@ -78,10 +66,10 @@ pub extern "C" fn sentry_ledger_record(
         held_in ledger.old c r + quantity ≤ 2 ^ 64 - 1 }
     ensures full { result ≡ LEDGER_FULL → (c : Categories) (r : Reasons) →
         IsPair category reason c r → 2 ^ 64 - 1 < held_in ledger.old c r + quantity }
-    ensures argument { result ≡ INVALID_ARGUMENT → (length ledger.old ≢ 108) ⊎
+    ensures argument { result ≡ INVALID_ARGUMENT → (length ledger.old ≢ SUMS) ⊎
         ¬ HasPair category reason }
     ensures pair { result ≢ INVALID_ARGUMENT → HasPair category reason }
-    ensures long { result ≢ INVALID_ARGUMENT → length ledger.old ≡ 108 }
+    ensures long { result ≢ INVALID_ARGUMENT → length ledger.old ≡ SUMS }
     ensures unchanged { result ≢ OK → ledger.new ≡ ledger.old }
     ensures answers { (result ≡ OK) ⊎ ((result ≡ LEDGER_FULL) ⊎ (result ≡ INVALID_ARGUMENT)) }
 {
@@ -107,10 +95,10 @@ pub extern "C" fn sentry_ledger_held(
 ) -> i32
     ensures held { result ≡ OK → (c : Categories) (r : Reasons) → IsPair category reason c r →
         quantity.new ≡ held_in ledger.now c r }
-    ensures argument { result ≡ INVALID_ARGUMENT → (length ledger.now ≢ 108) ⊎
+    ensures argument { result ≡ INVALID_ARGUMENT → (length ledger.now ≢ SUMS) ⊎
         ¬ HasPair category reason }
     ensures pair { result ≡ OK → HasPair category reason }
-    ensures long { result ≡ OK → length ledger.now ≡ 108 }
+    ensures long { result ≡ OK → length ledger.now ≡ SUMS }
     ensures unchanged { result ≢ OK → quantity.new ≡ quantity.old }
     ensures answers { (result ≡ OK) ⊎ (result ≡ INVALID_ARGUMENT) }
 {
@@ -123,7 +111,7 @@ pub extern "C" fn sentry_ledger_held(
 
 // Returns the text of an envelope whose one item is the report of a ledger.
 fn report_text(alloc: Global, ledger: &[u64], now: Moment) -> Result<Vec<u8>, AllocError>
-    requires { length ledger.now ≡ 108 }
+    requires { length ledger.now ≡ SUMS }
     ensures { IfOk result (λ text.
         IsReportText (held_in ledger.now) now.secs now.nanos text.items) }
 {
@@ -147,16 +135,16 @@ pub extern "C" fn sentry_ledger_flush(
 ) -> i32
     ensures written { result ≡ OK → Puts (IsReportText (held_in ledger.old) now_secs now_nanos)
         out.old out.new needed.new }
-    ensures emptied { result ≡ OK → ledger.new ≡ replicate 108 0 }
+    ensures emptied { result ≡ OK → ledger.new ≡ replicate SUMS 0 }
     ensures no_room { result ≡ NO_ROOM →
         IsTooLong (IsReportText (held_in ledger.old) now_secs now_nanos) out.old needed.new }
     ensures nothing { result ≡ NOTHING_LEFT → HoldsNothing (held_in ledger.old) }
     ensures something { (result ≡ OK) ⊎ (result ≡ NO_ROOM) → ¬ HoldsNothing (held_in ledger.old) }
-    ensures moment { result ≡ NO_MOMENT → (now_secs ≤ 253_402_300_799) × (now_nanos < 10 ^ 9) → ⊥ }
+    ensures moment { result ≡ NO_MOMENT → ¬ IsMomentTime now_secs now_nanos }
     ensures is_moment { result ≢ NO_MOMENT → result ≢ INVALID_ARGUMENT →
-        (now_secs ≤ 253_402_300_799) × (now_nanos < 10 ^ 9) }
-    ensures argument { result ≡ INVALID_ARGUMENT → length ledger.old ≢ 108 }
-    ensures long { result ≢ INVALID_ARGUMENT → length ledger.old ≡ 108 }
+        IsMomentTime now_secs now_nanos }
+    ensures argument { result ≡ INVALID_ARGUMENT → length ledger.old ≢ SUMS }
+    ensures long { result ≢ INVALID_ARGUMENT → length ledger.old ≡ SUMS }
     ensures memory { result ≡ OUT_OF_MEMORY → ¬ HoldsNothing (held_in ledger.old) }
     ensures unchanged { result ≢ OK → ledger.new ≡ ledger.old }
     ensures out_unchanged { result ≢ OK → out.new ≡ out.old }

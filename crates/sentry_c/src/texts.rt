@@ -1,9 +1,9 @@
 //! Small texts: DSNs, client authentication, timestamps and crontab schedules.
 
-ghost use Rattle.std.specs.Prelude.{◌≡◌, ◌≢◌, ◌⊎◌, ◌-◌, ◌^◌, ◌<◌, ◌≤◌, [], ℕ, length, option_copied, option_map, unwrap_or};
+ghost use Rattle.std.specs.Prelude.{◌≡◌, ◌≢◌, ◌⊎◌, ◌-◌, ◌≤◌, [], ℕ, length, option_copied, option_map, unwrap_or};
 ghost use Rattle.std.specs.Str.{IsUtf8};
 ghost use Rattle.sentry_moments.specs.MomentTexts.{rfc3339_text};
-ghost use Rattle.sentry_moments.specs.Rfc3339.{IsRfc3339};
+ghost use Rattle.sentry_moments.specs.Rfc3339.{IsMomentTime, IsRfc3339};
 ghost use Rattle.sentry_text.specs.Crontab.{IsCrontab};
 ghost use Rattle.sentry_keys.specs.Auth.{parts_of, time_of};
 ghost use Rattle.sentry_keys.specs.AuthText.{auth_text};
@@ -332,8 +332,8 @@ pub extern "C" fn sentry_rfc3339_format(
         Puts (λ t. t ≡ rfc3339_text secs nanos) out.old out.new needed.new }
     ensures no_room { result ≡ NO_ROOM →
         IsTooLong (λ t. t ≡ rfc3339_text secs nanos) out.old needed.new }
-    ensures no_moment { result ≡ NO_MOMENT → (secs ≤ 253_402_300_799) × (nanos < 10 ^ 9) → ⊥ }
-    ensures moment { result ≢ NO_MOMENT → (secs ≤ 253_402_300_799) × (nanos < 10 ^ 9) }
+    ensures no_moment { result ≡ NO_MOMENT → ¬ IsMomentTime secs nanos }
+    ensures moment { result ≢ NO_MOMENT → IsMomentTime secs nanos }
     ensures unchanged { result ≢ OK → out.new ≡ out.old }
     ensures no_text { result ≢ OK → result ≢ NO_ROOM → needed.new ≡ 0 }
     ensures answers { (result ≡ OK) ⊎ ((result ≡ NO_ROOM) ⊎ ((result ≡ NO_MOMENT) ⊎

@@ -4,30 +4,12 @@ use crate::asked::taken;
 use crate::envelopes::{read, said_loss};
 use crate::filters::{ByKinds, said_left};
 use crate::said::{as_tree, list, text};
-use sentry_types::IndexedEnum;
+use sentry_members::Word;
 use sentry_types::protocol::v7::client_report::{
     Category, ItemLoss, Ledger, Reason, Step, StepAnswer, filter_recorded, run_steps,
 };
 use sentry_types::protocol::v7::{Envelope, Member, Moment, Value};
 use std::alloc::{AllocError, Global};
-
-fn category_of(word: &str) -> Option<Category> {
-    for category in Category::VARIANTS {
-        if category.as_str() == word {
-            return Some(*category);
-        }
-    }
-    None
-}
-
-fn reason_of(word: &str) -> Option<Reason> {
-    for reason in Reason::VARIANTS {
-        if reason.as_str() == word {
-            return Some(*reason);
-        }
-    }
-    None
-}
 
 // `flush SECONDS`, or `add CATEGORY QUANTITY REASON`, after which the loss's own reason may stand.
 fn step_of(given: &str) -> Option<Step> {
@@ -36,11 +18,11 @@ fn step_of(given: &str) -> Option<Step> {
         let secs = words.next()?.parse::<u64>().ok()?;
         return Some(Step::Flush(Moment::new(secs, 0)?));
     }
-    let category = category_of(words.next()?)?;
+    let category = Category::of_word(words.next()?)?;
     let quantity = words.next()?.parse::<u64>().ok()?;
-    let given = reason_of(words.next()?)?;
+    let given = Reason::of_word(words.next()?)?;
     let reason = match words.next() {
-        Some(word) => Some(reason_of(word)?),
+        Some(word) => Some(Reason::of_word(word)?),
         None => None,
     };
     let loss = ItemLoss {
@@ -139,7 +121,7 @@ fn said_recorded(
 pub fn of_recorded(alloc: Global, words: &str, bytes: &[u8]) -> Result<Value, AllocError> {
     let (words, before) = words.split_once("; ").unwrap_or((words, ""));
     let (reason, kinds) = words.split_once(' ').unwrap_or((words, ""));
-    let (Some(reason), Some(steps)) = (reason_of(reason), steps_of(alloc, before)?) else {
+    let (Some(reason), Some(steps)) = (Reason::of_word(reason), steps_of(alloc, before)?) else {
         return text(alloc, "no steps");
     };
     let mut ledger = Ledger::new();

@@ -5,7 +5,7 @@ use Rattle.std.proofs.lemmas.List.{map-append}
 use Rattle.std.proofs.lemmas.List.Elements.{filter_map-append}
 use Rattle.std.specs.List.{filter_map, list_any}
 use Rattle.sentry_tables.specs.Cell.{Cell}
-use Rattle.sentry_framing.specs.ItemWords.{kind_place}
+use Rattle.sentry_framing.specs.ItemWords.{item_kinds, kind_place}
 use Rattle.sentry_framing.specs.declared.kind.ItemKind.TheVariants as types
 use Rattle.sentry_items.specs.Losses.{losses_of_items}
 use Rattle.sentry_items.specs.View.{ItemView, attachment, replay_recording, value as value_view, raw as raw_view, item_held, kind_held}
@@ -30,9 +30,7 @@ use Rattle.sentry_framing.specs.declared.kind.ItemKind.{ItemKind}
 
 -- the types, in the order of their places
 abbrev type_at : ℕ → Option ItemKind
-type_at n = slice_get (
-    types.Event ∷ types.SessionUpdate ∷ types.SessionAggregates ∷ types.Transaction ∷ types.Attachment ∷ types.MonitorCheckIn ∷
-    types.UserReport ∷ types.ReplayRecording ∷ types.Logs ∷ types.Metrics ∷ types.ClientReport ∷ []) n
+type_at n = slice_get item_kinds n
 
 type_in_place : (k : ItemKind) → type_at (kind_place k) ≡ Some k
 type_in_place types.Event = refl

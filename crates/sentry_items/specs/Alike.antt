@@ -11,16 +11,10 @@ use Rattle.sentry_items.specs.View.{ItemView, attachment, replay_recording, valu
 -- items of the type hold no trees of JSON
 abbrev pub HasNoTrees : ItemKind → Type 0
 HasNoTrees kinds.Event = ⊥
-HasNoTrees kinds.SessionUpdate = ⊤
-HasNoTrees kinds.SessionAggregates = ⊤
 HasNoTrees kinds.Transaction = ⊥
-HasNoTrees kinds.Attachment = ⊤
-HasNoTrees kinds.MonitorCheckIn = ⊤
-HasNoTrees kinds.UserReport = ⊤
-HasNoTrees kinds.ReplayRecording = ⊤
 HasNoTrees kinds.Logs = ⊥
 HasNoTrees kinds.Metrics = ⊥
-HasNoTrees kinds.ClientReport = ⊤
+HasNoTrees _ = ⊤
 
 -- no tree of JSON stands in the item: of `==` on trees nothing is said
 abbrev pub HoldsNoTree : ItemView → Type 0

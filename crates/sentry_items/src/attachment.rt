@@ -49,7 +49,7 @@ pub enum AttachmentWriteError {
 }
 
 impl Attachment {
-    ghost use Rattle.std.specs.Prelude.{◌≡◌, ℕ, List, ◌∷◌, ◌++◌, codes, [], None, IfOk, OnOk, IsTrue, option_map, string_bytes};
+    ghost use Rattle.std.specs.Prelude.{◌≡◌, ℕ, List, ◌∷◌, ◌++◌, [], None, IfOk, OnOk, IsTrue, option_map, string_bytes};
     ghost use Rattle.std.specs.Io.KnownBytes.{Appends, Keeps};
     ghost use Rattle.json.specs.Print.{escape};
     ghost use Rattle.json.specs.Token.{begin_object};

@@ -9,8 +9,6 @@ ghost use Rattle.sentry_items.specs.declared.attachment.Attachment.{Attachment a
 ghost use Rattle.sentry_items.specs.declared.attachment_type.AttachmentType.{AttachmentType as Types};
 ghost use Rattle.sentry_items.specs.declared.item.EnvelopeItem.{EnvelopeItem as Items};
 ghost use Rattle.sentry_items.specs.declared.replay_recording.ReplayRecording.{ReplayRecording as Recordings};
-ghost use Rattle.std.specs.Prelude.{◌≡◌};
-ghost use Rattle.sentry_items.specs.View.{item_held};
 ghost use Rattle.sentry_items.specs.Losses.{losses_of_item};
 
 use crate::attachment::Attachment;

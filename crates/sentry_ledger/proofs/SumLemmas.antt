@@ -15,9 +15,10 @@ use Rattle.sentry_envelope.specs.Filter.{Call, Ask, Hand, Run, calls, handed, it
 use Rattle.sentry_envelope.proofs.FilterLemmas.{Run-follows}
 use Rattle.sentry_ledger.specs.LossSums.{SumsLosses, add_loss, no_sums, sum_at}
 use Rattle.sentry_ledger.specs.declared.loss_sums.LossSums.{LossSums}
+use Rattle.sentry_ledger.specs.declared.loss_sums.TheConstants.{SUMS}
 
 -- what one more loss adds to a sum
-added : (c : Category) (r : Option Reason) (loss : ItemLoss) (sums : LossSums) → length sums.row ≡ 120 → sum_at sums c r ≤ 2 ^ 64 - 1
+added : (c : Category) (r : Option Reason) (loss : ItemLoss) (sums : LossSums) → length sums.row ≡ SUMS → sum_at sums c r ≤ 2 ^ 64 - 1
     → sum_at (add_loss sums loss) c r ≡ min (sum_at sums c r + share c r loss) (2 ^ 64 - 1)
 added c r loss sums long small = go (eqb_tells (place c r) (place loss.category loss.reason))
   where
@@ -33,7 +34,7 @@ added c r loss sums long small = go (eqb_tells (place c r) (place loss.category 
 cut : (m a x l t : ℕ) → t ≡ x + l → min (min (a + x) m + l) m ≡ min (a + t) m
 cut m a x l t e = omega arith
 
-summed : (losses : List ItemLoss) (sums : LossSums) (c : Category) (r : Option Reason) → length sums.row ≡ 120 → sum_at sums c r ≤ 2 ^ 64 - 1
+summed : (losses : List ItemLoss) (sums : LossSums) (c : Category) (r : Option Reason) → length sums.row ≡ SUMS → sum_at sums c r ≤ 2 ^ 64 - 1
     → sum_at (fold add_loss sums losses) c r ≡ min (sum_at sums c r + lost c r losses) (2 ^ 64 - 1)
 summed [] sums c r long small = omega arith
 summed (loss ∷ losses) sums c r long small =
@@ -48,9 +49,9 @@ long_summed (loss ∷ losses) sums = long_summed losses (add_loss sums loss) ∙
 -- from nothing, each sum is that of the losses
 pub sums_losses : (sums : LossSums) (losses : List ItemLoss) → sums.row ≡ no_sums → SumsLosses (fold add_loss sums losses) losses
 sums_losses sums losses none =
-    let long : length sums.row ≡ 120 = ap length none ∙ length-replicate {A = ℕ} 120 0 in
+    let long : length sums.row ≡ SUMS = ap length none ∙ length-replicate {A = ℕ} SUMS 0 in
     let start : (c : Category) (r : Option Reason) → sum_at sums c r ≡ 0 =
-    λ c r. ap (λ (row : List ℕ). get_or row (place c r) 0) none ∙ get_or-replicate 120 (place c r) 0 0 (place_below c r) in
+    λ c r. ap (λ (row : List ℕ). get_or row (place c r) 0) none ∙ get_or-replicate SUMS (place c r) 0 0 (place_below c r) in
     record {
       long = long_summed losses sums ∙ long;
       each = λ c r. summed losses sums c r long (omega (arith, start c r)) ∙ omega (arith, start c r);

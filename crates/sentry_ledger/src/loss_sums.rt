@@ -13,7 +13,7 @@ use sentry_words::IndexedEnum;
 const PLACES: usize = 10;
 
 /// Number of sums: one for each category and reason, and one for each category without a reason.
-pub const SUMS: usize = 120;
+pub const SUMS: usize = 12 * PLACES;
 
 /// The quantity lost in each category for each reason, and without one, saturating at 2^64-1.
 #[derive(Debug, Drop)]
@@ -24,7 +24,7 @@ pub struct LossSums {
 // Returns the index of a sum.
 fn place(category: Category, reason: Option<Reason>) -> usize
     ensures same { result ≡ place category reason }
-    ensures within { result < 120 }
+    ensures within { result < SUMS }
 {
     let within = match reason {
         Some(reason) => reason.as_index() + 1,
