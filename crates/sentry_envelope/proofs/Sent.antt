@@ -9,7 +9,7 @@ use Rattle.sentry_tables.specs.Kind.{Kind}
 use Rattle.sentry_tables.specs.Written.{tree}
 use Rattle.sentry_tables.proofs.Laws.{has_laws}
 use Rattle.sentry_framing.specs.Framing.{Frame, with_line}
-use Rattle.sentry_envelope.specs.EnvelopeView.{item_view, AreReady}
+use Rattle.sentry_envelope.specs.EnvelopeView.{item_view, AreStoredAndPlain}
 use Rattle.sentry_envelope.specs.SentryProfile.{item_types, profile}
 use Rattle.sentry_envelope.specs.HeaderFields.{header_kind, fill_id}
 use Rattle.sentry_items.specs.Attached.{attachment_header, short_header}
@@ -65,14 +65,14 @@ then_ok : {E : Type 0} (r : Result (Unit {0}) E) (P Q : Type 0) → (P → Q) �
 then_ok (Ok u) P Q f h = f h
 then_ok (Err e) P Q f h = tt
 
--- where items are ready, the first and the others are
-pub ready_first : (i : Item) (is : List Item) → AreReady (i ∷ is) → AreReady (i ∷ [])
-ready_first i is ready = (meet_first stored_content item_types i is ready.0, meet_first plain_content item_types i is ready.1)
+-- where items are stored and plain, the first and the others are
+pub stored_and_plain_first : (i : Item) (is : List Item) → AreStoredAndPlain (i ∷ is) → AreStoredAndPlain (i ∷ [])
+stored_and_plain_first i is both = (meet_first stored_content item_types i is both.0, meet_first plain_content item_types i is both.1)
 
-pub ready_rest : (i : Item) (is : List Item) → AreReady (i ∷ is) → AreReady is
-ready_rest i is ready = (meet_rest stored_content item_types i is ready.0, meet_rest plain_content item_types i is ready.1)
+pub stored_and_plain_rest : (i : Item) (is : List Item) → AreStoredAndPlain (i ∷ is) → AreStoredAndPlain is
+stored_and_plain_rest i is both = (meet_rest stored_content item_types i is both.0, meet_rest plain_content item_types i is both.1)
 
--- no number in the tree of a value that is ready is held as a float
+-- no number in the tree of a value that is stored and plain is held as a float
 value_whole : {ts : List ItemType} {n : ℕ} (word : List ℕ) (K : Kind) (gives : Cell → Cell) → IsAt ts n (record { word = word; form = json_form K; gives = gives }) → (H : Kind) (fill : Cell → Cell → Cell)
     → TypesAreLawful H fill ts → (c : Cell) → ContentMeetsAt stored_content ts n (value c) → ContentMeetsAt plain_content ts n (value c) → has_float (tree K c) ≡ false
 value_whole word K gives at H fill laws c stored plain =
@@ -108,7 +108,7 @@ frame_sent r old new line text word K c texts headed sent =
 
 module _ {E : Type 0} (r : Result (Unit {0}) E) where
   abbrev Sends : List ℕ → List ℕ → EnvelopeItem → Type 0
-  Sends old new i = OnOk r (AreReady (item_view i ∷ []) → new ≡ old ++ frame_text (frame_of_item profile (item_view i)) [])
+  Sends old new i = OnOk r (AreStoredAndPlain (item_view i ∷ []) → new ≡ old ++ frame_text (frame_of_item profile (item_view i)) [])
 
   -- a frame with this header was sent
   abbrev IsSent : List ℕ → List ℕ → List ℕ → List ℕ → Type 0
@@ -126,12 +126,12 @@ module _ {E : Type 0} (r : Result (Unit {0}) E) where
       → IsEnded before new a.buffer.items → Sends old new i
   unfolding profile header_text
   attachment_sent i old before new a is headed sent =
-      subst (Sends old new) (sym is) (then_ok r _ _ (λ e ready. e) (ended old before new (header_text (attachment_header (codes "attachment") (attachment_view a))) a.buffer.items headed sent))
+      subst (Sends old new) (sym is) (then_ok r _ _ (λ e both. e) (ended old before new (header_text (attachment_header (codes "attachment") (attachment_view a))) a.buffer.items headed sent))
 
   pub recording_sent : (i : EnvelopeItem) (old new header : List ℕ) (x : ReplayRecording) → i ≡ variants.ReplayRecording x → header ≡ header_text (short_header (codes "replay_recording") x.buffer.items)
       → IsSent old new header x.buffer.items → Sends old new i
   unfolding profile header_text
-  recording_sent i old new header x is headed sent = subst (Sends old new) (sym is) (then_ok r _ _ (λ e ready. e) (subst (λ h. IsSent old new h x.buffer.items) headed sent))
+  recording_sent i old new header x is headed sent = subst (Sends old new) (sym is) (then_ok r _ _ (λ e both. e) (subst (λ h. IsSent old new h x.buffer.items) headed sent))
 
   -- of a type whose payload is JSON of this kind
   module _ (n : ℕ) (word : List ℕ) (K : Kind) (gives : Cell → Cell) (at : IsAt item_types n (record { word = word; form = json_form K; gives = gives })) where
@@ -139,8 +139,8 @@ module _ {E : Type 0} (r : Result (Unit {0}) E) where
         → OnOk r (has_float (tree K c) ≡ false → new ≡ old ++ value_text word (compact_text (tree K c))) → Sends old new i
     unfolding profile header_text
     value_sent i old new c is sent =
-        subst (λ v. OnOk r (AreReady (v ∷ []) → new ≡ old ++ frame_text (frame_of_item profile v) [])) (sym is)
-        (then_ok r _ _ (λ e ready. e (value_whole word K gives at header_kind fill_id profile_lawful.types c ready.0.0 ready.1.0) ∙ ap (λ f. old ++ frame_text f []) (sym (frame_is at (value c)))) sent)
+        subst (λ v. OnOk r (AreStoredAndPlain (v ∷ []) → new ≡ old ++ frame_text (frame_of_item profile v) [])) (sym is)
+        (then_ok r _ _ (λ e both. e (value_whole word K gives at header_kind fill_id profile_lawful.types c both.0.0 both.1.0) ∙ ap (λ f. old ++ frame_text f []) (sym (frame_is at (value c)))) sent)
 
   -- of a container
   module _ (n : ℕ) (word content_type : List ℕ) (K : Kind) (gives : Cell → Cell) (at : IsAt item_types n (record { word = word; form = container_form content_type K; gives = gives })) where
@@ -148,8 +148,8 @@ module _ {E : Type 0} (r : Result (Unit {0}) E) where
         → OnOk r (has_float (tree (container_kind K) c) ≡ false → new ≡ old ++ with_line (header_text (container_header word content_type c)) (with_line (compact_text (tree (container_kind K) c)) [])) → Sends old new i
     unfolding profile header_text
     listed_sent i old new c is sent =
-        subst (λ v. OnOk r (AreReady (v ∷ []) → new ≡ old ++ frame_text (frame_of_item profile v) [])) (sym is)
-        (then_ok r _ _ (λ e ready. e (listed_whole word content_type K gives at header_kind fill_id profile_lawful.types c ready.0.0 ready.1.0) ∙ ap (λ f. old ++ frame_text f []) (sym (frame_is at (value c)))) sent)
+        subst (λ v. OnOk r (AreStoredAndPlain (v ∷ []) → new ≡ old ++ frame_text (frame_of_item profile v) [])) (sym is)
+        (then_ok r _ _ (λ e both. e (listed_whole word content_type K gives at header_kind fill_id profile_lawful.types c both.0.0 both.1.0) ∙ ap (λ f. old ++ frame_text f []) (sym (frame_is at (value c)))) sent)
 
   pub container_sent : (k : ItemContainer) (i : EnvelopeItem) (old new : List ℕ) → i ≡ variants.ItemContainer k
       → OnOk r (has_float (container_tree k) ≡ false → new ≡ old ++ container_text k (compact_text (container_tree k))) → Sends old new i
@@ -169,14 +169,14 @@ envelope_begun h is line out e f = ap (λ s. s ++ items_text profile is) (f ∙ 
 
 -- one item more is written
 pub item_written : (items : List EnvelopeItem) (i : ℕ) (x : EnvelopeItem) (done new all : List ℕ) → i < length items → x ≡ get_or items i x
-    → (AreReady (item_view x ∷ []) → new ≡ done ++ frame_text (frame_of_item profile (item_view x)) [])
-    → AreReady (map item_view (drop i items)) × (done ++ items_text profile (map item_view (drop i items)) ≡ all)
-    → AreReady (map item_view (drop (i + 1) items)) × (new ++ items_text profile (map item_view (drop (i + 1) items)) ≡ all)
-item_written items i x done new all within is sent (ready, so_far) =
+    → (AreStoredAndPlain (item_view x ∷ []) → new ≡ done ++ frame_text (frame_of_item profile (item_view x)) [])
+    → AreStoredAndPlain (map item_view (drop i items)) × (done ++ items_text profile (map item_view (drop i items)) ≡ all)
+    → AreStoredAndPlain (map item_view (drop (i + 1) items)) × (new ++ items_text profile (map item_view (drop (i + 1) items)) ≡ all)
+item_written items i x done new all within is sent (both, so_far) =
     let others = drop (i + 1) items in
     let first : drop i items ≡ x ∷ others = rw add-one (drop-cons items i x within ∙ ap (λ y. y ∷ drop (suc i) items) (sym is)) in
-    let now_ready : AreReady (item_view x ∷ map item_view others) = subst (λ xs. AreReady (map item_view xs)) first ready in (
-      ready_rest (item_view x) (map item_view others) now_ready,
-      ap (λ s. s ++ items_text profile (map item_view others)) (sent (ready_first (item_view x) (map item_view others) now_ready)) ∙ item_then profile done (item_view x) (map item_view others)
+    let now_both : AreStoredAndPlain (item_view x ∷ map item_view others) = subst (λ xs. AreStoredAndPlain (map item_view xs)) first both in (
+      stored_and_plain_rest (item_view x) (map item_view others) now_both,
+      ap (λ s. s ++ items_text profile (map item_view others)) (sent (stored_and_plain_first (item_view x) (map item_view others) now_both)) ∙ item_then profile done (item_view x) (map item_view others)
           ∙ ap (λ xs. done ++ items_text profile (map item_view xs)) (sym first) ∙ so_far,
     )

@@ -9,7 +9,7 @@ ghost use Rattle.json.specs.Token.{begin_object};
 ghost use Rattle.sentry_items.specs.HeaderTokens.{header_text, member_tokens};
 ghost use Rattle.sentry_envelope.specs.ContainerText.{container_tree, counted_header, container_text};
 ghost use Rattle.sentry_envelope.specs.Envelope.{envelope_text, frame_text, frame_of_item};
-ghost use Rattle.sentry_envelope.specs.EnvelopeView.{item_view, AreReady, IsReady};
+ghost use Rattle.sentry_envelope.specs.EnvelopeView.{item_view, AreStoredAndPlain, IsStoredAndPlain};
 ghost use Rattle.sentry_envelope.specs.HeaderFields.{header_kind, headers_cell};
 ghost use Rattle.sentry_envelope.specs.SentryProfile.{profile};
 ghost use Rattle.sentry_envelope.specs.Texts.{bytes_of};
@@ -33,8 +33,8 @@ pub(crate) fn write_envelope<'e>(
     headers: &EnvelopeHeaders,
     items: &'e [EnvelopeItem],
 ) -> Result<Text<'e>, AllocError>
-    ensures { IfOk result (λ text. IsReady header_kind (headers_cell headers.now) ×
-        AreReady (map item_view items.now)
+    ensures { IfOk result (λ text. IsStoredAndPlain header_kind (headers_cell headers.now) ×
+        AreStoredAndPlain (map item_view items.now)
         → bytes_of text ≡
         envelope_text profile
         (record { header = headers_cell headers.now; items = map item_view items.now })) }
@@ -52,7 +52,7 @@ pub(crate) fn write_envelope<'e>(
 }
 
 fn write_headers(headers: &EnvelopeHeaders, out: &mut Vec<u8>) -> Result<(), AllocError>
-    ensures { OnOk result (IsReady header_kind (headers_cell headers.now)
+    ensures { OnOk result (IsStoredAndPlain header_kind (headers_cell headers.now)
         → out.new.items ≡ out.old.items ++
         compact_text (tree header_kind (headers_cell headers.now))) }
 {
@@ -71,7 +71,7 @@ fn write_item<'e>(
     payload: &mut Vec<u8>,
     text: &mut Text<'e>,
 ) -> Result<(), AllocError>
-    ensures { OnOk result (AreReady (item_view item.now ∷ []) →
+    ensures { OnOk result (AreStoredAndPlain (item_view item.now ∷ []) →
         bytes_of text.new ≡ bytes_of text.old ++
         frame_text (frame_of_item profile (item_view item.now)) []) }
 {
