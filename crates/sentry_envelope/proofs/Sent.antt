@@ -28,7 +28,7 @@ use Rattle.sentry_items.specs.Containers.{container_kind, container_type, conten
 use Rattle.sentry_items.specs.declared.container.ItemContainer.{ItemContainer}
 use Rattle.sentry_items.specs.declared.container.ItemContainer.TheVariants as containers
 use Rattle.sentry_envelope.specs.ContainerText.{container_tree, container_text}
-use Rattle.sentry_envelope.proofs.EnvelopeShown.{container_lawful}
+use Rattle.sentry_items.proofs.Containers.{container_lawful}
 use Rattle.sentry_envelope.specs.Profile.{json_form, container_form, ItemType, Profile, TypesAreLawful}
 use Rattle.sentry_envelope.specs.Envelope.{Item, item, raw, value, count, container_header, frame_text, frame_of_item, items_text, envelope_text, stored_content, plain_content, ContentDemand, ContentMeetsAt, ItemsMeet}
 use Rattle.sentry_envelope.proofs.EnvelopeTypes.{IsAt, first, later, meets_at, frame_is, lawful_at}
