@@ -12,7 +12,7 @@ use Rattle.sentry_envelope.specs.Envelope.{Content, attached, opaque, value, Ite
 use Rattle.sentry_envelope.specs.Accepted.{shallow_content, IsEnvelopeShallow, AcceptedIsReadable}
 use Rattle.sentry_envelope.proofs.EnvelopeForms.{items_rewritten}
 use Rattle.sentry_envelope.proofs.EnvelopeIds.{ids_alike}
-use Rattle.sentry_envelope.proofs.EnvelopeShown.{container_lawful}
+use Rattle.sentry_items.proofs.Containers.{container_lawful}
 
 -- ---- contents, of a form and at a place
 

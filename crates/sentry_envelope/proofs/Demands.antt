@@ -11,7 +11,7 @@ use Rattle.sentry_items.specs.declared.container.ItemContainer.TheVariants as co
 use Rattle.sentry_items.specs.declared.item.EnvelopeItem.{EnvelopeItem}
 use Rattle.sentry_items.specs.declared.item.EnvelopeItem.TheVariants as item_variants
 use Rattle.sentry_envelope.specs.Envelope.{Envelope as Model, plain_content, stored_content, ItemsMeet, IsEnvelopePlain, IsEnvelopeSized, IsEnvelopeStored}
-use Rattle.sentry_envelope.specs.EnvelopeView.{item_view, header_of, structured, structured_by, held, held_in, Held, items, bytes, ready_by, HasReadyParts, text_by, text_of}
+use Rattle.sentry_envelope.specs.EnvelopeView.{item_view, header_of, structured, structured_by, held, held_in, Held, items, bytes, StoredAndPlainBy, PartsAreStoredAndPlain, text_by, text_of}
 use Rattle.sentry_envelope.specs.HeaderFields.{header_kind}
 use Rattle.sentry_envelope.specs.SentryProfile.{item_types, profile}
 use Rattle.sentry_envelope.proofs.EnvelopeSized.{short}
@@ -59,13 +59,13 @@ module _ (e : Envelope) (r : Bool) (items : Vec EnvelopeItem Global) (is : e.con
   not_plain_header a isnt header none = subst (λ x. IsTrue r ↔ IsPlainIn x) (sym is) ((λ t. absurd (false≢true (sym none ∙ t))), (λ p. absurd (false≢true (sym isnt ∙ header.1 p.0))))
 
 -- the parts of an envelope that is plain and stored can be written
-ready_held : (h : Cell) (x : Held) → IsSomeAnd (structured_by h x) (IsEnvelopePlain profile) → IsSomeAnd (structured_by h x) (IsEnvelopeStored profile) → ready_by h x
+stored_and_plain_held : (h : Cell) (x : Held) → IsSomeAnd (structured_by h x) (IsEnvelopePlain profile) → IsSomeAnd (structured_by h x) (IsEnvelopeStored profile) → StoredAndPlainBy h x
 unfolding profile IsEnvelopePlain IsEnvelopeStored
-ready_held h (items is) p s = ((s.0, p.0), (s.1, p.1))
-ready_held h (bytes b) p s = tt
+stored_and_plain_held h (items is) p s = ((s.0, p.0), (s.1, p.1))
+stored_and_plain_held h (bytes b) p s = tt
 
-pub ready_parts : (e : Envelope) (r : Bool) → (IsTrue r ↔ IsSomeAnd (structured e) (IsEnvelopePlain profile)) → (IsTrue r → IsSomeAnd (structured e) (IsEnvelopeStored profile)) → r ≡ true → HasReadyParts e
-ready_parts e r plain stored is = ready_held (header_of e) (held e) (plain.0 is) (stored is)
+pub stored_and_plain_parts : (e : Envelope) (r : Bool) → (IsTrue r ↔ IsSomeAnd (structured e) (IsEnvelopePlain profile)) → (IsTrue r → IsSomeAnd (structured e) (IsEnvelopeStored profile)) → r ≡ true → PartsAreStoredAndPlain e
+stored_and_plain_parts e r plain stored is = stored_and_plain_held (header_of e) (held e) (plain.0 is) (stored is)
 
 -- what is told of a structured envelope holds where an envelope is structured
 if_structured : (m : Option Model) → IsSomeAnd m (IsEnvelopeStored profile) → IfSome m (IsEnvelopeStored profile)

@@ -16,7 +16,7 @@ use Rattle.sentry_envelope.specs.Profile.{Form, attachment_form, opaque_form, js
 use Rattle.sentry_items.specs.Containers.{container_kind}
 use Rattle.sentry_items.specs.Attached.{Attached, short_header, attached_norm, IsAttachedStored}
 use Rattle.sentry_envelope.specs.Envelope.{Content, attached, opaque, value, IsValue, attached_by, ContentShows, count, first_cell, item_count, payload_by, container_header, header_by, content_norm, stored_content, plain_content, readable_content, ContentMeets, stated_by}
-use Rattle.sentry_envelope.proofs.EnvelopeShown.{container_lawful}
+use Rattle.sentry_items.proofs.Containers.{container_lawful}
 use Rattle.sentry_envelope.proofs.EnvelopeAttachments.{type_is_text, content_type_is_text, attached_norm_stored, attached_norm_again, attached_norm_written, attached_by_stored, type_back}
 use Rattle.sentry_envelope.proofs.EnvelopeWrittenHeaders.{header_said, short_read, attachment_read, container_read, AreTexts}
 

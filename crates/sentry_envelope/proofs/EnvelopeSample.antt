@@ -20,7 +20,6 @@ use Rattle.sentry_identifiers.proofs.UuidLaws.{drawn_uuid_laws, hyphenated_laws}
 use Rattle.sentry_moments.specs.MomentForms.{rfc3339_kind}
 use Rattle.sentry_moments.proofs.MomentSpellings.{rfc3339_at_once, rfc3339_scalar_laws}
 use Rattle.sentry_envelope.specs.HeaderFields.{header_kind, fill_id}
-use Rattle.sentry_envelope.specs.SentryProfile.{without_id}
 use Rattle.sentry_envelope.specs.OneEnvelope.{PayloadDrawsNothing, HasOneEnvelope}
 use Rattle.sentry_envelope.specs.Profile.{Form, attachment_form, opaque_form, json_form, container_form, ItemType, Profile, GivesAlike, ProfileLaws}
 use Rattle.sentry_items.specs.Containers.{container_kind}
@@ -83,6 +82,10 @@ event_gives _ stored plain = absurd stored
 
 abbrev log_type : List ℕ
 log_type = codes "application/vnd.sentry.items.log+json"
+
+-- a type of items that give their envelope no id
+abbrev without_id : List ℕ → Form → ItemType
+without_id word form = record { word = word; form = form; gives = λ c. absent }
 
 abbrev types : List ItemType
 types =

@@ -10,11 +10,9 @@ use Rattle.sentry_framing.specs.Framing.{Frame}
 use Rattle.sentry_framing.specs.ItemHeader.{Header, read_header}
 use Rattle.sentry_envelope.specs.Profile.{Form, attachment_form, opaque_form, json_form, container_form, ItemType, words, Profile, FormIsLawful, TypesAreLawful, ProfileLaws}
 use Rattle.sentry_items.specs.Containers.{container_kind}
+use Rattle.sentry_items.proofs.Containers.{container_lawful}
 use Rattle.sentry_envelope.specs.Envelope.{Content, attached, opaque, value, Item, item, raw, IsValue, attached_by, ContentShows, ContentShowsAt, ItemShows}
 use Rattle.sentry_envelope.specs.EnvelopeFault.{LineStands, LineIsRefused, FrameStands, FrameIsRefused}
-
-pub container_lawful : (K : Kind) → IsLawful K → IsLawful (container_kind K)
-container_lawful K lawful = (refl, tt, lawful, tt, refl)
 
 -- ---- contents, of a form and at a place
 

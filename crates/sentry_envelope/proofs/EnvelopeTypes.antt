@@ -72,7 +72,7 @@ lawful_at (later at) H fill laws = lawful_at at H fill laws.4
 
 -- ---- the word of a type stands at its place
 
-or_false : (a b : Bool) → a || b ≡ false → (a ≡ false) × (b ≡ false)
+pub or_false : (a b : Bool) → a || b ≡ false → (a ≡ false) × (b ≡ false)
 or_false true b e = absurd (true≢false e)
 or_false false b e = (refl, e)
 

@@ -9,21 +9,21 @@ use Rattle.sentry_tables.specs.Laws.{HasLaws}
 use Rattle.sentry_tables.specs.Meets.{IsPlain}
 use Rattle.sentry_tables.specs.Written.{tree}
 use Rattle.uuid.specs.declared.Uuid.{Uuid}
-use Rattle.sentry_envelope.specs.EnvelopeView.{IsReady, no_fields}
+use Rattle.sentry_envelope.specs.EnvelopeView.{IsStoredAndPlain, no_fields}
 use Rattle.sentry_envelope.specs.HeaderFields.{header_fields, header_kind, put_id}
 use Rattle.sentry_envelope.proofs.SentryProfile.{header_lawful}
 
 pub header_laws : HasLaws header_kind
 header_laws = has_laws header_kind header_lawful
 
--- the tree of a header that is ready to be written holds no floats
-pub header_whole : (h : Cell) → IsReady header_kind h → has_float (tree header_kind h) ≡ false
-header_whole h ready = sound_without_float (tree header_kind h) (header_laws.written h ready.0 ready.1)
+-- the tree of a header that is stored and plain holds no floats
+pub header_whole : (h : Cell) → IsStoredAndPlain header_kind h → has_float (tree header_kind h) ≡ false
+header_whole h both = sound_without_float (tree header_kind h) (header_laws.written h both.0 both.1)
 
--- what holds of a whole tree holds of a header that is ready
-pub with_ready : {E : Type 0} (r : Result (Unit {0}) E) (P Q R : Type 0) → (R → P) → OnOk r (P → Q) → OnOk r (R → Q)
-with_ready (Ok u) P Q R f h = λ x. h (f x)
-with_ready (Err e) P Q R f h = tt
+-- what holds of a whole tree holds of a header that is stored and plain
+pub where_stored_and_plain : {E : Type 0} (r : Result (Unit {0}) E) (P Q R : Type 0) → (R → P) → OnOk r (P → Q) → OnOk r (R → Q)
+where_stored_and_plain (Ok u) P Q R f h = λ x. h (f x)
+where_stored_and_plain (Err e) P Q R f h = tt
 
 -- a header without fields is plain, and one that is plain is so with another id
 pub no_fields_plain : IsPlain header_kind no_fields

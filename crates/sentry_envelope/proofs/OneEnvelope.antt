@@ -18,7 +18,7 @@ use Rattle.sentry_envelope.specs.OneEnvelope.{PayloadDrawsNothing, PayloadDrawsN
 use Rattle.sentry_envelope.proofs.EnvelopeAnswers.{some_remain}
 use Rattle.sentry_envelope.proofs.EnvelopeBack.{envelopes_same}
 use Rattle.sentry_envelope.proofs.EnvelopeLine.{same_line}
-use Rattle.sentry_envelope.proofs.EnvelopeShown.{container_lawful}
+use Rattle.sentry_items.proofs.Containers.{container_lawful}
 
 -- ---- contents
 

@@ -18,7 +18,7 @@ use Rattle.sentry_envelope.specs.Envelope.{Content, value, Item, item, raw, read
 use Rattle.sentry_envelope.specs.OneEnvelope.{PayloadDrawsNothing, PayloadDrawsNothingAt, FrameDrawsNothing, TextsDrawNothing}
 use Rattle.sentry_envelope.proofs.EnvelopeItems.{IsItemBack, item_back, none_of_nothing}
 use Rattle.sentry_envelope.proofs.EnvelopeLine.{same_line}
-use Rattle.sentry_envelope.proofs.EnvelopeShown.{container_lawful}
+use Rattle.sentry_items.proofs.Containers.{container_lawful}
 use Rattle.sentry_envelope.proofs.EnvelopeTypes.{IsAt, first, later, type_met, meets_at, frame_is, lawful_at}
 
 -- ---- one item

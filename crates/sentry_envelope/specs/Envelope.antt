@@ -192,7 +192,7 @@ envelope_norm P e = record {
 
 -- ---- demands
 
--- what is asked of the header, of an attachment, of other bytes, and of a value by its kind
+-- what is asked of an attachment, and of a value by its kind; of other bytes nothing is asked
 pub record ContentDemand : Type 1 where
   pub attached : Attached → Type 0
   pub value : Kind → Cell → Type 0

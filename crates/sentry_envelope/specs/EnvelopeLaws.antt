@@ -37,7 +37,8 @@ pub record IsEnvelopeStable (P : Profile) (e : Envelope) : Type 0 where
 abbrev pub EnvelopesAreStable : Profile → Type 0
 EnvelopesAreStable P = (e : Envelope) → IsEnvelopeStored P e → IsEnvelopePlain P e → IsEnvelopeStable P e
 
--- what is asked of an envelope whose text is read back
+-- An envelope that reads back, and whose normal form does: *stored*, *plain* and *readable* are asked of it (its normal form then has
+-- them too, by `stable`), *sized* of the normal form, which is what is written.
 pub record IsFit (P : Profile) (e : Envelope) : Type 0 where
   pub stored : IsEnvelopeStored P e
   pub plain : IsEnvelopePlain P e

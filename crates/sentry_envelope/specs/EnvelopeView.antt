@@ -77,21 +77,21 @@ text_by h (bytes b) = b
 abbrev pub text_of : Envelope → List ℕ
 text_of e = text_by (header_of e) (held e)
 
--- a value of this kind has what Rust's types hold, and no tree in it holds a float: its tree can be written
-abbrev pub IsReady : Kind → Cell → Type 0
-IsReady K c = IsStored K c × IsPlain K c
+-- stored and plain: what writing needs so that its text is the value's
+abbrev pub IsStoredAndPlain : Kind → Cell → Type 0
+IsStoredAndPlain K c = IsStored K c × IsPlain K c
 
 -- the same of each value in the items
-abbrev pub AreReady : List Item → Type 0
-AreReady is = ItemsMeet stored_content item_types is × ItemsMeet plain_content item_types is
+abbrev pub AreStoredAndPlain : List Item → Type 0
+AreStoredAndPlain is = ItemsMeet stored_content item_types is × ItemsMeet plain_content item_types is
 
--- where there are items, the header and they can be written
-abbrev pub ready_by : Cell → Held → Type 0
-ready_by h (items is) = IsReady header_kind h × AreReady is
-ready_by h (bytes b) = ⊤
+-- the same of the header and the items, where there are items
+abbrev pub StoredAndPlainBy : Cell → Held → Type 0
+StoredAndPlainBy h (items is) = IsStoredAndPlain header_kind h × AreStoredAndPlain is
+StoredAndPlainBy h (bytes b) = ⊤
 
-abbrev pub HasReadyParts : Envelope → Type 0
-HasReadyParts e = ready_by (header_of e) (held e)
+abbrev pub PartsAreStoredAndPlain : Envelope → Type 0
+PartsAreStoredAndPlain e = StoredAndPlainBy (header_of e) (held e)
 
 -- it is structured and isn't plain
 abbrev pub IsUnwritable : Envelope → Type 0

@@ -1,5 +1,4 @@
 pub mod Callbacks
-pub mod ContainerText
 pub mod Envelope
 pub mod EnvelopeAlike
 pub mod EnvelopeFault
@@ -10,6 +9,7 @@ pub mod EnvelopeView
 pub mod Filter
 pub mod HeaderFields
 pub mod ItemAdded
+pub mod ItemText
 pub mod ItemsLeft
 pub mod OneEnvelope
 pub mod Profile

@@ -1,15 +1,13 @@
 -- The envelopes of Sentry: their header, and the types of their items.
-use Rattle.std.specs.Prelude.{ℕ, List, [], ◌∷◌, codes, bytes_eq, if◌then◌else◌}
+use Rattle.std.specs.Prelude.{ℕ, List, map, codes, bytes_eq, if◌then◌else◌}
 use Rattle.sentry_tables.specs.Cell.{Cell, absent, fields, Cells, no_cells, cell}
 use Rattle.sentry_tables.specs.Kind.{Kind, table, Rows, no_rows, row}
-use Rattle.sentry_event.specs.Events.{event_kind}
-use Rattle.sentry_event.specs.Transactions.{transaction_kind}
+use Rattle.sentry_framing.specs.ItemWords.{item_kinds, kind_word}
+use Rattle.sentry_framing.specs.declared.kind.ItemKind.{ItemKind}
+use Rattle.sentry_framing.specs.declared.kind.ItemKind.TheVariants as kinds
 use Rattle.sentry_records.specs.Logs.{log_kind}
 use Rattle.sentry_records.specs.Metrics.{metric_kind}
-use Rattle.sentry_records.specs.Monitors.{check_in_kind}
-use Rattle.sentry_records.specs.Sessions.{session_kind, groups_kind}
-use Rattle.sentry_records.specs.UserReports.{user_report_kind}
-use Rattle.sentry_reports.specs.Reports.{report_kind}
+use Rattle.sentry_items.specs.View.{payload_kind}
 use Rattle.sentry_envelope.specs.Profile.{Form, attachment_form, opaque_form, json_form, container_form, ItemType, Profile}
 use Rattle.sentry_envelope.specs.HeaderFields.{header_kind, fill_id}
 
@@ -28,28 +26,25 @@ held_at key _ _ = absent
 
 -- ---- types of items
 
--- a type of items that give their envelope no id
-abbrev pub without_id : List ℕ → Form → ItemType
-without_id word form = record { word = word; form = form; gives = λ c. absent }
+-- the form of a type's payloads
+abbrev pub form_of : ItemKind → Form
+form_of kinds.Attachment = attachment_form
+form_of kinds.ReplayRecording = opaque_form
+form_of kinds.Logs = container_form (codes "application/vnd.sentry.items.log+json") log_kind
+form_of kinds.Metrics = container_form (codes "application/vnd.sentry.items.trace-metric+json") metric_kind
+form_of k = json_form (payload_kind k)
 
--- a type of items that give their envelope their event id
-abbrev pub with_id : List ℕ → Kind → ItemType
-with_id word K = record { word = word; form = json_form K; gives = held_at (codes "event_id") K }
+-- the id that a value of a type gives its envelope: an event or a transaction its own, and any other none
+abbrev pub gives_of : ItemKind → Cell → Cell
+gives_of kinds.Event c = held_at (codes "event_id") (payload_kind kinds.Event) c
+gives_of kinds.Transaction c = held_at (codes "event_id") (payload_kind kinds.Transaction) c
+gives_of _ c = absent
+
+abbrev pub item_type : ItemKind → ItemType
+item_type k = record { word = kind_word k; form = form_of k; gives = gives_of k }
 
 abbrev pub item_types : List ItemType
-item_types =
-    with_id (codes "event") event_kind
-    ∷ without_id (codes "session") (json_form session_kind)
-    ∷ without_id (codes "sessions") (json_form groups_kind)
-    ∷ with_id (codes "transaction") transaction_kind
-    ∷ without_id (codes "attachment") attachment_form
-    ∷ without_id (codes "check_in") (json_form check_in_kind)
-    ∷ without_id (codes "user_report") (json_form user_report_kind)
-    ∷ without_id (codes "replay_recording") opaque_form
-    ∷ without_id (codes "log") (container_form (codes "application/vnd.sentry.items.log+json") log_kind)
-    ∷ without_id (codes "trace_metric") (container_form (codes "application/vnd.sentry.items.trace-metric+json") metric_kind)
-    ∷ without_id (codes "client_report") (json_form report_kind)
-    ∷ []
+item_types = map item_type item_kinds
 
 unfoldable pub profile : Profile
 profile = record { header = header_kind; fill = fill_id; types = item_types }

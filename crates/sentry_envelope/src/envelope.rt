@@ -57,7 +57,7 @@ impl Envelope {
     ghost use Rattle.sentry_envelope.specs.Envelope.{Envelope as Model, IsEnvelopePlain, IsEnvelopeSized, IsEnvelopeStored, Spells, envelope_text, envelope_norm};
     ghost use Rattle.sentry_envelope.specs.EnvelopeFault.{Fault};
     ghost use Rattle.sentry_moments.specs.Moments.{moment_cell};
-    ghost use Rattle.sentry_envelope.specs.EnvelopeView.{held, header_of, event_id_of, structured, raw_bytes, IsSame, item_view, items_of, first_event, with_item, empty, no_fields, refused_item, text_of, HasReadyParts, IsUnwritable};
+    ghost use Rattle.sentry_envelope.specs.EnvelopeView.{held, header_of, event_id_of, structured, raw_bytes, IsSame, item_view, items_of, first_event, with_item, empty, no_fields, refused_item, text_of, PartsAreStoredAndPlain, IsUnwritable};
     ghost use Rattle.sentry_envelope.specs.HeaderFields.{headers_cell};
     ghost use Rattle.sentry_envelope.specs.ItemsLeft.{items_left, owned_items_left};
     ghost use Rattle.sentry_envelope.specs.SentryProfile.{profile};
@@ -314,7 +314,8 @@ impl Envelope {
     // Returns the text of the envelope: the header line and the items, or the bytes of a raw
     // envelope.
     fn write_text(&self, alloc: Global) -> Result<Text<'_>, AllocError>
-        ensures { IfOk result (λ text. HasReadyParts self.now → bytes_of text ≡ text_of self.now) }
+        ensures { IfOk result (λ text.
+            PartsAreStoredAndPlain self.now → bytes_of text ≡ text_of self.now) }
     {
         match &self.contents {
             Contents::Items(items) => write_envelope(alloc, &self.headers, items),
@@ -323,10 +324,10 @@ impl Envelope {
     }
 
     // A raw envelope can always be written.
-    #[tactic(auto, using(crate::proofs::Demands::ready_parts, crate::proofs::Demands::stored_where_structured))]
+    #[tactic(auto, using(crate::proofs::Demands::stored_and_plain_parts, crate::proofs::Demands::stored_where_structured))]
     fn is_unwritable(&self) -> bool
         ensures exactly { IsTrue result ↔ IsUnwritable self.now }
-        ensures ready { result ≡ false → HasReadyParts self.now }
+        ensures stored_and_plain { result ≡ false → PartsAreStoredAndPlain self.now }
         ensures stored { result ≡ false → IfSome (structured self.now) (IsEnvelopeStored profile) }
     {
         match &self.contents {

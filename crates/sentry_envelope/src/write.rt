@@ -1,16 +1,16 @@
 //! The text of a structured envelope.
 
-ghost use Rattle.std.specs.Prelude.{◌≡◌, ◌∷◌, ◌++◌, [], false, IfOk, OnOk, map};
-ghost use Rattle.serde_json.specs.Written.{compact_text, has_float};
+ghost use Rattle.std.specs.Prelude.{◌≡◌, ◌∷◌, ◌++◌, [], IfOk, OnOk, map};
+ghost use Rattle.serde_json.specs.Written.{compact_text};
 ghost use Rattle.sentry_tables.specs.Written.{tree};
 ghost use Rattle.sentry_framing.specs.Framing.{with_line};
-ghost use Rattle.sentry_items.specs.Attached.{short_header};
 ghost use Rattle.json.specs.Token.{begin_object};
 ghost use Rattle.sentry_items.specs.HeaderTokens.{header_text, member_tokens};
-ghost use Rattle.sentry_envelope.specs.ContainerText.{container_tree, counted_header, container_text};
+ghost use Rattle.sentry_items.specs.View.{item_held};
 ghost use Rattle.sentry_envelope.specs.Envelope.{envelope_text, frame_text, frame_of_item};
-ghost use Rattle.sentry_envelope.specs.EnvelopeView.{item_view, AreReady, IsReady};
+ghost use Rattle.sentry_envelope.specs.EnvelopeView.{item_view, AreStoredAndPlain, IsStoredAndPlain};
 ghost use Rattle.sentry_envelope.specs.HeaderFields.{header_kind, headers_cell};
+ghost use Rattle.sentry_envelope.specs.ItemText.{counted_header, AppendsValue};
 ghost use Rattle.sentry_envelope.specs.SentryProfile.{profile};
 ghost use Rattle.sentry_envelope.specs.Texts.{bytes_of};
 
@@ -18,10 +18,10 @@ use crate::headers::EnvelopeHeaders;
 use crate::text::Text;
 use json::Writer;
 use sentry_items::attachment::write_header;
-use sentry_items::container::write_container_payload;
 use sentry_items::header::write_short_header;
+use sentry_items::item::write_payload;
 use sentry_items::{EnvelopeItem, ItemContainer};
-use sentry_members::{Member, write_text};
+use sentry_members::write_text;
 use std::alloc::{AllocError, Global};
 use std::mem;
 
@@ -33,8 +33,8 @@ pub(crate) fn write_envelope<'e>(
     headers: &EnvelopeHeaders,
     items: &'e [EnvelopeItem],
 ) -> Result<Text<'e>, AllocError>
-    ensures { IfOk result (λ text. IsReady header_kind (headers_cell headers.now) ×
-        AreReady (map item_view items.now)
+    ensures { IfOk result (λ text. IsStoredAndPlain header_kind (headers_cell headers.now) ×
+        AreStoredAndPlain (map item_view items.now)
         → bytes_of text ≡
         envelope_text profile
         (record { header = headers_cell headers.now; items = map item_view items.now })) }
@@ -52,7 +52,7 @@ pub(crate) fn write_envelope<'e>(
 }
 
 fn write_headers(headers: &EnvelopeHeaders, out: &mut Vec<u8>) -> Result<(), AllocError>
-    ensures { OnOk result (IsReady header_kind (headers_cell headers.now)
+    ensures { OnOk result (IsStoredAndPlain header_kind (headers_cell headers.now)
         → out.new.items ≡ out.old.items ++
         compact_text (tree header_kind (headers_cell headers.now))) }
 {
@@ -71,40 +71,15 @@ fn write_item<'e>(
     payload: &mut Vec<u8>,
     text: &mut Text<'e>,
 ) -> Result<(), AllocError>
-    ensures { OnOk result (AreReady (item_view item.now ∷ []) →
+    ensures { OnOk result (AreStoredAndPlain (item_view item.now ∷ []) →
         bytes_of text.new ≡ bytes_of text.old ++
         frame_text (frame_of_item profile (item_view item.now)) []) }
 {
     line.clear();
     match item {
-        EnvelopeItem::Event(event) => {
-            write_value(alloc, "event", event.as_ref(), line, payload, text)
-        }
-        EnvelopeItem::SessionUpdate(session) => {
-            write_value(alloc, "session", session, line, payload, text)
-        }
-        EnvelopeItem::SessionAggregates(groups) => {
-            write_value(alloc, "sessions", groups, line, payload, text)
-        }
-        EnvelopeItem::Transaction(transaction) => {
-            write_value(
-                alloc,
-                "transaction",
-                transaction.as_ref(),
-                line,
-                payload,
-                text,
-            )
-        }
         EnvelopeItem::Attachment(attachment) => {
             write_header(attachment, alloc, "attachment", line, &mut text.end)?;
             end_frame(&attachment.buffer, text)
-        }
-        EnvelopeItem::MonitorCheckIn(check_in) => {
-            write_value(alloc, "check_in", check_in, line, payload, text)
-        }
-        EnvelopeItem::UserReport(report) => {
-            write_value(alloc, "user_report", report, line, payload, text)
         }
         EnvelopeItem::ReplayRecording(recording) => {
             write_short_header(alloc, "replay_recording", &recording.buffer, line)?;
@@ -112,43 +87,14 @@ fn write_item<'e>(
             end_frame(&recording.buffer, text)
         }
         EnvelopeItem::ItemContainer(container) => {
-            write_container(alloc, container, line, payload, text)
-        }
-        EnvelopeItem::ClientReport(report) => {
-            write_value(alloc, "client_report", report, line, payload, text)
+            payload.clear();
+            write_payload(item, payload)?;
+            write_container_header(alloc, container, line)?;
+            write_frame(line, payload, text)
         }
         EnvelopeItem::Raw => Ok(()),
+        _ => write_value(alloc, item, line, payload, text),
     }
-}
-
-// Appends the header and payload of a container, each with a line feed. `line` is empty before.
-fn write_container(
-    alloc: Global,
-    container: &ItemContainer,
-    line: &mut Vec<u8>,
-    payload: &mut Vec<u8>,
-    text: &mut Text<'_>,
-) -> Result<(), AllocError>
-    requires { line.old.items ≡ [] }
-    ensures { OnOk result (has_float (container_tree container.now) ≡ false
-        → bytes_of text.new ≡ bytes_of text.old ++
-        container_text container.now (compact_text (container_tree container.now))) }
-{
-    payload.clear();
-    write_payload(container, payload)?;
-    write_container_header(alloc, container, line)?;
-    write_frame(line, payload, text)
-}
-
-fn write_payload(container: &ItemContainer, out: &mut Vec<u8>) -> Result<(), AllocError>
-    ensures { OnOk result (has_float (container_tree container.now) ≡ false
-        → out.new.items ≡ out.old.items ++ compact_text (container_tree container.now)) }
-{
-    let alloc = *out.allocator();
-    let mut writer = Writer::new(mem::replace(out, Vec::new(alloc)));
-    write_container_payload(container, &mut writer)?;
-    *out = writer.into_inner();
-    Ok(())
 }
 
 fn write_container_header(
@@ -190,26 +136,25 @@ fn write_counted_members(container: &ItemContainer, writer: &mut Writer) -> Resu
     writer.end_object()
 }
 
-// Appends the header and payload of an item with a JSON payload, each with a line feed. `line` is
-// empty before.
-fn write_value<T: Member>(
+// Appends the header and payload of an item whose payload is one JSON text, each with a line feed;
+// nothing for `Raw`. `line` is empty before.
+fn write_value(
     alloc: Global,
-    word: &str,
-    value: &T,
+    item: &EnvelopeItem,
     line: &mut Vec<u8>,
     payload: &mut Vec<u8>,
     text: &mut Text<'_>,
 ) -> Result<(), AllocError>
     requires { line.old.items ≡ [] }
-    ensures { OnOk result (has_float (tree T.kind (T.cell_of value.now)) ≡ false
-        → bytes_of text.new ≡ bytes_of text.old ++
-        with_line
-        (header_text (short_header word.now (compact_text (tree T.kind (T.cell_of value.now)))))
-        (with_line (compact_text (tree T.kind (T.cell_of value.now))) [])) }
+    ensures { OnOk result
+        (AppendsValue (item_held item.now) (bytes_of text.old) (bytes_of text.new)) }
 {
+    let Some(kind) = item.kind() else {
+        return Ok(());
+    };
     payload.clear();
-    write_text(value, payload)?;
-    write_short_header(alloc, word, payload, line)?;
+    write_payload(item, payload)?;
+    write_short_header(alloc, kind.as_str(), payload, line)?;
     write_frame(line, payload, text)
 }
 

@@ -7,3 +7,4 @@ pub mod Sent
 pub mod PlainHeader
 pub mod Cut
 pub mod SameLosses
+pub mod PayloadLaws

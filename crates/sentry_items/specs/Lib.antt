@@ -6,6 +6,7 @@ pub mod Counted
 pub mod HeaderTokens
 pub mod Made
 pub mod Meets
+pub mod Payload
 pub mod PlainHeader
 pub mod View
 pub mod Losses

@@ -1,6 +1,8 @@
 //! Containers: items that hold many logs or many metrics.
 
-ghost use Rattle.std.specs.Prelude.{◌≡◌, IfOk, OnOk};
+ghost use Rattle.std.specs.Prelude.{◌≡◌, ◌++◌, IfOk, OnOk, false};
+ghost use Rattle.serde_json.specs.Written.{compact_text, has_float};
+ghost use Rattle.sentry_tables.specs.Written.{tree};
 ghost use Rattle.sentry_members.specs.Made.{made};
 ghost use Rattle.sentry_members.specs.Written.{written, WritesTree};
 ghost use Rattle.sentry_items.specs.Containers.{container_cell, container_kind, container_type, items_cell};
@@ -14,6 +16,7 @@ use sentry_records::{Log, Metric};
 use sentry_writing::plain::rows_are_plain;
 use sentry_writing::table::write_table;
 use std::alloc::AllocError;
+use std::mem;
 
 /// An item that holds many values of one type.
 ///
@@ -126,15 +129,26 @@ fn remake_items<T: Member>(items: &Vec<T>, way: Way) -> Result<Vec<T>, AllocErro
     items.remake(way)
 }
 
-/// Writes the payload of a container: an object with the values in the array `items`.
-///
-/// # Errors
-///
-/// `AllocError` if an allocation fails; a part of the payload may have been written.
-pub fn write_container_payload(
+// Appends the payload of a container: an object with the values in the array `items`.
+pub(crate) fn write_container_payload(
     container: &ItemContainer,
-    out: &mut Writer,
+    out: &mut Vec<u8>,
 ) -> Result<(), AllocError>
+    ensures { OnOk result (
+        has_float (tree (payload_kind (container_type container.now))
+        (container_cell container.now)) ≡ false
+        → out.new.items ≡ out.old.items ++
+        compact_text (tree (payload_kind (container_type container.now))
+        (container_cell container.now))) }
+{
+    let alloc = *out.allocator();
+    let mut writer = Writer::new(mem::replace(out, Vec::new(alloc)));
+    write_container_tree(container, &mut writer)?;
+    *out = writer.into_inner();
+    Ok(())
+}
+
+fn write_container_tree(container: &ItemContainer, out: &mut Writer) -> Result<(), AllocError>
     ensures { OnOk result (WritesTree (written (payload_kind (container_type container.now))
         (container_cell container.now)) out.old out.new) }
 {

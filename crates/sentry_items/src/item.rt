@@ -1,13 +1,15 @@
 //! Envelope items.
 
-ghost use Rattle.std.specs.Prelude.{◌≡◌, IfOk};
+ghost use Rattle.std.specs.Prelude.{◌≡◌, IfOk, OnOk};
+ghost use Rattle.sentry_items.specs.Payload.{AppendsPayload};
+ghost use Rattle.sentry_items.specs.View.{item_held};
 
 use crate::attachment::Attachment;
-use crate::container::ItemContainer;
+use crate::container::{ItemContainer, write_container_payload};
 use crate::replay_recording::ReplayRecording;
 use sentry_event::{Event, Transaction};
 use sentry_framing::ItemKind;
-use sentry_members::{Member, Way};
+use sentry_members::{Member, Way, write_text};
 use sentry_records::{Log, Metric, MonitorCheckIn, SessionAggregates, SessionUpdate, UserReport};
 use sentry_reports::Report;
 use std::alloc::{AllocError, Global};
@@ -163,6 +165,32 @@ impl EnvelopeItem {
         ensures { IfOk result (λ item. item_held item ≡ item_norm (item_held self.now)) }
     {
         self.remake(Way::Normal(alloc))
+    }
+}
+
+/// Appends the JSON payload of an item to `out`; appends nothing for an attachment, a replay
+/// recording and `Raw`, which have none.
+///
+/// The contract covers payloads whose tree has no float.
+///
+/// # Errors
+///
+/// `AllocError` if an allocation fails; a part of the payload may have been appended.
+#[tactic(auto, unfolding(sentry_members::specs::Written::written))]
+pub fn write_payload(item: &EnvelopeItem, out: &mut Vec<u8>) -> Result<(), AllocError>
+    ensures { OnOk result (AppendsPayload (item_held item.now) out.old.items out.new.items) }
+{
+    match item {
+        EnvelopeItem::Event(event) => write_text(event.as_ref(), out),
+        EnvelopeItem::SessionUpdate(session) => write_text(session, out),
+        EnvelopeItem::SessionAggregates(groups) => write_text(groups, out),
+        EnvelopeItem::Transaction(transaction) => write_text(transaction.as_ref(), out),
+        EnvelopeItem::MonitorCheckIn(check_in) => write_text(check_in, out),
+        EnvelopeItem::UserReport(report) => write_text(report, out),
+        EnvelopeItem::ItemContainer(container) => write_container_payload(container, out),
+        EnvelopeItem::ClientReport(report) => write_text(report, out),
+        EnvelopeItem::Attachment(_) | EnvelopeItem::ReplayRecording(_) => Ok(()),
+        EnvelopeItem::Raw => Ok(()),
     }
 }
 

@@ -1,8 +1,8 @@
 use Rattle.sentry_members.specs.Written.{written}
 use Rattle.sentry_envelope.specs.HeaderFields.{headers_cell}
-use Rattle.sentry_envelope.proofs.HeaderValues.{header_whole, with_ready}
+use Rattle.sentry_envelope.proofs.HeaderValues.{header_whole, where_stored_and_plain}
 use Rattle.sentry_envelope.proofs.write.write_headers.Goals as goal
 
 pub returns : goal.returns
 unfolding written
-returns c = with_ready c.write_text.result _ _ _ (header_whole (headers_cell c.args.headers.now)) c.write_text.ensures.ok
+returns c = where_stored_and_plain c.write_text.result _ _ _ (header_whole (headers_cell c.args.headers.now)) c.write_text.ensures.ok
