@@ -13,7 +13,7 @@ use Rattle.sentry_envelope.specs.declared.envelope.Envelope.{Envelope}
 use Rattle.sentry_framing.specs.declared.error.EnvelopeError.{EnvelopeError}
 use Rattle.sentry_framing.specs.declared.error.EnvelopeError.TheVariants as fault
 use Rattle.sentry_env.specs.Ending.{refusal_of}
-use Rattle.sentry_env.specs.Run.{IsDue, Runs, ReadsEnvelope, Sends, Stays, Stream, streams}
+use Rattle.sentry_env.specs.Run.{IsDue, Runs, ReadsEnvelope, Sends, Stays, Stream}
 use Rattle.sentry_env.specs.declared.ending.Outcome.{Outcome}
 use Rattle.sentry_env.specs.declared.ending.RunError.{RunError}
 use Rattle.sentry_env.specs.declared.ending.RunError.TheVariants as error
@@ -37,7 +37,7 @@ read now input input' bytes given envelope consumed ended same spelled =
 -- the bytes were refused, or memory was, and nothing was written
 pub refused : (kinds : List ItemKind) (keep : Bool) (now : Cell) (input input' : Option (List ℕ)) (out table : Stream) (bytes given : List ℕ) (x : EnvelopeError)
     → Consumes input input' bytes → IsAtEnd input' → given ≡ bytes → (x ≢ fault.OutOfMemory → Fault profile given x)
-    → Runs kinds keep now (streams input out table) (streams input' out table) (Err (refusal_of x))
+    → Runs kinds keep now input input' out out table table (Err (refusal_of x))
 refused kinds keep now input input' out table bytes given fault.OutOfMemory consumed ended same faulty = (stays out, stays table)
 refused kinds keep now input input' out table bytes given fault.UnexpectedEof consumed ended same faulty =
     (record { bytes = bytes; consumed = consumed; ended = ended; at_fault = rw same at (faulty (λ is. cc)) }, stays out, stays table)
@@ -57,7 +57,7 @@ refused kinds keep now input input' out table bytes given fault.InvalidItemPaylo
 -- the first text was not sent, and nothing was written of the table
 pub left_unsent : (kinds : List ItemKind) (keep : Bool) (now : Cell) (input input' : Option (List ℕ)) (out out' table : Stream) (header : Cell) (items : List EnvelopeItem) (out_text table_text : List ℕ) (outcome : Outcome)
     (e : RunError) → ReadsEnvelope now input input' header items → IsDue kinds keep header items out_text table_text outcome → Sends {A = Unit {0}} out out' out_text (Err e)
-    → Runs kinds keep now (streams input out table) (streams input' out' table) (Err e)
+    → Runs kinds keep now input input' out out' table table (Err e)
 left_unsent kinds keep now input input' out out' table header items out_text table_text outcome (error.Refused x) reads due sends = absurd sends
 left_unsent kinds keep now input input' out out' table header items out_text table_text outcome error.Read reads due sends = absurd sends
 left_unsent kinds keep now input input' out out' table header items out_text table_text outcome error.Memory reads due sends = (sends, stays table)

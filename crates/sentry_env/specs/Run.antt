@@ -64,15 +64,6 @@ pub record Stream : Type 0 where
 abbrev pub stream : Option (List ℕ) → ℕ → Stream
 stream bytes failures = record { bytes = bytes; failures = failures }
 
--- what the reader has left, where that is known, and what both writers hold
-pub record Streams : Type 0 where
-  pub input : Option (List ℕ)
-  pub out : Stream
-  pub table : Stream
-
-abbrev pub streams : Option (List ℕ) → Stream → Stream → Streams
-streams input out table = record { input = input; out = out; table = table }
-
 -- it gets the whole text, and no write fails
 abbrev pub Gets : Stream → Stream → List ℕ → Type 0
 Gets old new text = Appends old.bytes new.bytes text × (new.failures ≡ old.failures)
@@ -102,34 +93,34 @@ pub record ReadsFault (old new : Option (List ℕ)) (fault : EnvelopeError) : Ty
   pub at_fault : Fault profile bytes fault
 
 -- an envelope was read, and both writers get the whole of what is due
-pub record WritesAll (kinds : List ItemKind) (keep : Bool) (now : Cell) (before after : Streams) (outcome : Outcome) : Type 0 where
+pub record WritesAll (kinds : List ItemKind) (keep : Bool) (now : Cell) (input input' : Option (List ℕ)) (out out' table table' : Stream) (outcome : Outcome) : Type 0 where
   pub header : Cell
   pub items : List EnvelopeItem
-  pub reads : ReadsEnvelope now before.input after.input header items
+  pub reads : ReadsEnvelope now input input' header items
   pub out_text : List ℕ
   pub table_text : List ℕ
   pub due : IsDue kinds keep header items out_text table_text outcome
-  pub out_gets : Gets before.out after.out out_text
-  pub table_gets : Gets before.table after.table table_text
+  pub out_gets : Gets out out' out_text
+  pub table_gets : Gets table table' table_text
 
 -- an envelope was read, and a write failed: of the first text, and then nothing is written of the table, or of the table after all of the first
-pub record WritesPart (kinds : List ItemKind) (keep : Bool) (now : Cell) (before after : Streams) : Type 0 where
+pub record WritesPart (kinds : List ItemKind) (keep : Bool) (now : Cell) (input input' : Option (List ℕ)) (out out' table table' : Stream) : Type 0 where
   pub header : Cell
   pub items : List EnvelopeItem
-  pub reads : ReadsEnvelope now before.input after.input header items
+  pub reads : ReadsEnvelope now input input' header items
   pub out_text : List ℕ
   pub table_text : List ℕ
   pub outcome : Outcome
   pub due : IsDue kinds keep header items out_text table_text outcome
-  pub part : (Breaks before.out after.out out_text × Stays before.table after.table) ⊎ (Gets before.out after.out out_text × Breaks before.table after.table table_text)
+  pub part : (Breaks out out' out_text × Stays table table') ⊎ (Gets out out' out_text × Breaks table table' table_text)
 
--- What a run did, by its answer. `before` and `after`: what the reader has left and what both writers hold, as the call begins and as it returns.
-abbrev pub Runs : List ItemKind → Bool → Cell → Streams → Streams → Result Outcome RunError → Type 0
-Runs kinds keep now before after (Ok outcome) = WritesAll kinds keep now before after outcome
-Runs kinds keep now before after (Err (Refused fault)) = ReadsFault before.input after.input fault × Stays before.out after.out × Stays before.table after.table
-Runs kinds keep now before after (Err Read) = Stays before.out after.out × Stays before.table after.table
-Runs kinds keep now before after (Err Memory) = Stays before.out after.out × Stays before.table after.table
-Runs kinds keep now before after (Err Write) = WritesPart kinds keep now before after
+-- what a run did, by its answer
+abbrev pub Runs : List ItemKind → Bool → Cell → Option (List ℕ) → Option (List ℕ) → Stream → Stream → Stream → Stream → Result Outcome RunError → Type 0
+Runs kinds keep now input input' out out' table table' (Ok outcome) = WritesAll kinds keep now input input' out out' table table' outcome
+Runs kinds keep now input input' out out' table table' (Err (Refused fault)) = ReadsFault input input' fault × Stays out out' × Stays table table'
+Runs kinds keep now input input' out out' table table' (Err Read) = Stays out out' × Stays table table'
+Runs kinds keep now input input' out out' table table' (Err Memory) = Stays out out' × Stays table table'
+Runs kinds keep now input input' out out' table table' (Err Write) = WritesPart kinds keep now input input' out out' table table'
 
 -- how many reads failed
 abbrev pub reads_failed : Result Outcome RunError → ℕ

@@ -8,7 +8,7 @@ ghost use Rattle.sentry_envelope.specs.EnvelopeView.{header_of, structured};
 ghost use Rattle.sentry_envelope.specs.Filter.{FiltersEnvelope, structured_in};
 ghost use Rattle.sentry_envelope.specs.SentryProfile.{profile};
 ghost use Rattle.sentry_moments.specs.Moments.{moment_cell};
-ghost use Rattle.sentry_env.specs.Run.{IsDue, IsWritable, Runs, Sends, header_left, left_outcome, left_text, reads_failed, stream, streams};
+ghost use Rattle.sentry_env.specs.Run.{IsDue, IsWritable, Runs, Sends, header_left, left_outcome, left_text, reads_failed, stream};
 
 use crate::Kind;
 use crate::ending::{Outcome, RunError};
@@ -135,12 +135,11 @@ pub fn run<R: Read, W: Write, T: Write, G: Rng>(
     requires out_counts { writer_failures out.old < 2 ^ 64 - 1 }
     requires table_counts { writer_failures table.old < 2 ^ 64 - 1 }
     ensures runs { Runs kinds.now keep (moment_cell now)
-        (streams (R.remaining (reader_inside reader.old))
+        (R.remaining (reader_inside reader.old)) (R.remaining (reader_inside reader.new))
         (stream (W.contents (writer_inside out.old)) (writer_failures out.old))
-        (stream (T.contents (writer_inside table.old)) (writer_failures table.old)))
-        (streams (R.remaining (reader_inside reader.new))
         (stream (W.contents (writer_inside out.new)) (writer_failures out.new))
-        (stream (T.contents (writer_inside table.new)) (writer_failures table.new))) result }
+        (stream (T.contents (writer_inside table.old)) (writer_failures table.old))
+        (stream (T.contents (writer_inside table.new)) (writer_failures table.new)) result }
 
     // The reader's count rises with `Read`, and with no other answer.
     ensures reads { reader_failures reader.new ≡ reader_failures reader.old + reads_failed result }
