@@ -17,7 +17,7 @@ fn store(rt: &HostRuntime, path: &str, envelope: &Envelope) -> Result<(), Fail> 
 
 /// Returns the text of an envelope's normal form. Two plain, readable envelopes have the same
 /// normal form exactly if these texts are the same.
-fn canonical(alloc: Global, envelope: &Envelope) -> Result<Vec<u8>, EnvelopeWriteError> {
+fn normal_text(alloc: Global, envelope: &Envelope) -> Result<Vec<u8>, EnvelopeWriteError> {
     match envelope.normalized() {
         Ok(normal) => text_of(alloc, &normal),
         Err(_) => Err(EnvelopeWriteError::Memory),
@@ -45,10 +45,10 @@ fn whole_len(alloc: Global, bytes: &[u8]) -> usize {
 
 const STORED: &str = "{}\n{\"length\":3,\"type\":\"replay_recording\"}\nabc\n";
 
-/// The canonical text of the envelope that bytes spell.
-fn canonical_text(alloc: Global, bytes: &[u8]) -> Result<Vec<u8>, Fail> {
+/// The text of the normal form of the envelope that bytes spell.
+fn normal_text_of(alloc: Global, bytes: &[u8]) -> Result<Vec<u8>, Fail> {
     let envelope = read(alloc, bytes)?;
-    let text = canonical(alloc, &envelope);
+    let text = normal_text(alloc, &envelope);
     drop(envelope);
     Ok(text?)
 }
@@ -64,7 +64,7 @@ fn doubles_are_found(rt: HostRuntime) -> Result<(), Fail> {
     let stored = fs::read(&rt, "stored")?;
     wanted(
         stored.as_slice() == STORED.as_bytes()
-            && canonical_text(alloc, spelled)? == canonical_text(alloc, &stored)?,
+            && normal_text_of(alloc, spelled)? == normal_text_of(alloc, &stored)?,
     )
 }
 
