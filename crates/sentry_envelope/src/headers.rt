@@ -256,6 +256,12 @@ fn fill_headers<'a>(
     ensures ok { OnOk result (TextShown header_kind line.now (headers_cell headers.new)) }
     ensures err { IfErr result (λ e. Only e (TextRefused header_kind line.now)) }
 {
+    // Many envelopes of sessions, check-ins and reports have no header fields: their header line
+    // needs no tape.
+    if line == b"{}".as_slice() {
+        *headers = EnvelopeHeaders::new();
+        return Ok(());
+    }
     let alloc = lines.alloc();
     match lines.root(line) {
         Some(root) => fill_from_root(alloc, &root, headers),
