@@ -1,5 +1,7 @@
+use Rattle.std.proofs.Common.{rules, ◌≡◌}
+use Rattle.std.specs.Prelude.{codes}
 use Rattle.sentry_tape.specs.TapeView.{node_data}
-use Rattle.sentry_envelope.proofs.HeadersFilled.{line_filled}
+use Rattle.sentry_envelope.proofs.HeadersFilled.{line_filled, none_filled}
 use Rattle.sentry_envelope.proofs.headers.fill_headers.Goals as goal
 
 pub returns-in-Some-clause-ok : goal.returns-in-Some-clause-ok
@@ -11,3 +13,8 @@ pub returns-in-Some-clause-err : goal.returns-in-Some-clause-err
 returns-in-Some-clause-err c =
     let f = c.fill_from_root in
     (line_filled c.args.line.now (node_data c.in-Some.root) f.new.headers f.result c.in-Some.ensures f.ensures.ok f.ensures.err).1
+
+pub returns-then-eq-clause-ok : goal.returns-then-eq-clause-ok
+returns-then-eq-clause-ok c =
+    let is : c.args.line.now ≡ codes "{}" = search rules in
+    none_filled c.args.line.now c.new.result is c.new.ensures
