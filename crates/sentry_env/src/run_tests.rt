@@ -1,11 +1,14 @@
-//! Tests of runs: clock, seed and statuses.
+//! Tests of runs: clock, seed, losses and statuses.
 
 use crate::Kind;
 use crate::clock::{moment_after, seed_at, time_since_1970};
 use crate::ending::ending;
+use crate::losses::table;
 use crate::runs::{INPUT, REWRITTEN, Ran, run_on};
+use sentry_ledger::loss_sums::LossSums;
 use sentry_types::protocol::v7::Moment;
-use std::alloc::Global;
+use sentry_types::protocol::v7::client_report::{Category, ItemLoss, Reason};
+use std::alloc::{AllocError, Global};
 use std::io;
 use std::io::{ErrorKind, Read, Write};
 use std::rt::Clock;
@@ -34,6 +37,20 @@ const EVENT: &str =
 // A report of three errors that a callback dropped.
 const REPORT: &str =
     "{}\n{\"type\":\"client_report\"}\n{\"discarded_events\":[{\"category\":\"error\",\"quantity\":3,\"reason\":\"before_send\"}],\"timestamp\":0}";
+
+// What a user says of an event.
+const SAID: &str =
+    "{}\n{\"type\":\"user_report\"}\n{\"name\":\"Jo\",\"event_id\":\"9ec79c33ec9942ab8353589fcb2e04dc\",\"comments\":\"It broke.\"}";
+
+// An event and a session, below a header of two fields.
+const WITH_SESSION: &str =
+    "{\"dsn\":\"https://username:@domain/42\",\"event_id\":\"22d00b3f-d1b1-4b5d-8d20-49d138cd8a9c\"}\n{\"length\":86,\"type\":\"event\"}\n{\"event_id\":\"22d00b3fd1b14b5d8d2049d138cd8a9c\",\"timestamp\":\"2020-07-20T14:51:14.296Z\"}\n{\"length\":218,\"type\":\"session\"}\n{\"attrs\":{\"environment\":\"production\",\"release\":\"foo-bar@1.2.3\"},\"did\":\"foo@bar.baz\",\"duration\":1,\"errors\":123,\"init\":true,\"sid\":\"22d00b3f-d1b1-4b5d-8d20-49d138cd8a9c\",\"started\":\"2020-07-20T14:51:14.296Z\",\"status\":\"ok\"}\n";
+
+const SESSION: &str =
+    "{}\n{\"length\":218,\"type\":\"session\"}\n{\"attrs\":{\"environment\":\"production\",\"release\":\"foo-bar@1.2.3\"},\"did\":\"foo@bar.baz\",\"duration\":1,\"errors\":123,\"init\":true,\"sid\":\"22d00b3f-d1b1-4b5d-8d20-49d138cd8a9c\",\"started\":\"2020-07-20T14:51:14.296Z\",\"status\":\"ok\"}\n";
+
+const HEADED_SESSION: &str =
+    "{\"dsn\":\"https://username:@domain/42\"}\n{\"length\":218,\"type\":\"session\"}\n{\"attrs\":{\"environment\":\"production\",\"release\":\"foo-bar@1.2.3\"},\"did\":\"foo@bar.baz\",\"duration\":1,\"errors\":123,\"init\":true,\"sid\":\"22d00b3f-d1b1-4b5d-8d20-49d138cd8a9c\",\"started\":\"2020-07-20T14:51:14.296Z\",\"status\":\"ok\"}\n";
 
 // An event, a transaction of two spans, a log of 9 bytes and a metric of 24.
 const FOUR: &str =
@@ -230,6 +247,30 @@ const ROWS: &[Row] = &[
         table: "error none 1\ntransaction none 1\nspan none 3\nlog_item none 1\nlog_byte none 9\ntrace_metric none 1\ntrace_metric_byte none 24\n",
     },
     Row {
+        input: SAID,
+        kinds: &[Kind::UserReport],
+        keep: false,
+        ending: (1, ""),
+        out: "",
+        table: "feedback none 1\n",
+    },
+    Row {
+        input: WITH_SESSION,
+        kinds: &[Kind::Event],
+        keep: true,
+        ending: (0, ""),
+        out: HEADED_SESSION,
+        table: "error none 1\n",
+    },
+    Row {
+        input: WITH_SESSION,
+        kinds: &[Kind::Event],
+        keep: false,
+        ending: (0, ""),
+        out: SESSION,
+        table: "error none 1\n",
+    },
+    Row {
         input: "{}\n{\"type\":\"attachment\",\"length\":4}\nabc",
         kinds: &[Kind::Attachment],
         keep: false,
@@ -305,6 +346,36 @@ fn a_failed_write_ends_a_run(rt: HostRuntime) {
         let table = (0..LOSSES.len()).all(|room| breaks(rt.alloc(), by_error, usize::MAX, room));
         assert!(rt; out && table);
     }
+}
+
+const TABLE: &str = concat!(
+    "error none 2\nerror send_error 4\nlog_byte none 18446744073709551615\n",
+    "log_byte before_send 18446744073709551615\nreplay sample_rate 1\n"
+);
+
+#[test]
+fn a_table_of_losses(rt: HostRuntime) -> Result<(), AllocError> {
+    let rows = [
+        (Category::Replay, 1, Some(Reason::SampleRate)),
+        (Category::Error, 1, Some(Reason::SendError)),
+        (Category::Session, 0, None),
+        (Category::LogByte, u64::MAX, Some(Reason::BeforeSend)),
+        (Category::Error, 2, None),
+        (Category::LogByte, 1, Some(Reason::BeforeSend)),
+        (Category::Error, 3, Some(Reason::SendError)),
+        (Category::LogByte, u64::MAX, None),
+    ];
+    let mut sums = LossSums::new();
+    for (category, quantity, reason) in rows {
+        sums.add(ItemLoss {
+            category,
+            quantity,
+            reason,
+        });
+    }
+    let table = table(rt.alloc(), &sums)?;
+    assert!(rt; table.as_str() == TABLE);
+    Ok(())
 }
 
 // A clock that shows a time, or can't be read.

@@ -1,11 +1,39 @@
 //! Tests of the program's arguments and endings.
 
 use crate::args::{Args, program_args, read_args};
-use crate::ending::Outcome;
+use crate::ending::{Outcome, RunError, ending, usage};
 use crate::{Kind, end_of_call};
+use sentry_types::protocol::v7::EnvelopeError;
 use std::alloc::{AllocError, Global};
 use std::env::{Env, FillError};
 use std::test::Fail;
+
+const WORDS: &[(&str, Kind)] = &[
+    ("event", Kind::Event),
+    ("session", Kind::SessionUpdate),
+    ("sessions", Kind::SessionAggregates),
+    ("transaction", Kind::Transaction),
+    ("attachment", Kind::Attachment),
+    ("check_in", Kind::MonitorCheckIn),
+    ("log", Kind::Logs),
+    ("trace_metric", Kind::Metrics),
+    ("client_report", Kind::ClientReport),
+    ("user_report", Kind::UserReport),
+    ("replay_recording", Kind::ReplayRecording),
+];
+
+#[test]
+fn words_name_kinds(rt: HostRuntime) {
+    for (word, kind) in WORDS {
+        let named = Kind::from_word(word) == Some(*kind) && kind.as_str() == *word;
+        assert!(rt; named, "{word}");
+    }
+    for word in [
+        "", "profile", "Event", "events", "event ", "log\n", "-k", "-f",
+    ] {
+        assert!(rt; Kind::from_word(word).is_none(), "{word:?}");
+    }
+}
 
 // Whether these words are a call, and it asks for this.
 fn asks_for(call: &Option<Args>, keep: bool, path: Option<&str>, kinds: &[Kind]) -> bool {
@@ -30,11 +58,50 @@ type Call = (
 
 const CALLS: &[Call] = &[
     (&[], false, None, &[]),
+    (&["event"], false, None, &[Kind::Event]),
     (
         &["log", "event", "log"],
         false,
         None,
         &[Kind::Logs, Kind::Event, Kind::Logs],
+    ),
+    (&["-k"], true, None, &[]),
+    (&["-k", "event"], true, None, &[Kind::Event]),
+    (&["-f", "missing"], false, Some("missing"), &[]),
+    (
+        &["-f", "a b", "user_report"],
+        false,
+        Some("a b"),
+        &[Kind::UserReport],
+    ),
+    (
+        &["-k", "-f", "x", "session", "sessions"],
+        true,
+        Some("x"),
+        &[Kind::SessionUpdate, Kind::SessionAggregates],
+    ),
+    (&["-f", "event"], false, Some("event"), &[]),
+    (&["-f", "-f"], false, Some("-f"), &[]),
+    (&["-f", "-k"], false, Some("-k"), &[]),
+    (&["-k", "-f", "-k", "log"], true, Some("-k"), &[Kind::Logs]),
+    // Of the orders of `-k`, `-f` and two words that name kinds, these four are calls.
+    (
+        &["-k", "-f", "log", "event"],
+        true,
+        Some("log"),
+        &[Kind::Event],
+    ),
+    (
+        &["-k", "-f", "event", "log"],
+        true,
+        Some("event"),
+        &[Kind::Logs],
+    ),
+    (
+        &["-f", "-k", "log", "event"],
+        false,
+        Some("-k"),
+        &[Kind::Logs, Kind::Event],
     ),
     (
         &["-f", "-k", "event", "log"],
@@ -42,12 +109,7 @@ const CALLS: &[Call] = &[
         Some("-k"),
         &[Kind::Event, Kind::Logs],
     ),
-    (
-        &["-k", "-f", "a b", "session", "sessions"],
-        true,
-        Some("a b"),
-        &[Kind::SessionUpdate, Kind::SessionAggregates],
-    ),
+    (&["-f", ""], false, Some(""), &[]),
 ];
 
 #[test]
@@ -60,10 +122,47 @@ fn calls_are_read(rt: HostRuntime) -> Result<(), Fail> {
 }
 
 const NO_CALLS: &[&[&str]] = &[
+    &["profile"],
+    &["--help"],
+    &[""],
+    &["Event"],
     &["event", "profile"],
+    &["profile", "event"],
+    &["-f"],
     &["-k", "-f"],
+    &["-k", "-k"],
+    &["-k", "event", "-k"],
+    &["event", "-k"],
+    &["event", "-f", "x"],
+    &["event", "-f"],
     &["-f", "x", "-k"],
-    &["log", "-f", "event"],
+    &["-f", "x", "-k", "event"],
+    &["-f", "x", "-f", "y"],
+    &["-f", "x", "-f"],
+    &["-f", "x", "y"],
+    &["-kf", "x"],
+    &["--", "event"],
+    // `-k`, `-f` and two words that name kinds, in each order that is no call.
+    &["-k", "log", "-f", "event"],
+    &["-k", "log", "event", "-f"],
+    &["-k", "event", "-f", "log"],
+    &["-k", "event", "log", "-f"],
+    &["-f", "log", "-k", "event"],
+    &["-f", "log", "event", "-k"],
+    &["-f", "event", "-k", "log"],
+    &["-f", "event", "log", "-k"],
+    &["log", "-k", "-f", "event"],
+    &["log", "-k", "event", "-f"],
+    &["log", "-f", "-k", "event"],
+    &["log", "-f", "event", "-k"],
+    &["log", "event", "-k", "-f"],
+    &["log", "event", "-f", "-k"],
+    &["event", "-k", "-f", "log"],
+    &["event", "-k", "log", "-f"],
+    &["event", "-f", "-k", "log"],
+    &["event", "-f", "log", "-k"],
+    &["event", "log", "-k", "-f"],
+    &["event", "log", "-f", "-k"],
 ];
 
 #[test]
@@ -162,4 +261,59 @@ fn an_outcome_is_shown_by_its_name(rt: HostRuntime) -> Result<(), Fail> {
     let text = format!(in rt.alloc(); "{outcome:?}")?;
     assert!(rt; text.as_str() == "NothingLeft");
     Ok(())
+}
+
+#[test]
+fn endings(rt: HostRuntime) {
+    let rows = [
+        (Ok(Outcome::Written), 0, ""),
+        (Ok(Outcome::NothingLeft), 1, ""),
+        (
+            Err(RunError::Refused(EnvelopeError::UnexpectedEof)),
+            2,
+            "sentry_env: unexpected end of file",
+        ),
+        (
+            Err(RunError::Refused(EnvelopeError::MissingHeader)),
+            2,
+            "sentry_env: missing envelope header",
+        ),
+        (
+            Err(RunError::Refused(EnvelopeError::MissingItemHeader)),
+            2,
+            "sentry_env: missing item header",
+        ),
+        (
+            Err(RunError::Refused(EnvelopeError::MissingNewline)),
+            2,
+            "sentry_env: missing newline after header or payload",
+        ),
+        (
+            Err(RunError::Refused(EnvelopeError::InvalidHeader)),
+            2,
+            "sentry_env: invalid envelope header",
+        ),
+        (
+            Err(RunError::Refused(EnvelopeError::InvalidItemHeader)),
+            2,
+            "sentry_env: invalid item header",
+        ),
+        (
+            Err(RunError::Refused(EnvelopeError::InvalidItemPayload)),
+            2,
+            "sentry_env: invalid item payload",
+        ),
+        (
+            Err(RunError::Refused(EnvelopeError::OutOfMemory)),
+            4,
+            "sentry_env: out of memory",
+        ),
+        (Err(RunError::Read), 2, "sentry_env: unexpected end of file"),
+        (Err(RunError::Memory), 4, "sentry_env: out of memory"),
+        (Err(RunError::Write), 4, "sentry_env: write failed"),
+    ];
+    for (answer, status, line) in rows {
+        assert!(rt; ending(&answer) == (status, line));
+    }
+    assert!(rt; usage() == (3, "usage: sentry_env [-k] [-f PATH] KIND.."));
 }
