@@ -3,7 +3,7 @@
 use crate::said::{debug, list, refused, text};
 use rand_pcg::Pcg32;
 use sentry_json::{Line, LineError, scratch};
-use sentry_members::read_tree;
+use sentry_tables::read_tree;
 use sentry_types::protocol::v7::value::Writer;
 use sentry_types::protocol::v7::{
     Codec, FromTree, FromTreeAt, Member, Moment, Own, ReadCodec, ReadCodecAt, TreeError,

@@ -4,7 +4,7 @@ use crate::asked::taken;
 use crate::envelopes::{read, said_loss};
 use crate::filters::{ByKinds, said_left};
 use crate::said::{as_tree, list, text};
-use sentry_members::Word;
+use sentry_tables::Word;
 use sentry_types::IndexedEnum;
 use sentry_types::protocol::v7::client_report::{
     Category, ItemLoss, Ledger, Reason, Step, StepAnswer, filter_recorded, run_steps,

@@ -6,7 +6,7 @@ use crate::envelopes::said_losses;
 use crate::events::{said_event, said_fields};
 use crate::form::{ids, now, written};
 use crate::said::{as_tree, debug, list, refused, text, tree, unknown};
-use sentry_members::text_of;
+use sentry_tables::text_of;
 use sentry_types::IndexedEnum;
 use sentry_types::protocol::v7::{
     Attachment, AttachmentType, Breadcrumb, Category, Context, Event, FromTree, GpuContext, Item,

@@ -10,8 +10,8 @@ use Rattle.sentry_tables.specs.Kind.{default, draw, may_strict}
 use Rattle.sentry_tables.specs.Laws.{HasLaws}
 use Rattle.sentry_tables.specs.Norm.{norm}
 use Rattle.sentry_tables.specs.Lawful.{RuleLaws, IsLawful}
-use Rattle.sentry_members.specs.Cells.{empty_map}
-use Rattle.sentry_members.proofs.Spellings.{spelled_laws}
+use Rattle.sentry_tables.specs.Cells.{empty_map}
+use Rattle.sentry_tables.proofs.Spellings.{spelled_laws}
 use Rattle.sentry_words.specs.Orientation.{orientation_kind, orientation_spelling}
 use Rattle.sentry_words.specs.SpanStatus.{span_status_kind, span_status_spelling}
 use Rattle.sentry_words.proofs.Enumerations.{orientation_laws, span_status_laws}

@@ -5,9 +5,9 @@ use Rattle.sentry_tables.specs.Cell.{Cell, truth, fields}
 use Rattle.sentry_tables.specs.Fields.{Field, field, rows_of, cells_by}
 use Rattle.sentry_tables.specs.Kind.{must, may, may_strict, Kind, table, keys}
 use Rattle.sentry_tables.specs.Written.{in_order}
-use Rattle.sentry_members.specs.Cells.{text_cell, natural_cell, option_cell}
-use Rattle.sentry_members.specs.Kinds.{text_kind, truth_kind, unsigned_kind}
-use Rattle.sentry_members.specs.Spelling.{word_cell}
+use Rattle.sentry_tables.specs.Cells.{text_cell, natural_cell, option_cell}
+use Rattle.sentry_tables.specs.Kinds.{text_kind, truth_kind, unsigned_kind}
+use Rattle.sentry_tables.specs.Spelling.{word_cell}
 use Rattle.sentry_moments.specs.MomentForms.{rfc3339_kind}
 use Rattle.sentry_moments.specs.Moments.{moment_cell}
 use Rattle.sentry_words.specs.Orientation.{orientation_kind, orientation_word}

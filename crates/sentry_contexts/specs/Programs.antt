@@ -5,8 +5,8 @@ use Rattle.sentry_tables.specs.Cell.{Cell, fields}
 use Rattle.sentry_tables.specs.Fields.{Field, field, rows_of, cells_by}
 use Rattle.sentry_tables.specs.Kind.{may, may_strict, Kind, table, keys}
 use Rattle.sentry_tables.specs.Written.{in_order}
-use Rattle.sentry_members.specs.Cells.{text_cell, option_cell}
-use Rattle.sentry_members.specs.Kinds.{text_kind}
+use Rattle.sentry_tables.specs.Cells.{text_cell, option_cell}
+use Rattle.sentry_tables.specs.Kinds.{text_kind}
 use Rattle.sentry_moments.specs.MomentForms.{rfc3339_kind}
 use Rattle.sentry_moments.specs.Moments.{moment_cell}
 use Rattle.sentry_rows.specs.Cased.{but_tag}

@@ -5,8 +5,8 @@ use Rattle.sentry_tables.specs.Cell.{Cell, fields, no_cells, cell}
 use Rattle.sentry_tables.specs.Fields.{Field, field, rows_of, table_of, fields_by}
 use Rattle.sentry_tables.specs.Kind.{may, default, Kind, map, keys}
 use Rattle.sentry_tables.specs.Written.{in_order}
-use Rattle.sentry_members.specs.Cells.{text_cell, natural_cell, tree_cell, option_cell, map_cell, empty_map}
-use Rattle.sentry_members.specs.Kinds.{text_kind, unsigned_kind, any_kind}
+use Rattle.sentry_tables.specs.Cells.{text_cell, natural_cell, tree_cell, option_cell, map_cell, empty_map}
+use Rattle.sentry_tables.specs.Kinds.{text_kind, unsigned_kind, any_kind}
 use Rattle.sentry_contexts.specs.declared.response.ResponseContext.{ResponseContext}
 
 unfoldable pub response_fields : List (Field ResponseContext)

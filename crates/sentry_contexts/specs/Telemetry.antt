@@ -6,9 +6,9 @@ use Rattle.sentry_tables.specs.Cell.{Cell, fields}
 use Rattle.sentry_tables.specs.Fields.{Field, field, rows_of, cells_by, table_of, fields_by}
 use Rattle.sentry_tables.specs.Kind.{may, default, draw, Kind, map, table, keys}
 use Rattle.sentry_tables.specs.Written.{in_order}
-use Rattle.sentry_members.specs.Cells.{text_cell, tree_cell, option_cell, map_cell, empty_map}
-use Rattle.sentry_members.specs.Kinds.{text_kind, any_kind}
-use Rattle.sentry_members.specs.Spelling.{word_cell}
+use Rattle.sentry_tables.specs.Cells.{text_cell, tree_cell, option_cell, map_cell, empty_map}
+use Rattle.sentry_tables.specs.Kinds.{text_kind, any_kind}
+use Rattle.sentry_tables.specs.Spelling.{word_cell}
 use Rattle.sentry_identifiers.specs.HexId.{span_bytes, trace_bytes}
 use Rattle.sentry_identifiers.specs.HexIdTree.{IsOctets, span_id_cell, span_id_kind, trace_id_cell, trace_id_kind}
 use Rattle.sentry_words.specs.SpanStatus.{span_status_kind, span_status_word}

@@ -1,9 +1,6 @@
 //! `Context`: one of the context types, selected by the member `type`.
 
 ghost use Rattle.std.specs.Prelude.{◌≡◌, IfErr, IfOk, codes, refl};
-ghost use Rattle.sentry_members.specs.Made.{made};
-ghost use Rattle.sentry_members.specs.Reading.{Reads, ReadsAt};
-ghost use Rattle.sentry_moments.specs.Moments.{moment_cell};
 ghost use Rattle.sentry_contexts.specs.Contexts.{context_cases, context_cell, context_word, IsBoxed};
 
 use crate::app::AppContext;
@@ -17,10 +14,10 @@ use crate::runtime::RuntimeContext;
 use crate::trace::TraceContext;
 use rand_core::Rng;
 use sentry_json::Node;
-use sentry_members::{Formed, FromTree, Member, TreeError, Way};
 use sentry_moments::Moment;
 use sentry_rows::cased::{made_members, read_members};
 use sentry_rows::{AsCase, CaseSink, Cased, CasedByKey, FromTreeAt, ReadCasedAt};
+use sentry_tables::{Formed, FromTree, Member, TreeError, Way};
 use serde_json::{Map, Value};
 use std::alloc::{AllocError, Global};
 

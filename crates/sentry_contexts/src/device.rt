@@ -6,9 +6,9 @@ ghost use Rattle.sentry_tables.specs.Kind.{tag};
 ghost use Rattle.sentry_contexts.specs.Devices.{device_fields, device_in_order};
 
 use sentry_json::Node;
-use sentry_members::{Formed, Member};
 use sentry_moments::{Moment, Rfc3339};
 use sentry_rows::{AsKept, Copier, CopyKept, KeptTable, ReadKept, Reader, Sink, Table};
+use sentry_tables::{Formed, Member};
 use sentry_words::Orientation;
 use serde_json::{Map, Value};
 use std::alloc::{AllocError, Global};

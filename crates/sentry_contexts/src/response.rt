@@ -3,8 +3,8 @@
 ghost use Rattle.sentry_contexts.specs.Responses.{response_fields, response_in_order};
 
 use sentry_json::Node;
-use sentry_members::{Formed, Member};
 use sentry_rows::{AsTable, Copier, CopyTable, ReadTable, Reader, Sink, Table};
+use sentry_tables::{Formed, Member};
 use serde_json::{Map, Value};
 use std::alloc::{AllocError, Global};
 

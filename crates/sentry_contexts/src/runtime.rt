@@ -6,8 +6,8 @@ ghost use Rattle.sentry_tables.specs.Kind.{tag};
 ghost use Rattle.sentry_contexts.specs.Systems.{runtime_fields, runtime_in_order};
 
 use sentry_json::Node;
-use sentry_members::{Formed, Member};
 use sentry_rows::{AsKept, Copier, CopyKept, KeptTable, ReadKept, Reader, Sink, Table};
+use sentry_tables::{Formed, Member};
 use serde_json::{Map, Value};
 use std::alloc::{AllocError, Global};
 

@@ -5,9 +5,9 @@ ghost use Rattle.sentry_contexts.specs.Telemetry.{trace_context_fields, trace_co
 use rand_core::Rng;
 use sentry_identifiers::{SpanId, TraceId};
 use sentry_json::Node;
-use sentry_members::{Drawn, Formed, Member, Own};
 use sentry_moments::Moment;
 use sentry_rows::{AsTable, Copier, CopyTable, ReadTableAt, Reader, Sink, Table};
+use sentry_tables::{Drawn, Formed, Member, Own};
 use sentry_words::SpanStatus;
 use serde_json::{Map, Value};
 use std::alloc::{AllocError, Global};

@@ -1,4 +1,4 @@
-//! Rewrites a Sentry envelope in its canonical form, and removes items by their type.
+//! Rewrites a Sentry envelope in its normal form, and removes items by their type.
 //!
 //! `sentry_env [-k] [-f PATH] KIND..` reads an envelope from the file PATH, or from standard input
 //! without `-f`, and removes the items whose type is one of the KINDs. `-k` keeps the envelope

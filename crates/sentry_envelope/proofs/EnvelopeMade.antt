@@ -5,9 +5,9 @@ use Rattle.std.proofs.Math.ListN.{drop_of_length-le}
 use Rattle.std.proofs.lemmas.List.{append-nil, map-append}
 use Rattle.std.proofs.lemmas.Option.{same_Some}
 use Rattle.std.specs.Prelude.{◌↔◌, IfOk, IfSome, IsSome, IsSomeAnd, IsTrue}
-use Rattle.sentry_members.specs.Made.{made}
-use Rattle.sentry_members.specs.declared.way.Way.{Way}
-use Rattle.sentry_members.specs.declared.way.Way.TheVariants.{Same, Normal}
+use Rattle.sentry_tables.specs.Made.{made}
+use Rattle.sentry_tables.specs.declared.way.Way.{Way}
+use Rattle.sentry_tables.specs.declared.way.Way.TheVariants.{Same, Normal}
 use Rattle.sentry_tables.specs.Cell.{Cell}
 use Rattle.sentry_items.specs.Made.{item_made}
 use Rattle.sentry_items.specs.View.{item_held}

@@ -6,7 +6,7 @@ use lib.Pointwise.{pointwise}
 use Rattle.uuid.specs.contracts.UuidPartialEq.TheImpl.{eq-value as of_ids}
 use Rattle.uuid.specs.declared.Uuid.{Uuid}
 use Rattle.sentry_tables.specs.Cell.{octets}
-use Rattle.sentry_members.proofs.Equal.{options_decide}
+use Rattle.sentry_tables.proofs.Equal.{options_decide}
 use Rattle.sentry_moments.specs.Moments.{moment_cell}
 use Rattle.sentry_moments.specs.contracts.moment.MomentPartialEq.TheImpl.{eq-value as of_moments}
 use Rattle.sentry_moments.specs.declared.moment.Moment.{Moment}

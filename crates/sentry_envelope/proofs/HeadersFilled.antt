@@ -5,9 +5,9 @@ use Rattle.serde_json.specs.Data.{Data, object, no_members}
 use Rattle.sentry_json.specs.Line.{tree_of}
 use Rattle.sentry_json.proofs.Lines.{tree_of_written}
 use Rattle.sentry_tables.specs.Shows.{Shows}
-use Rattle.sentry_members.specs.Reading.{Only, Refused, Shown, TextRefused, TextShown}
-use Rattle.sentry_members.specs.declared.error.TreeError.{TreeError}
-use Rattle.sentry_members.proofs.Texts.{line_refused, line_shows, text_read_by}
+use Rattle.sentry_tables.specs.Reading.{Only, Refused, Shown, TextRefused, TextShown}
+use Rattle.sentry_tables.specs.declared.error.TreeError.{TreeError}
+use Rattle.sentry_tables.proofs.Texts.{line_refused, line_shows, text_read_by}
 use Rattle.sentry_rows.specs.Fields.{Ends, ReadsFields, read_of}
 use Rattle.sentry_rows.specs.declared.reader.Reader.{Reader}
 use Rattle.sentry_rows.proofs.Reading.{table_ends}

@@ -4,7 +4,7 @@ use Rattle.std.specs.Prelude.{◌⊎◌, ⊤, map, Some, Result, Ok, Err, IfErr,
 use Rattle.std.proofs.lemmas.List.{map-append}
 use Rattle.sentry_tables.specs.Cell.{Cell}
 use Rattle.sentry_tables.specs.Kind.{Kind}
-use Rattle.sentry_members.specs.Reading.{TextShown, TextRefused, TextShownAt, TextRefusedAt}
+use Rattle.sentry_tables.specs.Reading.{TextShown, TextRefused, TextShownAt, TextRefusedAt}
 use Rattle.sentry_items.specs.Attached.{Attached}
 use Rattle.sentry_items.specs.View.{attachment_view}
 use Rattle.sentry_items.specs.declared.attachment.Attachment.{Attachment}

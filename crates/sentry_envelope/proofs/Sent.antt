@@ -10,7 +10,7 @@ use Rattle.sentry_tables.specs.Cell.{Cell}
 use Rattle.sentry_tables.specs.Kind.{Kind}
 use Rattle.sentry_tables.specs.Written.{tree}
 use Rattle.sentry_tables.proofs.Laws.{has_laws}
-use Rattle.sentry_members.specs.Cells.{cells}
+use Rattle.sentry_tables.specs.Cells.{cells}
 use Rattle.sentry_framing.specs.Framing.{Frame, with_line}
 use Rattle.sentry_framing.specs.ItemWords.{kind_place, kind_word}
 use Rattle.sentry_framing.specs.declared.kind.ItemKind.{ItemKind}

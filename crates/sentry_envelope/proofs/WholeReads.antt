@@ -10,7 +10,7 @@ use Rattle.sentry_envelope.specs.EnvelopeView.{item_view}
 use Rattle.sentry_moments.specs.Moments.{moment_cell}
 use Rattle.sentry_envelope.specs.HeaderFields.{header_kind, fill_id, given_id}
 use Rattle.sentry_envelope.specs.Filter.{first_id_of}
-use Rattle.sentry_members.specs.Reading.{TextShown, TextRefused}
+use Rattle.sentry_tables.specs.Reading.{TextShown, TextRefused}
 use Rattle.sentry_envelope.specs.SentryProfile.{profile}
 use Rattle.sentry_framing.specs.declared.error.EnvelopeError.{EnvelopeError}
 use Rattle.sentry_framing.specs.declared.error.EnvelopeError.TheVariants.{InvalidHeader}

@@ -1,7 +1,7 @@
 -- Envelopes made anew: the same, or their normal form.
 use Rattle.std.specs.Prelude.{◌≡◌, ℕ, List, Bool, true, false}
-use Rattle.sentry_members.specs.declared.way.Way.{Way}
-use Rattle.sentry_members.specs.declared.way.Way.TheVariants.{Same, Normal}
+use Rattle.sentry_tables.specs.declared.way.Way.{Way}
+use Rattle.sentry_tables.specs.declared.way.Way.TheVariants.{Same, Normal}
 use Rattle.sentry_tables.specs.Cell.{Cell}
 use Rattle.sentry_tables.specs.Norm.{norm}
 use Rattle.sentry_envelope.specs.Envelope.{Item, item, raw, Envelope as Model, Spells, first_id, items_norm, envelope_norm, IsEnvelopeStored, IsEnvelopePlain}

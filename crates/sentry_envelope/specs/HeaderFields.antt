@@ -4,7 +4,7 @@ use Rattle.sentry_tables.specs.Cell.{Cell, absent, present, octets, fields, cell
 use Rattle.sentry_tables.specs.Kind.{Kind, may, may_strict, keys}
 use Rattle.sentry_tables.specs.Written.{in_order}
 use Rattle.sentry_tables.specs.Fields.{Field, field, rows_of, table_of, fields_by}
-use Rattle.sentry_members.specs.Cells.{option_cell}
+use Rattle.sentry_tables.specs.Cells.{option_cell}
 use Rattle.sentry_identifiers.specs.Uuids.{hyphenated_kind}
 use Rattle.sentry_parts.specs.declared.client_sdk_info.ClientSdkInfo.{ClientSdkInfo}
 use Rattle.sentry_keys.specs.DsnTree.{dsn_kind, dsn_cell}

@@ -1,20 +1,19 @@
 //! Envelope headers.
 
 ghost use Rattle.std.specs.Prelude.{◌≡◌, ◌⊎◌, IfErr, OnOk};
-ghost use Rattle.sentry_members.specs.Reading.{Only, Refused, Shown, TextRefused, TextShown};
-ghost use Rattle.sentry_tape.specs.TapeView.{node_data};
+ghost use Rattle.sentry_tables.specs.Reading.{Only, Refused, Shown, TextRefused, TextShown};
+ghost use Rattle.sentry_json.specs.TapeView.{node_data};
 ghost use Rattle.sentry_envelope.specs.HeaderFields.{header_fields, header_in_order, header_kind, headers_cell};
 
 use sentry_framing::EnvelopeError;
 use sentry_identifiers::Hyphenated;
-use sentry_json::Node;
+use sentry_json::{Node, TapeNode};
 use sentry_keys::Dsn;
-use sentry_members::{Formed, LineReader, Member, TreeError};
 use sentry_moments::{Moment, Rfc3339};
 use sentry_parts::ClientSdkInfo;
 use sentry_records::DynamicSamplingContext;
 use sentry_rows::{AsTable, Copier, CopyTable, ReadTable, Reader, Sink, Table};
-use sentry_tape::TapeNode;
+use sentry_tables::{Formed, LineReader, Member, TreeError};
 use std::alloc::{AllocError, Global};
 use uuid::Uuid;
 
@@ -34,7 +33,7 @@ pub struct EnvelopeHeaders {
 impl EnvelopeHeaders {
     ghost use Rattle.std.specs.Prelude.{◌≡◌, Some, IfOk, codes, option_map};
     ghost use Rattle.sentry_tables.specs.Cell.{octets};
-    ghost use Rattle.sentry_members.specs.Cells.{option_cell};
+    ghost use Rattle.sentry_tables.specs.Cells.{option_cell};
     ghost use Rattle.sentry_keys.specs.DsnTree.{dsn_cell};
     ghost use Rattle.sentry_moments.specs.Moments.{moment_cell};
     ghost use Rattle.sentry_parts.specs.ClientSdk.{sdk_cell};

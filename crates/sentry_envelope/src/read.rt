@@ -2,7 +2,7 @@
 
 ghost use Rattle.std.specs.Prelude.{◌≡◌, ◌≢◌, ◌⊎◌, ◌∷◌, ◌++◌, IfOk, IfErr, OnOk, [], Some, map};
 ghost use Rattle.sentry_items.specs.View.{attachment_view};
-ghost use Rattle.sentry_members.specs.Reading.{TextShown, TextRefused, TextShownAt, TextRefusedAt};
+ghost use Rattle.sentry_tables.specs.Reading.{TextShown, TextRefused, TextShownAt, TextRefusedAt};
 ghost use Rattle.sentry_envelope.specs.Envelope.{attached_by, ItemsStand};
 ghost use Rattle.sentry_envelope.specs.EnvelopeFault.{BodyIsAtFault, FrameIsRefused};
 ghost use Rattle.sentry_envelope.specs.EnvelopeView.{item_view};
@@ -22,11 +22,11 @@ use sentry_event::{Event, Transaction};
 use sentry_framing::frames::next_item_into;
 use sentry_framing::{EnvelopeError, Frames, ItemFrame, ItemHeader, ItemKind};
 use sentry_items::{Attachment, AttachmentType, EnvelopeItem, Listed, ReplayRecording};
-use sentry_members::{FromTree, LineReader, TreeError};
 use sentry_moments::Moment;
 use sentry_records::{Log, Metric, MonitorCheckIn, SessionAggregates, SessionUpdate, UserReport};
 use sentry_reports::ReportRows;
 use sentry_rows::FromTreeAt;
+use sentry_tables::{FromTree, LineReader, TreeError};
 use std::alloc::{AllocError, Global};
 
 pub(crate) fn read_items<'a, R: Rng>(

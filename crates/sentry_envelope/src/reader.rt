@@ -13,8 +13,8 @@ use crate::headers::{EnvelopeHeaders, read_header_line};
 use crate::read::read_items;
 use rand_core::Rng;
 use sentry_framing::{EnvelopeError, Frames};
-use sentry_members::{LazyScratch, LineReader};
 use sentry_moments::Moment;
+use sentry_tables::{LazyScratch, LineReader};
 use std::alloc::Global;
 
 /// A reader that keeps its working memory from one envelope to the next.

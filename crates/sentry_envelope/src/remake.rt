@@ -11,7 +11,7 @@ use crate::envelope::{Contents, Envelope};
 use crate::filtering::first_id;
 use crate::headers::EnvelopeHeaders;
 use sentry_items::EnvelopeItem;
-use sentry_members::{Member, Way};
+use sentry_tables::{Member, Way};
 use std::alloc::{AllocError, Global};
 
 impl Envelope {

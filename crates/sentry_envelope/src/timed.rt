@@ -1,13 +1,13 @@
 //! Reading of JSON lines that fills absent timestamps and ids.
 
-ghost use Rattle.sentry_members.specs.Reading.{ReadsTextAt, ShownAt, RefusedAt};
+ghost use Rattle.sentry_tables.specs.Reading.{ReadsTextAt, ShownAt, RefusedAt};
 ghost use Rattle.sentry_moments.specs.Moments.{moment_cell};
 
 use rand_core::Rng;
 use sentry_json::Node;
-use sentry_members::{LazyScratch, LineReader, ReadsNode, TreeError};
 use sentry_moments::Moment;
 use sentry_rows::FromTreeAt;
+use sentry_tables::{LazyScratch, LineReader, ReadsNode, TreeError};
 use std::alloc::Global;
 
 // Reads a node with the current time and a generator of ids.
@@ -34,7 +34,7 @@ impl<'r, T: FromTreeAt, R: Rng> ReadsNode<T> for AtMoment<'r, R> {
 //
 // - `Misfit` if the line isn't one JSON text without floats that reads as the type.
 // - `Memory` if an allocation fails.
-#[tactic(auto, using(sentry_members::proofs::Texts::text_read_by_at))]
+#[tactic(auto, using(sentry_tables::proofs::Texts::text_read_by_at))]
 pub(crate) fn read_at<'a, T: FromTreeAt, R: Rng>(
     lines: &mut LineReader<'_, 'a>,
     line: &'a [u8],

@@ -21,7 +21,7 @@ use sentry_items::attachment::write_header;
 use sentry_items::header::write_short_header;
 use sentry_items::item::write_payload;
 use sentry_items::{EnvelopeItem, ItemContainer};
-use sentry_members::write_text;
+use sentry_tables::write_text;
 use std::alloc::{AllocError, Global};
 use std::mem;
 

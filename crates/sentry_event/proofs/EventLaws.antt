@@ -10,8 +10,8 @@ use Rattle.sentry_tables.specs.Fields.{rows_of}
 use Rattle.sentry_tables.specs.Kind.{default, draw, may_strict}
 use Rattle.sentry_tables.specs.Laws.{HasLaws}
 use Rattle.sentry_tables.specs.Lawful.{RuleLaws, IsLawful}
-use Rattle.sentry_members.specs.Kinds.{text_kind}
-use Rattle.sentry_members.proofs.Spellings.{spelled_laws, spelled_refuses_null}
+use Rattle.sentry_tables.specs.Kinds.{text_kind}
+use Rattle.sentry_tables.proofs.Spellings.{spelled_laws, spelled_refuses_null}
 use Rattle.sentry_words.specs.Level.{level_kind, level_spelling}
 use Rattle.sentry_words.specs.SpanStatus.{span_status_kind, span_status_spelling}
 use Rattle.sentry_words.specs.declared.level.Level.TheVariants as level

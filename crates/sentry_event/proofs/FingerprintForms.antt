@@ -9,15 +9,15 @@ use Rattle.serde_json.specs.View.{view, items_view}
 use Rattle.serde_json.specs.declared.value.Value.{Value}
 use Rattle.sentry_tables.specs.Cell.{Cell, sequence, Cells, same_cell}
 use Rattle.sentry_tables.specs.Norm.{norm}
-use Rattle.sentry_members.specs.Made.{made}
-use Rattle.sentry_members.specs.Reading.{Reads, Shown, Refused}
-use Rattle.sentry_members.specs.Written.{written, WritesTree}
-use Rattle.sentry_members.specs.declared.error.TreeError.{TreeError}
-use Rattle.sentry_members.specs.declared.error.TreeError.TheVariants.{Misfit, Memory}
-use Rattle.sentry_members.specs.declared.way.Way.{Way}
-use Rattle.sentry_members.specs.declared.way.Way.TheVariants.{Same, Normal}
+use Rattle.sentry_tables.specs.Made.{made}
+use Rattle.sentry_tables.specs.Reading.{Reads, Shown, Refused}
+use Rattle.sentry_tables.specs.Writes.{written, WritesTree}
+use Rattle.sentry_tables.specs.declared.error.TreeError.{TreeError}
+use Rattle.sentry_tables.specs.declared.error.TreeError.TheVariants.{Misfit, Memory}
+use Rattle.sentry_tables.specs.declared.way.Way.{Way}
+use Rattle.sentry_tables.specs.declared.way.Way.TheVariants.{Same, Normal}
 use Rattle.sentry_tables.specs.WrittenAs.{any_moment}
-use Rattle.sentry_members.proofs.Tokens.{array_wrote, items_wrote, no_items_wrote, string_wrote}
+use Rattle.sentry_tables.proofs.Tokens.{array_wrote, items_wrote, no_items_wrote, string_wrote}
 use Rattle.sentry_event.specs.Fingerprints.{one_text, usual_fingerprint, fingerprint_form, fingerprint_kind, fingerprint_cell}
 use Rattle.sentry_event.proofs.FingerprintLaws.{texts, is_other, cells_normal}
 

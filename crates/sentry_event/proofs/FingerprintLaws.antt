@@ -10,7 +10,7 @@ use Rattle.sentry_tables.proofs.Basic.{text_laws}
 use Rattle.sentry_tables.proofs.Laws.{has_laws}
 use Rattle.sentry_tables.proofs.Nulls.{list_refuses_null}
 use Rattle.sentry_tables.proofs.Sound.{ascii_text}
-use Rattle.sentry_members.specs.Kinds.{text_kind}
+use Rattle.sentry_tables.specs.Kinds.{text_kind}
 use Rattle.sentry_tables.specs.WrittenAs.{FormLaws}
 use Rattle.sentry_event.specs.Fingerprints.{one_text, usual_fingerprint, fingerprint_form, fingerprint_kind}
 use Rattle.sentry_tables.proofs.WrittenAs.{written_as_laws, written_as_refuses_null}

@@ -5,8 +5,8 @@ use Rattle.std.specs.declared.borrow.CowStr.{CowStr}
 use Rattle.sentry_tables.specs.Cell.{Cell, text, sequence, no_cells, cell, same_cell}
 use Rattle.sentry_tables.specs.Kind.{Kind, scalar, list}
 use Rattle.sentry_tables.specs.WrittenAs.{written_as}
-use Rattle.sentry_members.specs.Cells.{cow_cell, list_cell}
-use Rattle.sentry_members.specs.Kinds.{text_kind}
+use Rattle.sentry_tables.specs.Cells.{cow_cell, list_cell}
+use Rattle.sentry_tables.specs.Kinds.{text_kind}
 
 -- a list of this one text
 abbrev pub one_text : List ℕ → Cell

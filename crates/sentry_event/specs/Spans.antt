@@ -2,13 +2,13 @@
 use Rattle.std.specs.Prelude.{◌≡◌, ℕ, List, [], ◌∷◌, ◌++◌, codes, Some, true, refl}
 use Rattle.rand_core.specs.Stream.{Stream, fill_bytes}
 use Rattle.hex.specs.Hex.{encode_lower}
-use Rattle.sentry_tables.specs.Cell.{Cell, text, truth}
+use Rattle.sentry_tables.specs.Cell.{Cell, truth}
 use Rattle.sentry_tables.specs.Fields.{Field, field, rows_of, table_of, fields_by}
 use Rattle.sentry_tables.specs.Kind.{may, may_strict, default, draw, at_once, Kind, map, keys}
 use Rattle.sentry_tables.specs.Written.{in_order}
-use Rattle.sentry_members.specs.Cells.{text_cell, tree_cell, option_cell, map_cell, empty_map}
-use Rattle.sentry_members.specs.Kinds.{text_kind, truth_kind, any_kind}
-use Rattle.sentry_members.specs.Spelling.{word_cell}
+use Rattle.sentry_tables.specs.Cells.{text_cell, tree_cell, option_cell, map_cell, empty_map}
+use Rattle.sentry_tables.specs.Kinds.{text_kind, truth_kind, any_kind}
+use Rattle.sentry_tables.specs.Spelling.{word_cell}
 use Rattle.sentry_words.specs.SpanStatus.{span_status_kind, span_status_word}
 use Rattle.sentry_moments.specs.MomentForms.{rfc3339_kind, seconds_kind}
 use Rattle.sentry_moments.specs.Moments.{moment_cell}

@@ -5,8 +5,8 @@ use Rattle.sentry_tables.specs.Cell.{Cell, text, octets}
 use Rattle.sentry_tables.specs.Fields.{Field, field, rows_of, table_of, fields_by}
 use Rattle.sentry_tables.specs.Kind.{must, may, may_strict, default, draw, at_once, Kind, list, map, keys}
 use Rattle.sentry_tables.specs.Written.{in_order}
-use Rattle.sentry_members.specs.Cells.{text_cell, cow_cell, tree_cell, option_cell, list_cell, map_cell, empty_map}
-use Rattle.sentry_members.specs.Kinds.{text_kind, any_kind}
+use Rattle.sentry_tables.specs.Cells.{text_cell, cow_cell, tree_cell, option_cell, list_cell, map_cell, empty_map}
+use Rattle.sentry_tables.specs.Kinds.{text_kind, any_kind}
 use Rattle.sentry_moments.specs.MomentForms.{rfc3339_kind, seconds_kind}
 use Rattle.sentry_moments.specs.Moments.{moment_cell}
 use Rattle.sentry_moments.specs.MomentTexts.{rfc3339_text}

@@ -9,12 +9,12 @@ use sentry_contexts::Context;
 use sentry_frames::{Exception, LogEntry, Stacktrace, TemplateInfo, Thread};
 use sentry_identifiers::{Simple, random_uuid};
 use sentry_json::Node;
-use sentry_members::{Formed, Member};
 use sentry_moments::{Moment, Seconds};
 use sentry_parts::{Breadcrumb, ClientSdkInfo, DebugMeta, Request, User};
 use sentry_rows::{
     AsCaseMap, AsTable, Copier, CopyTable, MadeCodec, ReadTableAt, Reader, Sink, Table, Values,
 };
+use sentry_tables::{Formed, Member};
 use sentry_words::Level;
 use serde_json::{Map, Value};
 use std::alloc::{AllocError, Global};

@@ -1,7 +1,7 @@
 //! Owned clones of strings that may be borrowed.
 
 ghost use Rattle.std.specs.Prelude.{◌≡◌, IfOk};
-ghost use Rattle.sentry_members.specs.Cells.{cow_cell, option_cell};
+ghost use Rattle.sentry_tables.specs.Cells.{cow_cell, option_cell};
 
 use std::alloc::{AllocError, Global};
 use std::borrow::CowStr;

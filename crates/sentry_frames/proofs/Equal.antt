@@ -5,8 +5,8 @@ use lib.Dec.{eqb}
 use Rattle.std.specs.Ordering.{int_eq}
 use Rattle.std.specs.String.{string_eq}
 use Rattle.sentry_tables.specs.Cell.{whole}
-use Rattle.sentry_members.specs.Cells.{text_cell, natural_cell}
-use Rattle.sentry_members.proofs.Equal.{texts_decide, naturals_decide, wholes_decide, options_decide, lists_decide}
+use Rattle.sentry_tables.specs.Cells.{text_cell, natural_cell}
+use Rattle.sentry_tables.proofs.Equal.{texts_decide, naturals_decide, wholes_decide, options_decide, lists_decide}
 use Rattle.sentry_frames.specs.Causes.{c_error_fields, c_error_cell, mach_fields, mach_cell, signal_fields, signal_cell}
 use Rattle.sentry_frames.specs.Frames.{template_fields, template_cell}
 use Rattle.sentry_frames.specs.Mechanisms.{mechanism_meta_fields, mechanism_meta_cell}

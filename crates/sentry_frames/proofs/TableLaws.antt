@@ -8,7 +8,7 @@ use Rattle.sentry_tables.specs.Fields.{rows_of}
 use Rattle.sentry_tables.specs.Kind.{default, ignored, values}
 use Rattle.sentry_tables.specs.Laws.{HasLaws}
 use Rattle.sentry_tables.specs.Lawful.{IsLawful, RuleLaws}
-use Rattle.sentry_members.specs.Kinds.{unsigned_kind}
+use Rattle.sentry_tables.specs.Kinds.{unsigned_kind}
 use Rattle.sentry_text.proofs.AddressTrees.{address_laws}
 use Rattle.sentry_text.proofs.UrlTrees.{url_lawful}
 use Rattle.sentry_frames.specs.Causes.{c_error_fields, c_error_kind, mach_fields, mach_kind, signal_fields, signal_kind}

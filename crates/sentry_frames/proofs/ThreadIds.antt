@@ -12,12 +12,12 @@ use Rattle.sentry_tables.specs.Cell.{Cell, text, whole}
 use Rattle.sentry_tables.specs.Lawful.{IsLawful, IsNormal, RefusesNull}
 use Rattle.sentry_tables.specs.Written.{is_null}
 use Rattle.sentry_tables.proofs.Basic.{lawful_reader, reader_refuses_null, unsigned_laws}
-use Rattle.sentry_members.specs.Made.{made}
-use Rattle.sentry_members.specs.Reading.{Shown, Refused}
-use Rattle.sentry_members.specs.Written.{written, WritesTree}
-use Rattle.sentry_members.specs.declared.way.Way.{Way}
-use Rattle.sentry_members.proofs.Tokens.{u64_wrote, string_wrote}
-use Rattle.sentry_members.proofs.Ways.{unchanged}
+use Rattle.sentry_tables.specs.Made.{made}
+use Rattle.sentry_tables.specs.Reading.{Shown, Refused}
+use Rattle.sentry_tables.specs.Writes.{written, WritesTree}
+use Rattle.sentry_tables.specs.declared.way.Way.{Way}
+use Rattle.sentry_tables.proofs.Tokens.{u64_wrote, string_wrote}
+use Rattle.sentry_tables.proofs.Ways.{unchanged}
 use Rattle.sentry_frames.specs.ThreadIds.{IsThreadId, thread_id_of, thread_id_tree, thread_id_kind}
 
 -- ---- laws

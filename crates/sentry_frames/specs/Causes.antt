@@ -4,8 +4,8 @@ use Rattle.sentry_tables.specs.Cell.{Cell, whole}
 use Rattle.sentry_tables.specs.Fields.{Field, field, rows_of, table_of, fields_by}
 use Rattle.sentry_tables.specs.Kind.{must, may, Kind, keys}
 use Rattle.sentry_tables.specs.Written.{in_order}
-use Rattle.sentry_members.specs.Cells.{text_cell, natural_cell, option_cell}
-use Rattle.sentry_members.specs.Kinds.{text_kind, unsigned_kind, signed_kind}
+use Rattle.sentry_tables.specs.Cells.{text_cell, natural_cell, option_cell}
+use Rattle.sentry_tables.specs.Kinds.{text_kind, unsigned_kind, signed_kind}
 use Rattle.sentry_frames.specs.declared.c_error.CError.{CError}
 use Rattle.sentry_frames.specs.declared.mach_exception.MachException.{MachException}
 use Rattle.sentry_frames.specs.declared.posix_signal.PosixSignal.{PosixSignal}

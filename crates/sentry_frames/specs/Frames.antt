@@ -4,8 +4,8 @@ use Rattle.sentry_tables.specs.Cell.{Cell, truth}
 use Rattle.sentry_tables.specs.Fields.{Field, field, rows_of, table_of, fields_by}
 use Rattle.sentry_tables.specs.Kind.{may, default, always, Kind, list, map, keys}
 use Rattle.sentry_tables.specs.Written.{in_order}
-use Rattle.sentry_members.specs.Cells.{text_cell, natural_cell, tree_cell, pair_cell, option_cell, list_cell, map_cell, empty_list, empty_map}
-use Rattle.sentry_members.specs.Kinds.{text_kind, truth_kind, unsigned_kind, pair_kind, any_kind}
+use Rattle.sentry_tables.specs.Cells.{text_cell, natural_cell, tree_cell, pair_cell, option_cell, list_cell, map_cell, empty_list, empty_map}
+use Rattle.sentry_tables.specs.Kinds.{text_kind, truth_kind, unsigned_kind, pair_kind, any_kind}
 use Rattle.sentry_text.specs.AddressTree.{address_kind}
 use Rattle.sentry_frames.specs.declared.frame.Frame.{Frame}
 use Rattle.sentry_frames.specs.declared.template_info.TemplateInfo.{TemplateInfo}

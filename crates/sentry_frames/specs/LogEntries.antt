@@ -4,8 +4,8 @@ use Rattle.sentry_tables.specs.Cell.{Cell}
 use Rattle.sentry_tables.specs.Fields.{Field, field, rows_of, table_of, fields_by}
 use Rattle.sentry_tables.specs.Kind.{must, default, Kind, list, keys}
 use Rattle.sentry_tables.specs.Written.{in_order}
-use Rattle.sentry_members.specs.Cells.{text_cell, tree_cell, list_cell, empty_list}
-use Rattle.sentry_members.specs.Kinds.{text_kind, any_kind}
+use Rattle.sentry_tables.specs.Cells.{text_cell, tree_cell, list_cell, empty_list}
+use Rattle.sentry_tables.specs.Kinds.{text_kind, any_kind}
 use Rattle.sentry_frames.specs.declared.log_entry.LogEntry.{LogEntry}
 
 unfoldable pub entry_fields : List (Field LogEntry)

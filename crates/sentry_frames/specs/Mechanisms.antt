@@ -5,8 +5,8 @@ use Rattle.sentry_tables.specs.Cell.{Cell, absent, truth, fields, no_cells, cell
 use Rattle.sentry_tables.specs.Fields.{Field, field, rows_of, table_of, fields_by}
 use Rattle.sentry_tables.specs.Kind.{must, may, default, Kind, map, keys}
 use Rattle.sentry_tables.specs.Written.{in_order}
-use Rattle.sentry_members.specs.Cells.{text_cell, tree_cell, option_cell, map_cell, empty_map}
-use Rattle.sentry_members.specs.Kinds.{text_kind, truth_kind, any_kind}
+use Rattle.sentry_tables.specs.Cells.{text_cell, tree_cell, option_cell, map_cell, empty_map}
+use Rattle.sentry_tables.specs.Kinds.{text_kind, truth_kind, any_kind}
 use Rattle.sentry_text.specs.UrlTree.{url_cell, url_kind}
 use Rattle.sentry_frames.specs.Causes.{c_error_cell, c_error_kind, mach_cell, mach_kind, signal_cell, signal_kind}
 use Rattle.sentry_frames.specs.declared.mechanism_meta.MechanismMeta.{MechanismMeta}

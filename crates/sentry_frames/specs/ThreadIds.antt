@@ -5,7 +5,7 @@ use Rattle.serde_json.specs.Find.{as_u64}
 use Rattle.sentry_tables.specs.Basic.{read_by, whole_below}
 use Rattle.sentry_tables.specs.Cell.{Cell, text, whole}
 use Rattle.sentry_tables.specs.Kind.{Kind, scalar}
-use Rattle.sentry_members.specs.Cells.{text_cell, natural_cell}
+use Rattle.sentry_tables.specs.Cells.{text_cell, natural_cell}
 use Rattle.sentry_frames.specs.declared.thread_id.ThreadId.{ThreadId}
 use Rattle.sentry_frames.specs.declared.thread_id.ThreadId.TheVariants.{Int, String}
 

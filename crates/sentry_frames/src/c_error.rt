@@ -3,8 +3,8 @@
 ghost use Rattle.sentry_frames.specs.Causes.{c_error_fields, c_error_in_order};
 
 use sentry_json::Node;
-use sentry_members::{Formed, Member};
 use sentry_rows::{AsTable, Copier, CopyTable, ReadTable, Reader, Sink, Table};
+use sentry_tables::{Formed, Member};
 use std::alloc::{AllocError, Global};
 
 /// An error of the C library: a value of `errno`.

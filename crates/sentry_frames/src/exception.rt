@@ -6,8 +6,8 @@ use crate::mechanism::Mechanism;
 use crate::stacktrace::Stacktrace;
 use crate::thread_id::ThreadId;
 use sentry_json::Node;
-use sentry_members::{Formed, Member};
 use sentry_rows::{AsTable, Copier, CopyTable, ReadTable, Reader, Sink, Table};
+use sentry_tables::{Formed, Member};
 use std::alloc::{AllocError, Global};
 
 /// An exception or error of the program.

@@ -10,7 +10,7 @@ ghost use Rattle.sentry_tables.specs.Cell.{Cell};
 ghost use Rattle.sentry_tables.specs.Kind.{values};
 ghost use Rattle.sentry_tables.specs.Laws.{HasLaws};
 ghost use Rattle.sentry_tables.specs.Lawful.{IsNormal, RefusesNull};
-ghost use Rattle.sentry_members.specs.Kinds.{unsigned_kind};
+ghost use Rattle.sentry_tables.specs.Kinds.{unsigned_kind};
 ghost use Rattle.sentry_frames.specs.Causes.{c_error_cell, c_error_kind, mach_cell, mach_kind, signal_cell, signal_kind};
 ghost use Rattle.sentry_frames.specs.Exceptions.{exception_kind};
 ghost use Rattle.sentry_frames.specs.Frames.{frame_kind, stacktrace_kind, template_cell, template_kind};

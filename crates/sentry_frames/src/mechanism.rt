@@ -4,8 +4,8 @@ ghost use Rattle.sentry_frames.specs.Mechanisms.{mechanism_fields, mechanism_in_
 
 use crate::mechanism_meta::MechanismMeta;
 use sentry_json::Node;
-use sentry_members::{Formed, Member};
 use sentry_rows::{AsTable, Copier, CopyTable, ReadTable, Reader, Sink, Table};
+use sentry_tables::{Formed, Member};
 use sentry_text::UrlText;
 use serde_json::{Map, Value};
 use std::alloc::{AllocError, Global};

@@ -6,8 +6,8 @@ use crate::c_error::CError;
 use crate::mach_exception::MachException;
 use crate::posix_signal::PosixSignal;
 use sentry_json::Node;
-use sentry_members::{Formed, Member};
 use sentry_rows::{AsTable, Copier, CopyTable, DefaultedTable, ReadTable, Reader, Sink, Table};
+use sentry_tables::{Formed, Member};
 use std::alloc::{AllocError, Global};
 
 /// Operating system or runtime information about the cause of an exception.

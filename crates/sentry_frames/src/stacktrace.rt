@@ -4,8 +4,8 @@ ghost use Rattle.sentry_frames.specs.Frames.{stacktrace_fields, stacktrace_in_or
 
 use crate::frame::Frame;
 use sentry_json::Node;
-use sentry_members::{Formed, Member};
 use sentry_rows::{AsTable, Copier, CopyTable, ReadTable, Reader, Sink, Table};
+use sentry_tables::{Formed, Member};
 use sentry_text::RegVal;
 use serde_json::Map;
 use std::alloc::{AllocError, Global};

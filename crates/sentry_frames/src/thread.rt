@@ -5,8 +5,8 @@ ghost use Rattle.sentry_frames.specs.Threads.{thread_fields, thread_in_order};
 use crate::stacktrace::Stacktrace;
 use crate::thread_id::ThreadId;
 use sentry_json::Node;
-use sentry_members::{Formed, Member};
 use sentry_rows::{AsTable, Copier, CopyTable, ReadTable, Reader, Sink, Table};
+use sentry_tables::{Formed, Member};
 use std::alloc::{AllocError, Global};
 
 /// A thread of the program.

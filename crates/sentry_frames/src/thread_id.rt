@@ -4,7 +4,7 @@ ghost use Rattle.sentry_frames.specs.ThreadIds.{thread_id_kind, thread_id_cell};
 
 use json::Writer;
 use sentry_json::Node;
-use sentry_members::{FromTree, Member, TreeError, Way};
+use sentry_tables::{FromTree, Member, TreeError, Way};
 use serde_json::Value;
 use std::alloc::{AllocError, Global};
 use std::fmt;
@@ -137,7 +137,7 @@ impl Member for ThreadId {
 
     ghost cell_of = { thread_id_cell };
 
-    #[tactic(auto, unfolding(crate::specs::ThreadIds::thread_id_kind, sentry_members::specs::Written::written))]
+    #[tactic(auto, unfolding(crate::specs::ThreadIds::thread_id_kind, sentry_tables::specs::Written::written))]
     fn to_tree(&self, alloc: Global) -> Result<Value, AllocError> {
         match self {
             ThreadId::Int(number) => Ok(Value::from(*number)),

@@ -10,7 +10,7 @@ use crate::error::EnvelopeError;
 use crate::header::{ItemHeader, read_fields};
 use crate::lines::{end_line, skip_space, split_line};
 use crate::piece::piece_len;
-use sentry_members::{LazyScratch, LineReader};
+use sentry_tables::{LazyScratch, LineReader};
 use std::alloc::Global;
 use std::marker::Model;
 

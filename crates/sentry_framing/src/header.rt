@@ -6,13 +6,12 @@ ghost use Rattle.sentry_framing.specs.ItemHeader.{header_of, kind_of, read_heade
 ghost use Rattle.sentry_framing.specs.ItemWords.{item_words, kind_place};
 ghost use Rattle.sentry_framing.specs.declared.kind.ItemKind.TheVariants as kinds;
 ghost use Rattle.sentry_framing.specs.HeaderView.{header_view};
-ghost use Rattle.sentry_tape.specs.TapeView.{node_data};
+ghost use Rattle.sentry_json.specs.TapeView.{node_data};
 
 use crate::error::EnvelopeError;
 use crate::kind::ItemKind;
-use sentry_json::{Branch, Line, LineError, Node};
-use sentry_members::{LazyScratch, LineReader, TreeError, read_tree};
-use sentry_tape::TapeNode;
+use sentry_json::{Branch, Line, LineError, Node, TapeNode};
+use sentry_tables::{LazyScratch, LineReader, TreeError, read_tree};
 use std::alloc::Global;
 
 /// The fields of an item header.

@@ -6,8 +6,8 @@ use Rattle.std.proofs.lemmas.List.Sums.{AllPass-from_list_all}
 use Rattle.sentry_tables.specs.Cell.{Cell, text}
 use Rattle.sentry_tables.specs.Lawful.{IsLawful, IsNormal, RefusesNull}
 use Rattle.sentry_tables.specs.Laws.{HasLaws}
-use Rattle.sentry_members.specs.Spelling.{SpellingLaws, word_of}
-use Rattle.sentry_members.proofs.Spellings.{read_as_laws, spelled_laws, spelled_has_laws, spelled_refuses_null}
+use Rattle.sentry_tables.specs.Spelling.{SpellingLaws, word_of}
+use Rattle.sentry_tables.proofs.Spellings.{read_as_laws, spelled_laws, spelled_has_laws, spelled_refuses_null}
 use Rattle.sentry_identifiers.specs.CodeDigits.{code_digits, is_code_digit, are_code_digits}
 use Rattle.sentry_identifiers.specs.CodeIdTree.{IsCodeCell, code_of, code_spelling, code_kind}
 use Rattle.sentry_identifiers.proofs.CodeIds.{kept_are_digits, digits_are_kept}

@@ -9,8 +9,8 @@ use Rattle.uuid.proofs.TextLemmas.{hyphenated_ascii}
 use Rattle.sentry_tables.specs.Cell.{Cell, octets, choice}
 use Rattle.sentry_tables.specs.Lawful.{IsLawful, IsNormal, RefusesNull}
 use Rattle.sentry_tables.specs.Laws.{HasLaws}
-use Rattle.sentry_members.specs.Spelling.{SpellingLaws}
-use Rattle.sentry_members.proofs.Spellings.{read_as_laws, spelled_laws, spelled_has_laws, spelled_refuses_null}
+use Rattle.sentry_tables.specs.Spelling.{SpellingLaws}
+use Rattle.sentry_tables.proofs.Spellings.{read_as_laws, spelled_laws, spelled_has_laws, spelled_refuses_null}
 use Rattle.sentry_identifiers.specs.DebugId.{IsAppendix, debug_id_of, debug_id_text, appendix_text}
 use Rattle.sentry_identifiers.specs.DebugIdTree.{debug_cell, IsDebugCell, debug_text, debug_spelling, debug_kind}
 use Rattle.sentry_identifiers.proofs.UuidLaws.{Bytes, gives_simple, gives_hyphenated}

@@ -10,8 +10,8 @@ use Rattle.hex.specs.Hex.{IsBytes, decode_sized, encode_lower, encode_with, lowe
 use Rattle.sentry_tables.specs.Cell.{Cell, octets}
 use Rattle.sentry_tables.specs.Kind.{draw}
 use Rattle.sentry_tables.specs.Lawful.{IsNormal, RuleLaws}
-use Rattle.sentry_members.specs.Spelling.{SpellingLaws, spelled_kind}
-use Rattle.sentry_members.proofs.Spellings.{read_as_laws, spelled_refuses_null}
+use Rattle.sentry_tables.specs.Spelling.{SpellingLaws, spelled_kind}
+use Rattle.sentry_tables.proofs.Spellings.{read_as_laws, spelled_refuses_null}
 use Rattle.sentry_identifiers.specs.HexId.{hex_id_of}
 use Rattle.sentry_identifiers.specs.HexIdTree.{IsOctets, hex_text, hex_id_spelling}
 use Rattle.sentry_text.proofs.ValueTexts.{ValueLaws, value_laws}

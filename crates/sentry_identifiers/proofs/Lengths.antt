@@ -5,7 +5,7 @@ use Rattle.hex.specs.Hex.{encode_lower, lower_digits}
 use Rattle.hex.proofs.HexLemmas.{length-encode_with}
 use Rattle.uuid.specs.Text.{lower, hyphenated_text}
 use Rattle.uuid.proofs.TextLemmas.{by_index_length}
-use Rattle.sentry_members.specs.Spelling.{FitsRoom}
+use Rattle.sentry_tables.specs.Spelling.{FitsRoom}
 use Rattle.sentry_identifiers.specs.DebugId.{appendix_text, debug_id_text}
 use Rattle.sentry_text.proofs.Lengths.{hex_size}
 

@@ -14,8 +14,8 @@ use Rattle.uuid.proofs.RoundTrips.{parses_simple, parses_hyphenated}
 use Rattle.sentry_tables.specs.Cell.{Cell, octets}
 use Rattle.sentry_tables.specs.Kind.{draw}
 use Rattle.sentry_tables.specs.Lawful.{ScalarLaws, RefusesNull, IsNormal, RuleLaws}
-use Rattle.sentry_members.specs.Spelling.{spelled}
-use Rattle.sentry_members.proofs.Spellings.{WordLaws, read_as_laws, spelled_laws, spelled_refuses_null}
+use Rattle.sentry_tables.specs.Spelling.{spelled}
+use Rattle.sentry_tables.proofs.Spellings.{WordLaws, read_as_laws, spelled_laws, spelled_refuses_null}
 use Rattle.sentry_text.proofs.ValueTexts.{value_laws}
 use Rattle.sentry_identifiers.specs.Uuids.{IsUuid, IsRandomUuid, uuid_of, uuid_spelling, uuid_kind, hyphenated, simple}
 

@@ -6,9 +6,9 @@ use Rattle.serde_json.specs.Find.{as_str}
 use Rattle.uuid.specs.Text.{parsed}
 use Rattle.sentry_tables.specs.Cell.{Cell, octets}
 use Rattle.sentry_identifiers.specs.Uuids.{uuid_spelling, uuid_kind}
-use Rattle.sentry_members.specs.Reading.{Shown, Refused}
-use Rattle.sentry_members.specs.declared.error.TreeError.TheVariants.{Misfit}
-use Rattle.sentry_members.proofs.Spellings.{text_read}
+use Rattle.sentry_tables.specs.Reading.{Shown, Refused}
+use Rattle.sentry_tables.specs.declared.error.TreeError.TheVariants.{Misfit}
+use Rattle.sentry_tables.proofs.Spellings.{text_read}
 
 module _ (to_text : Cell → List ℕ) where
   pub uuid_shown : (text b : List ℕ) (d : Data) → as_str d ≡ Some text → parsed text ≡ Some b → Shown (uuid_kind to_text) d (octets b)

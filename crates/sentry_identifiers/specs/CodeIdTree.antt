@@ -2,7 +2,7 @@
 use Rattle.std.specs.Prelude.{ℕ, List, Option, Some, IsTrue}
 use Rattle.sentry_tables.specs.Cell.{Cell, text}
 use Rattle.sentry_tables.specs.Kind.{Kind}
-use Rattle.sentry_members.specs.Spelling.{Spelling, read_as, spelled_kind, word_of}
+use Rattle.sentry_tables.specs.Spelling.{Spelling, read_as, spelled_kind, word_of}
 use Rattle.sentry_identifiers.specs.CodeDigits.{code_digits, are_code_digits}
 
 -- hex digits in lower case

@@ -2,7 +2,7 @@
 use Rattle.std.specs.Prelude.{◌≡◌, ℕ, ◌<◌, ◌^◌, List, [], length, All, option_map}
 use Rattle.sentry_tables.specs.Cell.{Cell, octets, choice}
 use Rattle.sentry_tables.specs.Kind.{Kind}
-use Rattle.sentry_members.specs.Spelling.{Spelling, read_as, spelled_kind}
+use Rattle.sentry_tables.specs.Spelling.{Spelling, read_as, spelled_kind}
 use Rattle.sentry_identifiers.specs.DebugId.{debug_id_of, debug_id_text}
 
 -- the appendix, and the bytes of the UUID

@@ -3,7 +3,7 @@ use Rattle.std.specs.Prelude.{◌≡◌, ℕ, List, [], length, option_map}
 use Rattle.hex.specs.Hex.{IsBytes, encode_lower}
 use Rattle.sentry_tables.specs.Cell.{Cell, octets}
 use Rattle.sentry_tables.specs.Kind.{Kind}
-use Rattle.sentry_members.specs.Spelling.{Spelling, spelled_kind, read_as}
+use Rattle.sentry_tables.specs.Spelling.{Spelling, spelled_kind, read_as}
 use Rattle.sentry_identifiers.specs.HexId.{hex_id_of, span_bytes, trace_bytes}
 use Rattle.sentry_identifiers.specs.declared.span_id.SpanId.{SpanId}
 use Rattle.sentry_identifiers.specs.declared.trace_id.TraceId.{TraceId}

@@ -4,7 +4,7 @@ use Rattle.uuid.specs.Text.{lower, simple_text, hyphenated_text, parsed}
 use Rattle.uuid.specs.Uuid.{version_num}
 use Rattle.sentry_tables.specs.Cell.{Cell, octets}
 use Rattle.sentry_tables.specs.Kind.{Kind}
-use Rattle.sentry_members.specs.Spelling.{Spelling, read_as, spelled_kind}
+use Rattle.sentry_tables.specs.Spelling.{Spelling, read_as, spelled_kind}
 
 -- sixteen bytes
 abbrev pub IsUuid : Cell → Type 0

@@ -3,7 +3,7 @@
 ghost use Rattle.std.specs.Prelude.{◌≡◌, IfOk, IsTrue, string_bytes};
 ghost use Rattle.sentry_identifiers.specs.CodeDigits.{code_digits, are_code_digits};
 
-use sentry_members::{AsText, Formed, Room, Spelled, TreeError, Way};
+use sentry_tables::{AsText, Formed, Room, Spelled, TreeError, Way};
 use std::alloc::{AllocError, Global};
 
 /// Code identifier of a code file: hex digits in lower case.
@@ -91,7 +91,7 @@ impl Spelled for CodeId {
         Ok(self.as_str())
     }
 
-    #[tactic(auto, using(sentry_members::proofs::Ways::unchanged))]
+    #[tactic(auto, using(sentry_tables::proofs::Ways::unchanged))]
     fn respell(&self, _way: Way) -> Result<CodeId, AllocError> {
         self.clone()
     }

@@ -6,8 +6,8 @@ ghost use Rattle.sentry_identifiers.specs.DebugIdTree.{debug_cell, debug_spellin
 ghost use Rattle.sentry_text.specs.Number.{ReadsAs};
 
 use crate::bytes::are_bytes;
-use sentry_members::spelled::print_into;
-use sentry_members::{AsText, Formed, Room, Spelled, TreeError, Way};
+use sentry_tables::spelled::print_into;
+use sentry_tables::{AsText, Formed, Room, Spelled, TreeError, Way};
 use std::alloc::{AllocError, Global};
 use std::fmt;
 use std::str::FromStr;
@@ -153,7 +153,7 @@ impl Spelled for DebugId {
         print_into(self, room)
     }
 
-    #[tactic(auto, using(sentry_members::proofs::Ways::unchanged))]
+    #[tactic(auto, using(sentry_tables::proofs::Ways::unchanged))]
     fn respell(&self, _way: Way) -> Result<DebugId, AllocError> {
         Ok(*self)
     }

@@ -10,8 +10,8 @@ use crate::bytes::are_bytes;
 use crate::hex_id::read_bytes;
 use hex::FromHexError;
 use rand_core::Rng;
-use sentry_members::spelled::print_into;
-use sentry_members::{AsText, Drawn, Formed, Own, Room, Spelled, TreeError, Way};
+use sentry_tables::spelled::print_into;
+use sentry_tables::{AsText, Drawn, Formed, Own, Room, Spelled, TreeError, Way};
 use std::alloc::{AllocError, Global};
 use std::str::FromStr;
 use std::{fmt, str};
@@ -122,7 +122,7 @@ impl Spelled for TraceId {
         print_into(self, room)
     }
 
-    #[tactic(auto, using(sentry_members::proofs::Ways::unchanged))]
+    #[tactic(auto, using(sentry_tables::proofs::Ways::unchanged))]
     fn respell(&self, _way: Way) -> Result<TraceId, AllocError> {
         Ok(*self)
     }

@@ -5,13 +5,13 @@ ghost use Rattle.rand_core.specs.Stream.{fill_bytes};
 ghost use Rattle.uuid.specs.Parts.{v4_of_fill};
 ghost use Rattle.sentry_tables.specs.Cell.{Cell, octets};
 ghost use Rattle.sentry_identifiers.specs.Uuids.{uuid_kind, hyphenated_kind, simple_kind, IsRandomUuid};
-ghost use Rattle.sentry_members.specs.Reading.{Reads};
+ghost use Rattle.sentry_tables.specs.Reading.{Reads};
 
 use crate::bytes::are_bytes;
 use json::Writer;
 use rand_core::Rng;
 use sentry_json::Node;
-use sentry_members::{Codec, Drawn, ReadCodec, TreeError, Way};
+use sentry_tables::{Codec, Drawn, ReadCodec, TreeError, Way};
 use serde_json::Value;
 use std::alloc::{AllocError, Global};
 use uuid::Uuid;
@@ -33,17 +33,17 @@ impl Codec<Uuid> for Hyphenated {
 
     ghost cell_of = { octets };
 
-    #[tactic(auto, unfolding(sentry_members::specs::Written::written))]
+    #[tactic(auto, unfolding(sentry_tables::specs::Written::written))]
     fn to_tree(value: &Uuid, alloc: Global) -> Result<Value, AllocError> {
         Value::try_from_str(alloc, value.hyphenated().encode_lower(&mut [0; 36]))
     }
 
-    #[tactic(auto, using(sentry_members::proofs::Spellings::spelling_wrote))]
+    #[tactic(auto, using(sentry_tables::proofs::Spellings::spelling_wrote))]
     fn write(value: &Uuid, out: &mut Writer) -> Result<(), AllocError> {
         out.string(value.hyphenated().encode_lower(&mut [0; 36]))
     }
 
-    #[tactic(auto, using(sentry_members::proofs::Ways::unchanged))]
+    #[tactic(auto, using(sentry_tables::proofs::Ways::unchanged))]
     fn remake(value: &Uuid, _way: Way) -> Result<Uuid, AllocError> {
         Ok(*value)
     }
@@ -63,17 +63,17 @@ impl Codec<Uuid> for Simple {
 
     ghost cell_of = { octets };
 
-    #[tactic(auto, unfolding(sentry_members::specs::Written::written))]
+    #[tactic(auto, unfolding(sentry_tables::specs::Written::written))]
     fn to_tree(value: &Uuid, alloc: Global) -> Result<Value, AllocError> {
         Value::try_from_str(alloc, value.simple().encode_lower(&mut [0; 32]))
     }
 
-    #[tactic(auto, using(sentry_members::proofs::Spellings::spelling_wrote))]
+    #[tactic(auto, using(sentry_tables::proofs::Spellings::spelling_wrote))]
     fn write(value: &Uuid, out: &mut Writer) -> Result<(), AllocError> {
         out.string(value.simple().encode_lower(&mut [0; 32]))
     }
 
-    #[tactic(auto, using(sentry_members::proofs::Ways::unchanged))]
+    #[tactic(auto, using(sentry_tables::proofs::Ways::unchanged))]
     fn remake(value: &Uuid, _way: Way) -> Result<Uuid, AllocError> {
         Ok(*value)
     }

@@ -4,10 +4,10 @@ use Rattle.serde_json.specs.Data.{no_members}
 use Rattle.sentry_tables.specs.Cell.{Cell, fields, no_cells, cell}
 use Rattle.sentry_tables.specs.Kind.{Kind, list}
 use Rattle.sentry_tables.specs.Lawful.{IsLawful}
-use Rattle.sentry_members.specs.Cells.{list_cell}
-use Rattle.sentry_members.specs.Made.{made}
-use Rattle.sentry_members.specs.declared.way.Way.{Way}
-use Rattle.sentry_members.specs.declared.way.Way.TheVariants.{Same, Normal}
+use Rattle.sentry_tables.specs.Cells.{list_cell}
+use Rattle.sentry_tables.specs.Made.{made}
+use Rattle.sentry_tables.specs.declared.way.Way.{Way}
+use Rattle.sentry_tables.specs.declared.way.Way.TheVariants.{Same, Normal}
 use Rattle.sentry_items.specs.Containers.{container_kind, items_cell}
 
 pub container_lawful : (K : Kind) → IsLawful K → IsLawful (container_kind K)

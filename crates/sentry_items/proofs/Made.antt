@@ -1,9 +1,9 @@
 -- Attachments and items made anew.
 use Rattle.std.proofs.Common.{◌≡◌, ℕ, List, Some, None, option_map, unwrap_or, codes, String, string_bytes, refl, sym, ap, ◌∙◌}
 use Rattle.std.specs.declared.alloc.Global.{Global}
-use Rattle.sentry_members.specs.Made.{made}
-use Rattle.sentry_members.specs.declared.way.Way.{Way}
-use Rattle.sentry_members.specs.declared.way.Way.TheVariants.{Same, Normal}
+use Rattle.sentry_tables.specs.Made.{made}
+use Rattle.sentry_tables.specs.declared.way.Way.{Way}
+use Rattle.sentry_tables.specs.declared.way.Way.TheVariants.{Same, Normal}
 use Rattle.sentry_tables.specs.Cell.{Cell}
 use Rattle.sentry_framing.specs.declared.kind.ItemKind.{ItemKind}
 use Rattle.sentry_items.specs.Attached.{Attached}

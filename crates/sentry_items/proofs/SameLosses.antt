@@ -3,7 +3,7 @@ use Rattle.std.proofs.Common.{arith, ◌≡◌, ℕ, suc, ◌+◌, List, [], ◌
 use Rattle.std.proofs.lemmas.List.Sums.{sum_by-cons}
 use Rattle.std.proofs.lemmas.Option.{same_Some}
 use Rattle.sentry_tables.specs.Cell.{Cell, Cells, no_cells, sequence}
-use Rattle.sentry_members.specs.Cells.{cells, entries}
+use Rattle.sentry_tables.specs.Cells.{cells, entries}
 use Rattle.sentry_event.specs.Spans.{span_cell}
 use Rattle.sentry_event.specs.Transactions.{transaction_fields, transaction_cell}
 use Rattle.sentry_event.specs.declared.transaction.Transaction.{Transaction}

@@ -2,7 +2,7 @@
 use Rattle.std.specs.Prelude.{◌≡◌, ℕ, zero, suc, List, [], ◌∷◌, true, Some, codes, cond, IsUtf8}
 use Rattle.sentry_tables.specs.Cell.{Cell, text, choice}
 use Rattle.sentry_tables.specs.Kind.{Kind, has_key}
-use Rattle.sentry_members.specs.Spelling.{Spelling, read_to, spelled_kind}
+use Rattle.sentry_tables.specs.Spelling.{Spelling, read_to, spelled_kind}
 
 abbrev pub attachment_words : List (List ℕ)
 attachment_words =

@@ -5,7 +5,7 @@ use Rattle.sentry_tables.specs.Cell.{Cell, fields, no_cells, cell}
 use Rattle.sentry_tables.specs.Fields.{Field, field, rows_of}
 use Rattle.sentry_tables.specs.Kind.{Kind, list, must, ignored, table, no_rows, row, keys}
 use Rattle.sentry_tables.specs.Written.{in_order}
-use Rattle.sentry_members.specs.Cells.{list_cell}
+use Rattle.sentry_tables.specs.Cells.{list_cell}
 use Rattle.sentry_records.specs.Logs.{log_cell}
 use Rattle.sentry_records.specs.Metrics.{metric_cell}
 use Rattle.sentry_framing.specs.declared.kind.ItemKind.{ItemKind}

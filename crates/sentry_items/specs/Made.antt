@@ -1,6 +1,6 @@
 -- Attachments and items made anew: the same, or their normal form.
-use Rattle.sentry_members.specs.declared.way.Way.{Way}
-use Rattle.sentry_members.specs.declared.way.Way.TheVariants.{Same, Normal}
+use Rattle.sentry_tables.specs.declared.way.Way.{Way}
+use Rattle.sentry_tables.specs.declared.way.Way.TheVariants.{Same, Normal}
 use Rattle.sentry_items.specs.Attached.{Attached, attached_norm}
 use Rattle.sentry_tables.specs.Norm.{norm}
 use Rattle.sentry_items.specs.View.{ItemView, attachment, replay_recording, value, raw, payload_kind}

@@ -10,7 +10,7 @@ use crate::counted::send_both;
 use crate::header::write_last_members;
 use crate::plain_header::{is_plain, write_plain_header};
 use json::Writer;
-use sentry_members::{Member, Way};
+use sentry_tables::{Member, Way};
 use std::alloc::{AllocError, Global};
 use std::io::Write;
 use std::{fmt, mem};

@@ -1,6 +1,6 @@
 //! Attachment types.
 
-use sentry_members::{AsText, Formed, Room, Spelled, TreeError, Way};
+use sentry_tables::{AsText, Formed, Room, Spelled, TreeError, Way};
 use std::alloc::{AllocError, Global};
 
 /// The type of an attachment: `attachment_type` in its item header.
@@ -101,7 +101,7 @@ impl Spelled for AttachmentType {
         Ok(self.as_str())
     }
 
-    #[tactic(auto, using(sentry_members::proofs::Ways::made_same, sentry_members::proofs::Ways::made_normal))]
+    #[tactic(auto, using(sentry_tables::proofs::Ways::made_same, sentry_tables::proofs::Ways::made_normal))]
     fn respell(&self, way: Way) -> Result<AttachmentType, AllocError> {
         match way {
             Way::Same => self.clone(),

@@ -3,16 +3,16 @@
 ghost use Rattle.std.specs.Prelude.{◌≡◌, ◌++◌, IfOk, OnOk, false};
 ghost use Rattle.serde_json.specs.Written.{compact_text, has_float};
 ghost use Rattle.sentry_tables.specs.Written.{tree};
-ghost use Rattle.sentry_members.specs.Made.{made};
-ghost use Rattle.sentry_members.specs.Written.{written, WritesTree};
+ghost use Rattle.sentry_tables.specs.Made.{made};
+ghost use Rattle.sentry_tables.specs.Writes.{written, WritesTree};
 ghost use Rattle.sentry_items.specs.Containers.{container_cell, container_kind, container_type, items_cell};
 ghost use Rattle.sentry_items.specs.View.{payload_kind};
 
 use crate::listed::Lent;
 use json::Writer;
 use sentry_framing::ItemKind;
-use sentry_members::{Member, Way};
 use sentry_records::{Log, Metric};
+use sentry_tables::{Member, Way};
 use sentry_writing::plain::rows_are_plain;
 use sentry_writing::table::write_table;
 use std::alloc::AllocError;
@@ -32,7 +32,7 @@ pub enum ItemContainer {
 impl ItemContainer {
     ghost use Rattle.std.specs.Prelude.{◌≡◌, ◌↔◌, nat_eq, IfOk, IsTrue};
     ghost use Rattle.sentry_tables.specs.Meets.{IsPlain, IsStored};
-    ghost use Rattle.sentry_members.specs.Made.{made};
+    ghost use Rattle.sentry_tables.specs.Made.{made};
     ghost use Rattle.sentry_framing.specs.ItemWords.{kind_word};
     ghost use Rattle.sentry_items.specs.Containers.{container_cell, container_len, container_type, content_type};
     ghost use Rattle.sentry_items.specs.View.{payload_kind};
@@ -109,7 +109,7 @@ impl ItemContainer {
     }
 
     /// Clones the container. `AllocError` if an allocation fails.
-    #[tactic(auto, unfolding(sentry_members::specs::Made::made))]
+    #[tactic(auto, unfolding(sentry_tables::specs::Made::made))]
     pub fn clone(&self) -> Result<ItemContainer, AllocError>
         ensures kind { IfOk result (λ container.
             container_type container ≡ container_type self.now) }

@@ -9,9 +9,9 @@ use crate::container::{ItemContainer, write_container_payload};
 use crate::replay_recording::ReplayRecording;
 use sentry_event::{Event, Transaction};
 use sentry_framing::ItemKind;
-use sentry_members::{Member, Way, write_text};
 use sentry_records::{Log, Metric, MonitorCheckIn, SessionAggregates, SessionUpdate, UserReport};
 use sentry_reports::Report;
+use sentry_tables::{Member, Way, write_text};
 use std::alloc::{AllocError, Global};
 
 /// An item of an envelope.
@@ -176,7 +176,7 @@ impl EnvelopeItem {
 /// # Errors
 ///
 /// `AllocError` if an allocation fails; a part of the payload may have been appended.
-#[tactic(auto, unfolding(sentry_members::specs::Written::written))]
+#[tactic(auto, unfolding(sentry_tables::specs::Written::written))]
 pub fn write_payload(item: &EnvelopeItem, out: &mut Vec<u8>) -> Result<(), AllocError>
     ensures { OnOk result (AppendsPayload (item_held item.now) out.old.items out.new.items) }
 {

@@ -1,8 +1,8 @@
 //! The payload of a container: an object with an array `items`.
 
 use sentry_json::Node;
-use sentry_members::{Formed, FromTree, Member};
 use sentry_rows::{AsTable, Copier, CopyTable, ReadTable, Reader, Sink, Table};
+use sentry_tables::{Formed, FromTree, Member};
 use std::alloc::AllocError;
 
 /// The payload of a container: an object with its values in the array `items`. Other members are

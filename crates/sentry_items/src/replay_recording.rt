@@ -1,6 +1,6 @@
 //! Replay recordings.
 
-use sentry_members::Way;
+use sentry_tables::Way;
 use std::alloc::{AllocError, Global};
 
 /// A replay recording: opaque bytes.

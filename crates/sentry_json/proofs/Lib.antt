@@ -17,3 +17,14 @@ pub mod Tokens
 pub mod Beside
 pub mod Each
 pub mod Digits
+pub mod TokenLists
+pub mod PlainTexts
+pub mod CharacterEnds
+pub mod Integers
+pub mod WordsAndTexts
+pub mod Lexemes
+pub mod Escapes
+pub mod SoFar
+pub mod RunLengths
+pub mod StopMasks
+pub mod Spaces

@@ -5,3 +5,8 @@ pub mod Keys
 pub mod Unfit
 pub mod Nodes
 pub mod Tree
+pub mod Escaped
+pub mod PlainTexts
+pub mod Spelled
+pub mod TapeView
+pub mod Tokens

@@ -10,9 +10,11 @@ pub mod line;
 pub mod node;
 pub mod number;
 pub mod object;
+mod tape;
 
 pub use branch::Branch;
 pub use keys::is_among;
 pub use line::{Line, LineError, scratch};
 pub use node::Node;
 pub use object::{Named, Object};
+pub use tape::{Tape, TapeNode};

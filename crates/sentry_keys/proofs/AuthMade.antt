@@ -4,11 +4,11 @@ use Rattle.std.specs.declared.alloc.Global.{Global}
 use Rattle.sentry_tables.specs.Cell.{absent}
 use Rattle.sentry_tables.specs.Kind.{may_null}
 use Rattle.sentry_tables.specs.Norm.{norm, row_norm, is_null_of}
-use Rattle.sentry_members.specs.Cells.{text_cell, option_cell}
-use Rattle.sentry_members.specs.Kinds.{text_kind}
-use Rattle.sentry_members.specs.Made.{made}
-use Rattle.sentry_members.specs.declared.way.Way.{Way}
-use Rattle.sentry_members.specs.declared.way.Way.TheVariants.{Same, Normal}
+use Rattle.sentry_tables.specs.Cells.{text_cell, option_cell}
+use Rattle.sentry_tables.specs.Kinds.{text_kind}
+use Rattle.sentry_tables.specs.Made.{made}
+use Rattle.sentry_tables.specs.declared.way.Way.{Way}
+use Rattle.sentry_tables.specs.declared.way.Way.TheVariants.{Same, Normal}
 use Rattle.sentry_keys.specs.Auth.{parts_of}
 use Rattle.sentry_keys.specs.AuthFields.{auth_table, rows_cell, beside, auth_cell, rows_part, auth_kind}
 use Rattle.sentry_keys.specs.declared.auth.Auth.{Auth}

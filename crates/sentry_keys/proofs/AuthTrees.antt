@@ -21,12 +21,12 @@ use Rattle.sentry_tables.specs.Written.{tree, is_null}
 use Rattle.sentry_tables.proofs.Basic.{text_laws, unsigned_laws}
 use Rattle.sentry_tables.proofs.Drawn.{never_drawn}
 use Rattle.sentry_tables.proofs.Laws.{has_laws}
-use Rattle.sentry_members.specs.Cells.{text_cell, natural_cell, option_cell}
-use Rattle.sentry_members.specs.Kinds.{text_kind}
-use Rattle.sentry_members.specs.Reading.{Reads, Shown, Refused}
-use Rattle.sentry_members.specs.Written.{written, WritesTree}
-use Rattle.sentry_members.specs.declared.error.TreeError.{TreeError}
-use Rattle.sentry_members.specs.declared.error.TreeError.TheVariants.{Misfit, Memory}
+use Rattle.sentry_tables.specs.Cells.{text_cell, natural_cell, option_cell}
+use Rattle.sentry_tables.specs.Kinds.{text_kind}
+use Rattle.sentry_tables.specs.Reading.{Reads, Shown, Refused}
+use Rattle.sentry_tables.specs.Writes.{written, WritesTree}
+use Rattle.sentry_tables.specs.declared.error.TreeError.{TreeError}
+use Rattle.sentry_tables.specs.declared.error.TreeError.TheVariants.{Misfit, Memory}
 use Rattle.sentry_keys.specs.Auth.{Time, Parts, time_of, parts_of}
 use Rattle.sentry_keys.specs.AuthFields.{auth_fields, auth_table, rows_cell, time_cell, beside, auth_cell, IsBeside, epoch, auth_scalar, auth_kind}
 use Rattle.sentry_keys.specs.declared.auth.Auth.{Auth}

@@ -7,16 +7,16 @@ use Rattle.serde_json.specs.Data.{Data, string}
 use Rattle.sentry_json.specs.Sound.{IsSound}
 use Rattle.serde_json.specs.View.{view}
 use Rattle.serde_json.specs.declared.value.Value.{Value}
-use Rattle.sentry_members.specs.Written.{written}
+use Rattle.sentry_tables.specs.Writes.{written}
 use Rattle.sentry_tables.specs.Cell.{Cell, text}
 use Rattle.sentry_tables.specs.Lawful.{ScalarLaws, RefusesNull, is_ascii}
 use Rattle.sentry_tables.specs.Laws.{HasLaws}
 use Rattle.sentry_tables.specs.Meets.{IsReadable}
 use Rattle.sentry_tables.specs.Shows.{Shows}
 use Rattle.sentry_tables.proofs.Sound.{ascii_text}
-use Rattle.sentry_members.specs.Cells.{natural_cell, option_cell}
-use Rattle.sentry_members.specs.Spelling.{SpellingLaws, spelled, ReadsSpelling}
-use Rattle.sentry_members.proofs.Spellings.{spelled_laws, spelled_has_laws, spelled_refuses_null, text_tree}
+use Rattle.sentry_tables.specs.Cells.{natural_cell, option_cell}
+use Rattle.sentry_tables.specs.Spelling.{SpellingLaws, spelled, ReadsSpelling}
+use Rattle.sentry_tables.proofs.Spellings.{spelled_laws, spelled_has_laws, spelled_refuses_null, text_tree}
 use Rattle.sentry_keys.specs.declared.scheme.Scheme.{Scheme}
 use Rattle.sentry_keys.specs.declared.scheme.Scheme.TheVariants.{Http, Https}
 use Rattle.sentry_keys.specs.declared.dsn.Dsn.{Dsn}

@@ -2,7 +2,7 @@
 use Rattle.std.proofs.Common.{rules, ◌≡◌, ℕ, List, Option, Some, None, refl, ap, Decides}
 use Rattle.std.proofs.lemmas.Bool.Decides.{Decides-like}
 use Rattle.sentry_tables.specs.Cell.{Cell, text}
-use Rattle.sentry_members.specs.Cells.{natural_cell, option_cell}
+use Rattle.sentry_tables.specs.Cells.{natural_cell, option_cell}
 use Rattle.sentry_keys.specs.declared.dsn.Dsn.{Dsn}
 use Rattle.sentry_keys.specs.contracts.dsn.DsnPartialEq.TheImpl.{eq-value as of_dsns}
 use Rattle.sentry_keys.specs.Dsn.{DsnParts, dsn_parts}

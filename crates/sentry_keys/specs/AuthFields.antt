@@ -9,8 +9,8 @@ use Rattle.sentry_tables.specs.Meets.{IsPlain, IsReadable, IsStored, IsOptional}
 use Rattle.sentry_tables.specs.Norm.{norm}
 use Rattle.sentry_tables.specs.Shows.{Shows}
 use Rattle.sentry_tables.specs.Written.{tree, in_order}
-use Rattle.sentry_members.specs.Cells.{text_cell, natural_cell, option_cell}
-use Rattle.sentry_members.specs.Kinds.{text_kind, unsigned_kind}
+use Rattle.sentry_tables.specs.Cells.{text_cell, natural_cell, option_cell}
+use Rattle.sentry_tables.specs.Kinds.{text_kind, unsigned_kind}
 use Rattle.sentry_keys.specs.declared.auth.Auth.{Auth}
 
 abbrev pub auth_fields : List (Field Auth)

@@ -2,10 +2,10 @@
 use Rattle.std.specs.Prelude.{◌≡◌, ◌++◌, ℕ, List, [], codes, decimal, pos, IsUtf8}
 use Rattle.sentry_tables.specs.Cell.{Cell, present, text, whole, sequence, Cells, no_cells, cell}
 use Rattle.sentry_tables.specs.Kind.{Kind}
-use Rattle.sentry_members.specs.Cells.{natural_cell, option_cell}
-use Rattle.sentry_members.specs.Spelling.{Spelling, spelled_kind}
-use Rattle.sentry_members.specs.declared.error.TreeError.{TreeError}
-use Rattle.sentry_members.specs.declared.error.TreeError.TheVariants as tree
+use Rattle.sentry_tables.specs.Cells.{natural_cell, option_cell}
+use Rattle.sentry_tables.specs.Spelling.{Spelling, spelled_kind}
+use Rattle.sentry_tables.specs.declared.error.TreeError.{TreeError}
+use Rattle.sentry_tables.specs.declared.error.TreeError.TheVariants as tree
 use Rattle.sentry_text.specs.CellParts.{cells_of, first, others}
 use Rattle.sentry_keys.specs.declared.dsn_error.ParseDsnError.{ParseDsnError}
 use Rattle.sentry_keys.specs.declared.dsn_error.ParseDsnError.TheVariants.{Memory}

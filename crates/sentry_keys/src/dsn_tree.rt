@@ -1,7 +1,7 @@
 //! DSNs as JSON strings.
 
 ghost use Rattle.std.specs.Prelude.{◌≡◌, IsUtf8};
-ghost use Rattle.sentry_members.specs.Spelling.{ReadsSpelling};
+ghost use Rattle.sentry_tables.specs.Spelling.{ReadsSpelling};
 ghost use Rattle.sentry_keys.specs.Dsn.{dsn_parts, dsn_text};
 ghost use Rattle.sentry_keys.specs.DsnTree as spec;
 ghost use Rattle.sentry_keys.specs.DsnTree.{dsn_cell, dsn_kind, dsn_spelling};
@@ -10,7 +10,7 @@ use crate::dsn::Dsn;
 use crate::dsn_error::ParseDsnError;
 use json::Writer;
 use sentry_json::Node;
-use sentry_members::{FromTree, Member, TreeError, Way};
+use sentry_tables::{FromTree, Member, TreeError, Way};
 use serde_json::Value;
 use std::alloc::{AllocError, Global};
 
@@ -61,7 +61,7 @@ impl Member for Dsn {
         out.string(text.as_str())
     }
 
-    #[tactic(auto, using(sentry_members::proofs::Ways::unchanged))]
+    #[tactic(auto, using(sentry_tables::proofs::Ways::unchanged))]
     fn remake(&self, _way: Way) -> Result<Dsn, AllocError> {
         self.clone()
     }
@@ -77,7 +77,7 @@ impl Member for Dsn {
 }
 
 impl FromTree for Dsn {
-    #[tactic(auto, using(sentry_members::proofs::Spellings::text_read, sentry_members::proofs::Spellings::not_text))]
+    #[tactic(auto, using(sentry_tables::proofs::Spellings::text_read, sentry_tables::proofs::Spellings::not_text))]
     fn from_node<N: Node>(alloc: Global, node: &N) -> Result<Dsn, TreeError> {
         match node.as_str() {
             Some(text) => dsn_of_text(alloc, text),

@@ -2,7 +2,7 @@
 use Rattle.std.proofs.Common.{◌≡◌, ◌+◌, ◌/◌, ◌%◌, ◌<◌, ◌≤◌, ◌^◌, ℕ, Bool, true, false, cond, eqb, List, [], ◌∷◌, ◌++◌, length, arith, length-append}
 use Rattle.std.specs.Fmt.{decimal}
 use Rattle.std.proofs.lemmas.Fmt.{length-decimal-le}
-use Rattle.sentry_members.specs.Spelling.{FitsRoom}
+use Rattle.sentry_tables.specs.Spelling.{FitsRoom}
 use Rattle.sentry_moments.specs.Decimal.{decimal_text}
 use Rattle.sentry_moments.specs.Digits.{digits, digits_without_closing_zeros, fraction_text}
 use Rattle.sentry_moments.specs.MomentTexts.{civil_at, rfc3339_text}

@@ -7,8 +7,8 @@ use Rattle.sentry_tables.specs.Cell.{Cell, moment}
 use Rattle.sentry_tables.specs.Kind.{at_once}
 use Rattle.sentry_tables.specs.Lawful.{IsMoment, ScalarLaws, RefusesNull, RuleLaws}
 use Rattle.sentry_tables.specs.Written.{is_null}
-use Rattle.sentry_members.specs.Spelling.{SpellingLaws, spelled}
-use Rattle.sentry_members.proofs.Spellings.{spelled_laws, spelled_refuses_null}
+use Rattle.sentry_tables.specs.Spelling.{SpellingLaws, spelled}
+use Rattle.sentry_tables.proofs.Spellings.{spelled_laws, spelled_refuses_null}
 use Rattle.sentry_moments.specs.MomentForms.{NamesMoment, moment_text, rfc3339_spelling, rfc3339_kind, ShowsSeconds, seconds_tree, seconds_scalar, seconds_kind}
 use Rattle.sentry_moments.specs.MomentTexts.{rfc3339_text}
 use Rattle.sentry_moments.specs.Rfc3339.{IsMomentTime, IsRfc3339}

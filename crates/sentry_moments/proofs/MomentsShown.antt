@@ -4,10 +4,10 @@ use Rattle.serde_json.specs.Data.{Data, number, string, unsigned, negative, floa
 use Rattle.serde_json.specs.Find.{as_number, as_str, as_u64}
 use Rattle.std.specs.Prelude.{option_and_then}
 use Rattle.sentry_tables.specs.Cell.{Cell, moment}
-use Rattle.sentry_members.specs.Reading.{Shown, Refused, Reads}
-use Rattle.sentry_members.specs.Spelling.{Texted}
-use Rattle.sentry_members.specs.declared.error.TreeError.{TreeError}
-use Rattle.sentry_members.specs.declared.error.TreeError.TheVariants.{Misfit, Memory}
+use Rattle.sentry_tables.specs.Reading.{Shown, Refused, Reads}
+use Rattle.sentry_tables.specs.Spelling.{Texted}
+use Rattle.sentry_tables.specs.declared.error.TreeError.{TreeError}
+use Rattle.sentry_tables.specs.declared.error.TreeError.TheVariants.{Misfit, Memory}
 use Rattle.sentry_moments.specs.MomentForms.{NamesMoment, rfc3339_kind, ShowsSeconds, seconds_kind}
 use Rattle.sentry_moments.specs.Moments.{moment_cell}
 use Rattle.sentry_moments.specs.Rfc3339.{IsRfc3339}

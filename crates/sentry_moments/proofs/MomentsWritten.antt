@@ -8,10 +8,10 @@ use Rattle.json.specs.Written.{Written, Writes}
 use Rattle.serde_json.specs.Data.{Data, number, string, unsigned}
 use Rattle.serde_json.specs.View.{view}
 use Rattle.serde_json.specs.declared.value.Value.{Value}
-use Rattle.sentry_members.specs.Cells.{natural_cell}
-use Rattle.sentry_members.specs.Kinds.{unsigned_kind}
-use Rattle.sentry_members.specs.Written.{written, WritesTree}
-use Rattle.sentry_members.proofs.Tokens.{u64_wrote}
+use Rattle.sentry_tables.specs.Cells.{natural_cell}
+use Rattle.sentry_tables.specs.Kinds.{unsigned_kind}
+use Rattle.sentry_tables.specs.Writes.{written, WritesTree}
+use Rattle.sentry_tables.proofs.Tokens.{u64_wrote}
 use Rattle.sentry_moments.specs.MomentForms.{rfc3339_kind, seconds_kind}
 use Rattle.sentry_moments.specs.Moments.{moment_cell}
 use Rattle.sentry_moments.specs.MomentTexts.{rfc3339_text}

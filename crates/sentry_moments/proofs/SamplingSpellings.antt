@@ -4,8 +4,8 @@ use Rattle.std.proofs.lemmas.Bool.{cases_lt}
 use Rattle.sentry_tables.specs.Basic.{IsBelow}
 use Rattle.sentry_tables.specs.Cell.{Cell, whole}
 use Rattle.sentry_tables.specs.Lawful.{ScalarLaws, RefusesNull}
-use Rattle.sentry_members.specs.Spelling.{SpellingLaws, spelled}
-use Rattle.sentry_members.proofs.Spellings.{spelled_laws, spelled_refuses_null}
+use Rattle.sentry_tables.specs.Spelling.{SpellingLaws, spelled}
+use Rattle.sentry_tables.proofs.Spellings.{spelled_laws, spelled_refuses_null}
 use Rattle.sentry_moments.specs.Decimal.{IsDecimal, IsNoDecimal, IsOutside, Worth, Billionths, BelowZero, decimal_text}
 use Rattle.sentry_moments.specs.Digits.{digits}
 use Rattle.sentry_moments.specs.SampleRand.{millionths, nearest_thousand}

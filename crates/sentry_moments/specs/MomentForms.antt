@@ -4,7 +4,7 @@ use Rattle.serde_json.specs.Data.{Data, null, number, string, unsigned}
 use Rattle.sentry_tables.specs.Cell.{Cell, moment}
 use Rattle.sentry_tables.specs.Kind.{Scalar, Kind, scalar}
 use Rattle.sentry_tables.specs.Lawful.{IsMoment}
-use Rattle.sentry_members.specs.Spelling.{Spelling, spelled_kind}
+use Rattle.sentry_tables.specs.Spelling.{Spelling, spelled_kind}
 use Rattle.sentry_moments.specs.MomentTexts.{rfc3339_text}
 use Rattle.sentry_moments.specs.Rfc3339.{IsRfc3339}
 

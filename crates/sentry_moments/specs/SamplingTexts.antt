@@ -3,7 +3,7 @@ use Rattle.std.specs.Prelude.{ℕ, pos, ◌*◌, ◌/◌, ◌%◌, ◌^◌, ◌<
 use Rattle.sentry_tables.specs.Cell.{Cell, whole}
 use Rattle.sentry_tables.specs.Basic.{IsBelow}
 use Rattle.sentry_tables.specs.Kind.{Kind}
-use Rattle.sentry_members.specs.Spelling.{Spelling, spelled_kind}
+use Rattle.sentry_tables.specs.Spelling.{Spelling, spelled_kind}
 use Rattle.sentry_moments.specs.Decimal.{IsDecimal, Billionths, decimal_text}
 use Rattle.sentry_moments.specs.SampleRand.{millionths, sample_rand_text}
 use Rattle.sentry_moments.specs.declared.sample_rand.SampleRand.{SampleRand}

@@ -7,8 +7,8 @@ ghost use Rattle.sentry_moments.specs.MomentForms.{moment_text, rfc3339_kind, se
 use crate::moment::Moment;
 use json::Writer;
 use sentry_json::Node;
-use sentry_members::spelled::{Room, print_into};
-use sentry_members::{Codec, ReadCodec, TreeError, Way};
+use sentry_tables::spelled::{Room, print_into};
+use sentry_tables::{Codec, ReadCodec, TreeError, Way};
 use serde_json::Value;
 use std::alloc::{AllocError, Global};
 
@@ -40,19 +40,19 @@ impl Codec<Moment> for Rfc3339 {
 
     ghost cell_of = { moment_cell };
 
-    #[tactic(auto, using(sentry_members::proofs::Spellings::text_tree))]
+    #[tactic(auto, using(sentry_tables::proofs::Spellings::text_tree))]
     fn to_tree(value: &Moment, alloc: Global) -> Result<Value, AllocError> {
         let mut room = Room::new();
         Value::try_from_str(alloc, text(value, &mut room)?)
     }
 
-    #[tactic(auto, using(sentry_members::proofs::Spellings::spelling_wrote))]
+    #[tactic(auto, using(sentry_tables::proofs::Spellings::spelling_wrote))]
     fn write(value: &Moment, out: &mut Writer) -> Result<(), AllocError> {
         let mut room = Room::new();
         out.string(text(value, &mut room)?)
     }
 
-    #[tactic(auto, using(sentry_members::proofs::Ways::unchanged))]
+    #[tactic(auto, using(sentry_tables::proofs::Ways::unchanged))]
     fn remake(value: &Moment, _way: Way) -> Result<Moment, AllocError> {
         Ok(*value)
     }
@@ -68,7 +68,7 @@ impl Codec<Moment> for Rfc3339 {
 }
 
 impl ReadCodec<Moment> for Rfc3339 {
-    #[tactic(auto, using(crate::proofs::MomentsShown::named_shown, crate::proofs::MomentsShown::not_named, sentry_members::proofs::Spellings::not_text))]
+    #[tactic(auto, using(crate::proofs::MomentsShown::named_shown, crate::proofs::MomentsShown::not_named, sentry_tables::proofs::Spellings::not_text))]
     fn from_node<N: Node>(_alloc: Global, node: &N) -> Result<Moment, TreeError> {
         match node.as_str() {
             Some(text) => match Moment::from_rfc3339(text) {
@@ -103,7 +103,7 @@ impl Codec<Moment> for Seconds {
         }
     }
 
-    #[tactic(auto, using(sentry_members::proofs::Ways::unchanged))]
+    #[tactic(auto, using(sentry_tables::proofs::Ways::unchanged))]
     fn remake(value: &Moment, _way: Way) -> Result<Moment, AllocError> {
         Rfc3339::copy(value)
     }

@@ -4,8 +4,8 @@ ghost use Rattle.std.specs.Prelude.{◌≡◌, ◌^◌, ◌<◌, ◌↔◌, IsOk
 ghost use Rattle.sentry_moments.specs.SampleRand.{millionths as millionths_of, sample_rand_text};
 
 use crate::decimal::{self, DecimalError};
-use sentry_members::spelled::print_into;
-use sentry_members::{AsText, Formed, Room, Spelled, TreeError, Way};
+use sentry_tables::spelled::print_into;
+use sentry_tables::{AsText, Formed, Room, Spelled, TreeError, Way};
 use std::alloc::{AllocError, Global};
 use std::fmt;
 use std::str::FromStr;
@@ -138,7 +138,7 @@ impl Spelled for SampleRand {
         print_into(self, room)
     }
 
-    #[tactic(auto, using(sentry_members::proofs::Ways::made_same, sentry_members::proofs::Ways::made_normal))]
+    #[tactic(auto, using(sentry_tables::proofs::Ways::made_same, sentry_tables::proofs::Ways::made_normal))]
     fn respell(&self, way: Way) -> Result<SampleRand, AllocError> {
         match way {
             Way::Same => Ok(*self),

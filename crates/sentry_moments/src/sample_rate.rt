@@ -5,8 +5,8 @@ ghost use Rattle.sentry_moments.specs.Decimal.{decimal_text};
 ghost use Rattle.sentry_moments.specs.SampleRate.{ReadsSampleRate};
 
 use crate::decimal::{self, Decimal, DecimalError};
-use sentry_members::spelled::print_into;
-use sentry_members::{AsText, Formed, Room, Spelled, TreeError, Way};
+use sentry_tables::spelled::print_into;
+use sentry_tables::{AsText, Formed, Room, Spelled, TreeError, Way};
 use std::alloc::{AllocError, Global};
 use std::fmt;
 use std::str::FromStr;
@@ -69,7 +69,7 @@ impl Spelled for SampleRate {
         print_into(self, room)
     }
 
-    #[tactic(auto, using(sentry_members::proofs::Ways::unchanged))]
+    #[tactic(auto, using(sentry_tables::proofs::Ways::unchanged))]
     fn respell(&self, _way: Way) -> Result<SampleRate, AllocError> {
         Ok(*self)
     }

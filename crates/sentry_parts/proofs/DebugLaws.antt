@@ -7,7 +7,7 @@ use Rattle.sentry_tables.specs.Fields.{rows_of}
 use Rattle.sentry_tables.specs.Kind.{default}
 use Rattle.sentry_tables.specs.Laws.{HasLaws}
 use Rattle.sentry_tables.specs.Lawful.{RuleLaws, IsLawful}
-use Rattle.sentry_members.specs.Cells.{natural_cell}
+use Rattle.sentry_tables.specs.Cells.{natural_cell}
 use Rattle.sentry_text.specs.AddressTree.{address_kind}
 use Rattle.sentry_text.proofs.AddressTrees.{address_laws, address_refuses_null, address_is_normal}
 use Rattle.sentry_identifiers.proofs.CodeIdTrees.{code_lawful}

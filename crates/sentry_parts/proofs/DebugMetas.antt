@@ -3,7 +3,7 @@ use Rattle.std.proofs.Common.{◌≡◌, ◌↔◌, List, [], ◌∷◌, Bool, t
 use Rattle.serde_json.specs.Data.{no_members}
 use Rattle.sentry_tables.specs.Cell.{same_cell, fields, cell, no_cells}
 use Rattle.sentry_tables.specs.Norm.{norm}
-use Rattle.sentry_members.specs.Cells.{list_cell, option_cell}
+use Rattle.sentry_tables.specs.Cells.{list_cell, option_cell}
 use Rattle.sentry_parts.specs.DebugImages.{image_cell}
 use Rattle.sentry_parts.specs.Debugging.{empty_meta, debug_meta_cell, debug_meta_fields, debug_meta_kind, system_cell}
 use Rattle.sentry_parts.specs.declared.debug_image.DebugImage.{DebugImage}

@@ -3,8 +3,8 @@ use Rattle.std.proofs.Common.{◌≡◌, ◌&&◌, Decides}
 use Rattle.std.proofs.lemmas.Bool.Decides.{Decides-and}
 use lib.Pointwise.{pointwise}
 use Rattle.std.specs.String.{string_eq}
-use Rattle.sentry_members.specs.Cells.{text_cell}
-use Rattle.sentry_members.proofs.Equal.{texts_decide, lists_decide}
+use Rattle.sentry_tables.specs.Cells.{text_cell}
+use Rattle.sentry_tables.proofs.Equal.{texts_decide, lists_decide}
 use Rattle.sentry_parts.specs.ClientSdk.{package_fields, package_cell, sdk_fields, sdk_cell}
 use Rattle.sentry_parts.specs.contracts.client_sdk_package.ClientSdkPackagePartialEq.TheImpl.{eq-value as of_packages}
 use Rattle.sentry_parts.specs.declared.client_sdk_info.ClientSdkInfo.{ClientSdkInfo}

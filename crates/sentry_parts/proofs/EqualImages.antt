@@ -3,8 +3,8 @@ use Rattle.std.proofs.Common.{◌≡◌, ◌==◌, ap, Decides}
 use Rattle.std.proofs.lemmas.Bool.Decides.{Decides-and, Decides-like}
 use Rattle.std.specs.String.{string_eq}
 use Rattle.sentry_tables.specs.Cell.{choice, text}
-use Rattle.sentry_members.specs.Cells.{text_cell, natural_cell}
-use Rattle.sentry_members.proofs.Equal.{texts_decide, naturals_decide, options_decide, lists_decide}
+use Rattle.sentry_tables.specs.Cells.{text_cell, natural_cell}
+use Rattle.sentry_tables.proofs.Equal.{texts_decide, naturals_decide, options_decide, lists_decide}
 use Rattle.sentry_text.specs.contracts.addr.AddrPartialEq.TheImpl.{eq-value as of_addresses}
 use Rattle.sentry_text.specs.declared.addr.Addr.{Addr}
 use Rattle.sentry_identifiers.specs.CodeId.{code_text}

@@ -9,8 +9,8 @@ use Rattle.url.specs.contracts.traits.UrlPartialEq.TheImpl.{eq-value as of_urls}
 use Rattle.uuid.specs.contracts.UuidPartialEq.TheImpl.{eq-value as of_ids}
 use Rattle.uuid.specs.declared.Uuid.{Uuid}
 use Rattle.sentry_tables.specs.Cell.{octets, present}
-use Rattle.sentry_members.specs.Cells.{text_cell, option_cell}
-use Rattle.sentry_members.proofs.Equal.{texts_decide, options_decide, maps_decide}
+use Rattle.sentry_tables.specs.Cells.{text_cell, option_cell}
+use Rattle.sentry_tables.proofs.Equal.{texts_decide, options_decide, maps_decide}
 use Rattle.sentry_text.specs.UrlTree.{url_cell, UrlReadsBack}
 use Rattle.sentry_text.proofs.UrlTrees.{one_url, urls_decide}
 use Rattle.sentry_parts.specs.Requests.{request_fields, request_cell}

@@ -3,9 +3,9 @@ use Rattle.std.specs.Prelude.{Result, Ok, Err}
 use Rattle.serde_json.specs.Data.{Data}
 use Rattle.sentry_tables.specs.Cell.{Cell}
 use Rattle.sentry_tables.specs.Kind.{Kind}
-use Rattle.sentry_members.specs.Reading.{Shown, Refused, ShownAt, RefusedAt, Reads, ReadsAt}
-use Rattle.sentry_members.specs.declared.error.TreeError.{TreeError}
-use Rattle.sentry_members.specs.declared.error.TreeError.TheVariants.{Misfit, Memory}
+use Rattle.sentry_tables.specs.Reading.{Shown, Refused, ShownAt, RefusedAt, Reads, ReadsAt}
+use Rattle.sentry_tables.specs.declared.error.TreeError.{TreeError}
+use Rattle.sentry_tables.specs.declared.error.TreeError.TheVariants.{Misfit, Memory}
 
 shown_at : (now : Cell) (K : Kind) (d : Data) (c : Cell) → Shown K d c → ShownAt now K d c
 unfolding Shown ShownAt

@@ -4,8 +4,8 @@ use Rattle.sentry_tables.specs.Cell.{Cell}
 use Rattle.sentry_tables.specs.Fields.{Field, field, rows_of, table_of, fields_by}
 use Rattle.sentry_tables.specs.Kind.{must, default, Kind, list, keys}
 use Rattle.sentry_tables.specs.Written.{in_order}
-use Rattle.sentry_members.specs.Cells.{text_cell, list_cell, empty_list}
-use Rattle.sentry_members.specs.Kinds.{text_kind}
+use Rattle.sentry_tables.specs.Cells.{text_cell, list_cell, empty_list}
+use Rattle.sentry_tables.specs.Kinds.{text_kind}
 use Rattle.sentry_parts.specs.declared.client_sdk_info.ClientSdkInfo.{ClientSdkInfo}
 use Rattle.sentry_parts.specs.declared.client_sdk_package.ClientSdkPackage.{ClientSdkPackage}
 

@@ -4,8 +4,8 @@ use Rattle.sentry_tables.specs.Cell.{Cell, octets, choice, text}
 use Rattle.sentry_tables.specs.Fields.{Field, field, rows_of, table_of, fields_by}
 use Rattle.sentry_tables.specs.Kind.{must, may, may_null, default, ignored, Kind, tagged, Cases, no_cases, case, keys}
 use Rattle.sentry_tables.specs.Written.{in_order}
-use Rattle.sentry_members.specs.Cells.{text_cell, natural_cell, option_cell}
-use Rattle.sentry_members.specs.Kinds.{text_kind, unsigned_kind}
+use Rattle.sentry_tables.specs.Cells.{text_cell, natural_cell, option_cell}
+use Rattle.sentry_tables.specs.Kinds.{text_kind, unsigned_kind}
 use Rattle.sentry_text.specs.AddressTree.{address_kind}
 use Rattle.sentry_identifiers.specs.CodeId.{code_text}
 use Rattle.sentry_identifiers.specs.CodeIdTree.{code_kind}

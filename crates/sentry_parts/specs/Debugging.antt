@@ -5,8 +5,8 @@ use Rattle.sentry_tables.specs.Cell.{Cell, absent, fields, no_cells, cell}
 use Rattle.sentry_tables.specs.Fields.{Field, field, rows_of, table_of, fields_by}
 use Rattle.sentry_tables.specs.Kind.{must, may, default, Kind, list, keys}
 use Rattle.sentry_tables.specs.Written.{in_order}
-use Rattle.sentry_members.specs.Cells.{text_cell, natural_cell, option_cell, list_cell, empty_list}
-use Rattle.sentry_members.specs.Kinds.{text_kind, unsigned_kind}
+use Rattle.sentry_tables.specs.Cells.{text_cell, natural_cell, option_cell, list_cell, empty_list}
+use Rattle.sentry_tables.specs.Kinds.{text_kind, unsigned_kind}
 use Rattle.sentry_parts.specs.DebugImages.{image_cell, image_kind}
 use Rattle.sentry_parts.specs.declared.debug_meta.DebugMeta.{DebugMeta}
 use Rattle.sentry_parts.specs.declared.system_sdk_info.SystemSdkInfo.{SystemSdkInfo}

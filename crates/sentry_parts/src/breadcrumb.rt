@@ -4,9 +4,9 @@ ghost use Rattle.sentry_parts.specs.Breadcrumbs.{breadcrumb_fields, breadcrumb_i
 
 use rand_core::Rng;
 use sentry_json::Node;
-use sentry_members::{Formed, Member};
 use sentry_moments::{Moment, Seconds};
 use sentry_rows::{AsTable, Copier, CopyTable, ReadTableAt, Reader, Sink, Table};
+use sentry_tables::{Formed, Member};
 use sentry_words::Level;
 use serde_json::{Map, Value};
 use std::alloc::{AllocError, Global};

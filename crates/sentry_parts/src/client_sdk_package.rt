@@ -3,8 +3,8 @@
 ghost use Rattle.sentry_parts.specs.ClientSdk.{package_fields, package_in_order};
 
 use sentry_json::Node;
-use sentry_members::{Formed, Member};
 use sentry_rows::{AsTable, Copier, CopyTable, ReadTable, Reader, Sink, Table};
+use sentry_tables::{Formed, Member};
 use std::alloc::AllocError;
 
 /// A package of the client SDK.

@@ -7,8 +7,8 @@ ghost use Rattle.sentry_parts.specs.declared.debug_image.DebugImage.TheVariants 
 use crate::native_images::{AppleDebugImage, SymbolicDebugImage};
 use crate::other_images::{ProguardDebugImage, WasmDebugImage};
 use sentry_json::Node;
-use sentry_members::{Formed, FromTree, Member, TreeError, Way};
 use sentry_rows::{AsCase, CaseSink, Cased, ReadCased};
+use sentry_tables::{Formed, FromTree, Member, TreeError, Way};
 use std::alloc::{AllocError, Global};
 
 /// A debug image: a loaded file or a file for symbolication, selected by the member `type`.

@@ -5,8 +5,8 @@ ghost use Rattle.sentry_parts.specs.Debugging.{empty_meta, debug_meta_fields, de
 use crate::debug_image::DebugImage;
 use crate::system_sdk_info::SystemSdkInfo;
 use sentry_json::Node;
-use sentry_members::{Formed, Member};
 use sentry_rows::{AsTable, Copier, CopyTable, DefaultedTable, ReadTable, Reader, Sink, Table};
+use sentry_tables::{Formed, Member};
 use std::alloc::{AllocError, Global};
 
 /// Debug images and SDK information for symbolication.

@@ -4,8 +4,8 @@ ghost use Rattle.sentry_parts.specs.DebugImages.{apple_fields, apple_in_order, s
 
 use sentry_identifiers::{CodeId, DebugId, Hyphenated};
 use sentry_json::Node;
-use sentry_members::{Formed, Member};
 use sentry_rows::{AsTable, Copier, CopyTable, ReadTable, Reader, Sink, Table};
+use sentry_tables::{Formed, Member};
 use sentry_text::Addr;
 use std::alloc::AllocError;
 use uuid::Uuid;

@@ -4,8 +4,8 @@ ghost use Rattle.sentry_parts.specs.DebugImages.{proguard_fields, proguard_in_or
 
 use sentry_identifiers::Hyphenated;
 use sentry_json::Node;
-use sentry_members::{Formed, Member};
 use sentry_rows::{AsTable, Copier, CopyTable, ReadTable, Reader, Sink, Table};
+use sentry_tables::{Formed, Member};
 use std::alloc::AllocError;
 use uuid::Uuid;
 

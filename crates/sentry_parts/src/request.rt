@@ -3,8 +3,8 @@
 ghost use Rattle.sentry_parts.specs.Requests.{request_fields, request_in_order};
 
 use sentry_json::Node;
-use sentry_members::{Formed, Member};
 use sentry_rows::{AsTable, Copier, CopyTable, ReadTable, Reader, Sink, Table};
+use sentry_tables::{Formed, Member};
 use sentry_text::UrlText;
 use serde_json::Map;
 use std::alloc::{AllocError, Global};

@@ -3,8 +3,8 @@
 ghost use Rattle.sentry_parts.specs.Debugging.{system_fields, system_in_order};
 
 use sentry_json::Node;
-use sentry_members::{Formed, Member};
 use sentry_rows::{AsTable, Copier, CopyTable, ReadTable, Reader, Sink, Table};
+use sentry_tables::{Formed, Member};
 use std::alloc::AllocError;
 
 /// The SDK of the system that an application runs on, such as the iOS SDK.

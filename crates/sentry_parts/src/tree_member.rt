@@ -5,17 +5,17 @@ ghost use Rattle.serde_json.specs.View.{view};
 ghost use Rattle.sentry_tables.specs.Cell.{Cell};
 ghost use Rattle.sentry_tables.specs.Kind.{Kind, values as values_kind};
 ghost use Rattle.sentry_tables.specs.Meets.{IsPlain, IsStored};
-ghost use Rattle.sentry_members.specs.Cells.{list_cell};
-ghost use Rattle.sentry_members.specs.Reading.{ReadsAt};
-ghost use Rattle.sentry_members.specs.Written.{written};
+ghost use Rattle.sentry_tables.specs.Cells.{list_cell};
+ghost use Rattle.sentry_tables.specs.Reading.{ReadsAt};
+ghost use Rattle.sentry_tables.specs.Writes.{written};
 ghost use Rattle.sentry_moments.specs.Moments.{moment_cell};
 
 use crate::breadcrumb::Breadcrumb;
 use rand_core::Rng;
 use sentry_frames::{Exception, Thread};
-use sentry_members::{FromTree, Member, TreeError};
 use sentry_moments::Moment;
 use sentry_rows::{FromTreeAt, Values};
+use sentry_tables::{FromTree, Member, TreeError};
 use serde_json::Value;
 use std::alloc::{AllocError, Global};
 
@@ -190,8 +190,8 @@ impl TreeMember for Thread {
 
 impl TreeMember for u64 {
     ghost use Rattle.std.specs.Prelude.{◌^◌};
-    ghost use Rattle.sentry_members.specs.Cells.{natural_cell};
-    ghost use Rattle.sentry_members.specs.Kinds.{unsigned_kind};
+    ghost use Rattle.sentry_tables.specs.Cells.{natural_cell};
+    ghost use Rattle.sentry_tables.specs.Kinds.{unsigned_kind};
 
     ghost kind = { unsigned_kind (2 ^ 64) };
 

@@ -5,8 +5,8 @@ ghost use Rattle.serde_json.specs.View.{members_view};
 ghost use Rattle.sentry_parts.specs.Users.{user_fields, user_in_order};
 
 use sentry_json::Node;
-use sentry_members::{Formed, Member};
 use sentry_rows::{AsKept, Copier, CopyKept, KeptTable, ReadKept, Reader, Sink, Table};
+use sentry_tables::{Formed, Member};
 use sentry_text::IpAddress;
 use serde_json::{Map, Value};
 use std::alloc::{AllocError, Global};

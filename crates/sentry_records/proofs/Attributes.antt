@@ -21,15 +21,15 @@ use Rattle.sentry_tables.specs.Written.{put_all, is_null}
 use Rattle.sentry_tables.proofs.Basic.{told}
 use Rattle.sentry_tables.proofs.Shown.{SoundIf, found_sound}
 use Rattle.sentry_tables.proofs.Sound.{ascii_text}
-use Rattle.sentry_members.specs.Kinds.{any_kind}
-use Rattle.sentry_members.specs.Made.{made}
-use Rattle.sentry_members.specs.Written.{written, WritesTree, WritesMembers}
-use Rattle.sentry_members.proofs.Tokens.{object_wrote}
+use Rattle.sentry_tables.specs.Kinds.{any_kind}
+use Rattle.sentry_tables.specs.Made.{made}
+use Rattle.sentry_tables.specs.Writes.{written, WritesTree, WritesMembers}
+use Rattle.sentry_tables.proofs.Tokens.{object_wrote}
 use Rattle.sentry_writing.specs.Given.{both}
-use Rattle.sentry_members.specs.Reading.{Shown, Refused, Only}
-use Rattle.sentry_members.specs.declared.error.TreeError.{TreeError}
-use Rattle.sentry_members.specs.declared.error.TreeError.TheVariants.{Misfit, Memory}
-use Rattle.sentry_members.specs.declared.way.Way.TheVariants.{Same, Normal}
+use Rattle.sentry_tables.specs.Reading.{Shown, Refused, Only}
+use Rattle.sentry_tables.specs.declared.error.TreeError.{TreeError}
+use Rattle.sentry_tables.specs.declared.error.TreeError.TheVariants.{Misfit, Memory}
+use Rattle.sentry_tables.specs.declared.way.Way.TheVariants.{Same, Normal}
 use Rattle.sentry_records.specs.LogAttribute.{value_key, is_integer, text_value, integer_value, truth_value, typed_value, attribute_of, compacted, attribute_form, type_word, attribute_members, attribute_tree, attribute_norm, attribute_scalar, attribute_kind}
 
 -- ---- the form

@@ -7,9 +7,9 @@ use Rattle.std.specs.String.{string_eq}
 use Rattle.uuid.specs.contracts.UuidPartialEq.TheImpl.{eq-value as of_ids}
 use Rattle.uuid.specs.declared.Uuid.{Uuid}
 use Rattle.sentry_tables.specs.Cell.{Cell, Cells, absent, octets, fields, no_cells, cell}
-use Rattle.sentry_members.specs.Cells.{text_cell, natural_cell}
-use Rattle.sentry_members.specs.Spelling.{word_cell}
-use Rattle.sentry_members.proofs.Equal.{texts_decide, options_decide}
+use Rattle.sentry_tables.specs.Cells.{text_cell, natural_cell}
+use Rattle.sentry_tables.specs.Spelling.{word_cell}
+use Rattle.sentry_tables.proofs.Equal.{texts_decide, options_decide}
 use Rattle.sentry_identifiers.specs.HexIdTree.{trace_id_cell}
 use Rattle.sentry_identifiers.specs.contracts.trace_id.TraceIdPartialEq.TheImpl.{eq-value as of_traces}
 use Rattle.sentry_identifiers.specs.declared.trace_id.TraceId.{TraceId}

@@ -2,11 +2,11 @@
 use Rattle.std.proofs.Common.{◌≡◌, ℕ, List, refl, ap}
 use Rattle.serde_json.specs.Data.{no_members}
 use Rattle.sentry_tables.specs.Cell.{text, fields, no_cells, cell}
-use Rattle.sentry_members.specs.Cells.{natural_cell}
-use Rattle.sentry_members.specs.Made.{made}
-use Rattle.sentry_members.specs.Spelling.{word_cell}
-use Rattle.sentry_members.specs.declared.way.Way.{Way}
-use Rattle.sentry_members.proofs.Ways.{unchanged}
+use Rattle.sentry_tables.specs.Cells.{natural_cell}
+use Rattle.sentry_tables.specs.Made.{made}
+use Rattle.sentry_tables.specs.Spelling.{word_cell}
+use Rattle.sentry_tables.specs.declared.way.Way.{Way}
+use Rattle.sentry_tables.proofs.Ways.{unchanged}
 use Rattle.sentry_words.specs.MonitorIntervalUnit.{interval_unit_word}
 use Rattle.sentry_words.specs.declared.monitor_interval_unit.MonitorIntervalUnit.{MonitorIntervalUnit}
 use Rattle.sentry_records.specs.Monitors.{crontab_fields, crontab_kind, interval_fields, interval_kind}

@@ -12,9 +12,9 @@ use Rattle.std.specs.contracts.net.ip_addr.IpAddrPartialEq.TheImpl.{eq-value as 
 use Rattle.std.specs.declared.borrow.CowStr.{CowStr}
 use Rattle.std.specs.declared.net.ip_addr.IpAddr.{IpAddr}
 use Rattle.sentry_tables.specs.Cell.{text, truth}
-use Rattle.sentry_members.specs.Cells.{text_cell, cow_cell, natural_cell, option_cell}
-use Rattle.sentry_members.specs.Spelling.{word_cell}
-use Rattle.sentry_members.proofs.Equal.{texts_decide, options_decide, lists_decide}
+use Rattle.sentry_tables.specs.Cells.{text_cell, cow_cell, natural_cell, option_cell}
+use Rattle.sentry_tables.specs.Spelling.{word_cell}
+use Rattle.sentry_tables.proofs.Equal.{texts_decide, options_decide, lists_decide}
 use Rattle.sentry_text.specs.Ip.{IsStoredIp, ip_of}
 use Rattle.sentry_text.specs.IpTree.{ip_cell, ip_cell_text}
 use Rattle.sentry_text.proofs.Ips.{written_ip}

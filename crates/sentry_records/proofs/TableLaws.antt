@@ -9,9 +9,9 @@ use Rattle.sentry_tables.specs.Fields.{rows_of}
 use Rattle.sentry_tables.specs.Kind.{at_once, default, always, draw, may_strict, Kind, scalar, list}
 use Rattle.sentry_tables.specs.Laws.{HasLaws}
 use Rattle.sentry_tables.specs.Lawful.{ScalarLaws, IsLawful, RuleLaws}
-use Rattle.sentry_members.specs.Cells.{natural_cell, empty_list}
-use Rattle.sentry_members.specs.Kinds.{unsigned_kind}
-use Rattle.sentry_members.proofs.Spellings.{spelled_laws, spelled_refuses_null}
+use Rattle.sentry_tables.specs.Cells.{natural_cell, empty_list}
+use Rattle.sentry_tables.specs.Kinds.{unsigned_kind}
+use Rattle.sentry_tables.proofs.Spellings.{spelled_laws, spelled_refuses_null}
 use Rattle.sentry_text.proofs.IpTrees.{ip_lawful}
 use Rattle.sentry_identifiers.specs.HexIdTree.{hex_id_spelling, span_id_kind, trace_id_kind}
 use Rattle.sentry_identifiers.specs.Uuids.{IsRandomUuid, hyphenated, hyphenated_kind}

@@ -8,9 +8,9 @@ use Rattle.sentry_tables.specs.Kind.{Scalar, Kind, scalar, tag}
 use Rattle.sentry_tables.specs.Basic.{IsTree, IsWholeTree}
 use Rattle.serde_json.specs.View.{view}
 use Rattle.serde_json.specs.declared.value.Value.{Value}
-use Rattle.sentry_members.specs.Cells.{tree_cell}
-use Rattle.sentry_members.specs.Reading.{Only}
-use Rattle.sentry_members.specs.declared.error.TreeError.{TreeError}
+use Rattle.sentry_tables.specs.Cells.{tree_cell}
+use Rattle.sentry_tables.specs.Reading.{Only}
+use Rattle.sentry_tables.specs.declared.error.TreeError.{TreeError}
 use Rattle.sentry_words.specs.Lookup.{lookup}
 use Rattle.sentry_records.specs.declared.log_attribute.LogAttribute.{LogAttribute}
 

@@ -4,9 +4,9 @@ use Rattle.sentry_tables.specs.Cell.{Cell}
 use Rattle.sentry_tables.specs.Fields.{Field, field, rows_of, table_of, fields_by}
 use Rattle.sentry_tables.specs.Kind.{must, may, default, Kind, map, keys}
 use Rattle.sentry_tables.specs.Written.{in_order}
-use Rattle.sentry_members.specs.Cells.{text_cell, natural_cell, option_cell, map_cell, empty_map}
-use Rattle.sentry_members.specs.Kinds.{text_kind}
-use Rattle.sentry_members.specs.Spelling.{word_cell}
+use Rattle.sentry_tables.specs.Cells.{text_cell, natural_cell, option_cell, map_cell, empty_map}
+use Rattle.sentry_tables.specs.Kinds.{text_kind}
+use Rattle.sentry_tables.specs.Spelling.{word_cell}
 use Rattle.sentry_identifiers.specs.HexIdTree.{trace_id_cell, trace_id_kind}
 use Rattle.sentry_moments.specs.MomentForms.{seconds_kind}
 use Rattle.sentry_moments.specs.Moments.{moment_cell}

@@ -6,9 +6,9 @@ use Rattle.sentry_tables.specs.Cell.{Cell, octets, text, choice, fields, no_cell
 use Rattle.sentry_tables.specs.Fields.{Field, field, rows_of, table_of, fields_by}
 use Rattle.sentry_tables.specs.Kind.{must, may, ignored, Kind, tagged, Cases, no_cases, case, keys}
 use Rattle.sentry_tables.specs.Written.{in_order}
-use Rattle.sentry_members.specs.Cells.{text_cell, natural_cell, option_cell}
-use Rattle.sentry_members.specs.Kinds.{text_kind, unsigned_kind}
-use Rattle.sentry_members.specs.Spelling.{word_cell}
+use Rattle.sentry_tables.specs.Cells.{text_cell, natural_cell, option_cell}
+use Rattle.sentry_tables.specs.Kinds.{text_kind, unsigned_kind}
+use Rattle.sentry_tables.specs.Spelling.{word_cell}
 use Rattle.sentry_identifiers.specs.Uuids.{simple_kind}
 use Rattle.sentry_words.specs.MonitorCheckInStatus.{check_in_status_kind, check_in_status_word}
 use Rattle.sentry_words.specs.MonitorIntervalUnit.{interval_unit_kind, interval_unit_word}

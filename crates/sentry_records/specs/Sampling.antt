@@ -5,8 +5,8 @@ use Rattle.sentry_tables.specs.Cell.{Cell, Cells, present, fields, no_cells, cel
 use Rattle.sentry_tables.specs.Fields.{Field, field, rows_of, table_of, fields_by}
 use Rattle.sentry_tables.specs.Kind.{may, Kind, keys}
 use Rattle.sentry_tables.specs.Written.{in_order}
-use Rattle.sentry_members.specs.Cells.{text_cell, option_cell}
-use Rattle.sentry_members.specs.Kinds.{text_kind}
+use Rattle.sentry_tables.specs.Cells.{text_cell, option_cell}
+use Rattle.sentry_tables.specs.Kinds.{text_kind}
 use Rattle.sentry_identifiers.specs.HexIdTree.{trace_id_cell, trace_id_kind}
 use Rattle.sentry_moments.specs.SamplingTexts.{sample_rand_cell, sample_rand_kind, sample_rate_cell, sample_rate_kind}
 use Rattle.sentry_text.specs.ProjectTree.{organization_cell, organization_text_kind}

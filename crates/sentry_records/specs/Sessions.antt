@@ -4,9 +4,9 @@ use Rattle.sentry_tables.specs.Cell.{Cell, octets, truth}
 use Rattle.sentry_tables.specs.Fields.{Field, field, rows_of, table_of, fields_by}
 use Rattle.sentry_tables.specs.Kind.{must, may, may_null, may_strict, default, always, draw, at_once, Kind, list, keys}
 use Rattle.sentry_tables.specs.Written.{in_order}
-use Rattle.sentry_members.specs.Cells.{text_cell, cow_cell, natural_cell, option_cell, list_cell, empty_list}
-use Rattle.sentry_members.specs.Kinds.{text_kind, truth_kind, unsigned_kind}
-use Rattle.sentry_members.specs.Spelling.{word_cell}
+use Rattle.sentry_tables.specs.Cells.{text_cell, cow_cell, natural_cell, option_cell, list_cell, empty_list}
+use Rattle.sentry_tables.specs.Kinds.{text_kind, truth_kind, unsigned_kind}
+use Rattle.sentry_tables.specs.Spelling.{word_cell}
 use Rattle.sentry_text.specs.Ip.{IsStoredIp}
 use Rattle.sentry_text.specs.IpTree.{ip_cell, ip_kind}
 use Rattle.sentry_identifiers.specs.Uuids.{IsRandomUuid, hyphenated_kind}

@@ -4,8 +4,8 @@ use Rattle.sentry_tables.specs.Cell.{Cell, octets}
 use Rattle.sentry_tables.specs.Fields.{Field, field, rows_of, table_of, fields_by}
 use Rattle.sentry_tables.specs.Kind.{must, may, Kind, keys}
 use Rattle.sentry_tables.specs.Written.{in_order}
-use Rattle.sentry_members.specs.Cells.{text_cell, option_cell}
-use Rattle.sentry_members.specs.Kinds.{text_kind}
+use Rattle.sentry_tables.specs.Cells.{text_cell, option_cell}
+use Rattle.sentry_tables.specs.Kinds.{text_kind}
 use Rattle.sentry_identifiers.specs.Uuids.{simple_kind}
 use Rattle.sentry_records.specs.declared.user_report.UserReport.{UserReport}
 

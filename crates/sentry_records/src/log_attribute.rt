@@ -5,19 +5,19 @@ ghost use Rattle.serde_json.specs.Data.{number as number_data, string as string_
 ghost use Rattle.serde_json.specs.Find.{as_i64};
 ghost use Rattle.serde_json.specs.View.{view, number_view};
 ghost use Rattle.sentry_tables.specs.Kind.{tag};
-ghost use Rattle.sentry_members.specs.Written.{WritesMembers};
+ghost use Rattle.sentry_tables.specs.Writes.{WritesMembers};
 ghost use Rattle.sentry_records.specs.LogAttribute.{attribute_cell, attribute_form, attribute_kind, attribute_members, compacted, value_key, ReadsTyped};
 
 use json::Writer;
 use sentry_json::Node;
-use sentry_members::spelled::print_into;
-use sentry_members::tree::has_float;
-use sentry_members::{FromTree, Member, Own, Room, TreeError, Way, text_of};
 use sentry_rows::Sink;
 use sentry_rows::table::leave;
 use sentry_rows::tagged::tag;
 use sentry_rows::text::TextRows;
 use sentry_rows::tree::TreeRows;
+use sentry_tables::spelled::print_into;
+use sentry_tables::tree::has_float;
+use sentry_tables::{FromTree, Member, Own, Room, TreeError, Way, text_of};
 use serde_json::{Number, Value};
 use std::alloc::{AllocError, Global};
 use std::str;
@@ -147,7 +147,7 @@ impl Member for LogAttribute {
         false
     }
 
-    #[tactic(auto, using(sentry_members::proofs::SoundTrees::sound_is_stored), unfolding(crate::specs::LogAttribute::attribute_kind))]
+    #[tactic(auto, using(sentry_tables::proofs::SoundTrees::sound_is_stored), unfolding(crate::specs::LogAttribute::attribute_kind))]
     fn is_plain(&self) -> bool {
         !has_float(&self.0)
     }

@@ -5,8 +5,8 @@ ghost use Rattle.sentry_records.specs.Monitors.{check_in_fields, check_in_in_ord
 use crate::monitor_config::MonitorConfig;
 use sentry_identifiers::Simple;
 use sentry_json::Node;
-use sentry_members::{Formed, Member};
 use sentry_rows::{AsTable, Copier, CopyTable, ReadTable, Reader, Sink, Table};
+use sentry_tables::{Formed, Member};
 use sentry_words::MonitorCheckInStatus;
 use std::alloc::AllocError;
 use uuid::Uuid;

@@ -4,8 +4,8 @@ ghost use Rattle.sentry_records.specs.Monitors.{config_fields, config_in_order};
 
 use crate::monitor_schedule::MonitorSchedule;
 use sentry_json::Node;
-use sentry_members::{Formed, Member};
 use sentry_rows::{AsTable, Copier, CopyTable, ReadTable, Reader, Sink, Table};
+use sentry_tables::{Formed, Member};
 use std::alloc::AllocError;
 
 /// A monitor configuration, which a check-in may set (upsert).

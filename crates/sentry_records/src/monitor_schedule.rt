@@ -5,8 +5,8 @@ ghost use Rattle.sentry_records.specs.Monitors.{schedule_cases, schedule_cell};
 
 use crate::schedule_rows::{CrontabRows, IntervalRows, LentCrontab};
 use sentry_json::Node;
-use sentry_members::{Formed, FromTree, Member, TreeError, Way};
 use sentry_rows::{AsCase, CaseSink, Cased, ReadCased};
+use sentry_tables::{Formed, FromTree, Member, TreeError, Way};
 use sentry_text::{CrontabParseError, validate};
 use sentry_words::MonitorIntervalUnit;
 use std::alloc::{AllocError, Global};

@@ -4,9 +4,9 @@ ghost use Rattle.sentry_records.specs.Sampling.{sampling_fields, sampling_in_ord
 
 use sentry_identifiers::TraceId;
 use sentry_json::Node;
-use sentry_members::{Formed, Member};
 use sentry_moments::{SampleRand, SampleRate};
 use sentry_rows::{AsTable, Copier, CopyTable, ReadTable, Reader, Sink, Table};
+use sentry_tables::{Formed, Member};
 use sentry_text::{OrganizationId, OrganizationText};
 use sentry_words::Sampled;
 use std::alloc::{AllocError, Global};
@@ -33,7 +33,7 @@ impl DynamicSamplingContext {
     ghost use Rattle.std.specs.Prelude.{◌≡◌, IfOk, codes};
     ghost use Rattle.sentry_tables.specs.Defaults.{IsDefault};
     ghost use Rattle.sentry_tables.specs.Cell.{text};
-    ghost use Rattle.sentry_members.specs.Cells.{text_cell, natural_cell, option_cell};
+    ghost use Rattle.sentry_tables.specs.Cells.{text_cell, natural_cell, option_cell};
     ghost use Rattle.sentry_rows.specs.Parts.{part_at};
     ghost use Rattle.sentry_identifiers.specs.HexIdTree.{trace_id_cell};
     ghost use Rattle.sentry_moments.specs.SamplingTexts.{sample_rand_cell};

@@ -3,8 +3,8 @@
 ghost use Rattle.sentry_records.specs.Monitors.{crontab_fields, crontab_in_order, interval_fields, interval_in_order, lent_fields, lent_in_order};
 
 use sentry_json::Node;
-use sentry_members::Formed;
 use sentry_rows::{AsTable, Copier, CopyTable, ReadTable, Reader, Sink, Table};
+use sentry_tables::Formed;
 use sentry_words::MonitorIntervalUnit;
 use std::alloc::AllocError;
 

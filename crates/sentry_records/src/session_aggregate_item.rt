@@ -4,9 +4,9 @@ ghost use Rattle.sentry_records.specs.Sessions.{group_fields, group_in_order};
 
 use crate::stand_in::epoch;
 use sentry_json::Node;
-use sentry_members::{Formed, Member};
 use sentry_moments::{Moment, Rfc3339};
 use sentry_rows::{AsTable, Copier, CopyTable, ReadTable, Reader, Sink, Table};
+use sentry_tables::{Formed, Member};
 use std::alloc::AllocError;
 
 /// A group in session aggregates: the sessions of one user that started in one minute, counted by

@@ -5,8 +5,8 @@ ghost use Rattle.sentry_records.specs.Sessions.{groups_fields, groups_in_order};
 use crate::session_aggregate_item::SessionAggregateItem;
 use crate::session_attributes::SessionAttributes;
 use sentry_json::Node;
-use sentry_members::{Formed, Member};
 use sentry_rows::{AsTable, Copier, CopyTable, ReadTable, Reader, Sink, Table};
+use sentry_tables::{Formed, Member};
 use std::alloc::AllocError;
 
 /// Session aggregates: counts of sessions, in place of an update for each session.

@@ -3,8 +3,8 @@
 ghost use Rattle.sentry_records.specs.Sessions.{attributes_fields, attributes_in_order};
 
 use sentry_json::Node;
-use sentry_members::{Formed, Member};
 use sentry_rows::{AsTable, Copier, CopyTable, ReadTable, Reader, Sink, Table};
+use sentry_tables::{Formed, Member};
 use sentry_text::IpText;
 use std::alloc::AllocError;
 use std::borrow::CowStr;

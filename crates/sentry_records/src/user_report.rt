@@ -4,8 +4,8 @@ ghost use Rattle.sentry_records.specs.UserReports.{user_report_fields, user_repo
 
 use sentry_identifiers::Simple;
 use sentry_json::Node;
-use sentry_members::{Formed, Member};
 use sentry_rows::{AsTable, Copier, CopyTable, ReadTable, Reader, Sink, Table};
+use sentry_tables::{Formed, Member};
 use std::alloc::AllocError;
 use uuid::Uuid;
 

@@ -7,7 +7,7 @@ use Rattle.sentry_tables.specs.Basic.{unsigned_scalar}
 use Rattle.sentry_tables.specs.Fields.{rows_of}
 use Rattle.sentry_tables.specs.Laws.{HasLaws}
 use Rattle.sentry_tables.specs.Lawful.{ScalarLaws, IsLawful}
-use Rattle.sentry_members.proofs.Spellings.{spelled_laws}
+use Rattle.sentry_tables.proofs.Spellings.{spelled_laws}
 use Rattle.sentry_moments.proofs.MomentSpellings.{seconds_laws, seconds_at_once}
 use Rattle.sentry_reports.specs.Categories.{category_kind, category_spelling, reason_kind, reason_spelling}
 use Rattle.sentry_reports.specs.ItemTable.{item_fields, item_kind}

@@ -3,8 +3,8 @@ use Rattle.std.proofs.Common.{◌≡◌, Some, refl, sym, ap, ◌∙◌}
 use Rattle.std.proofs.lemmas.Option.{same_Some}
 use Rattle.std.specs.Prelude.{slice_get}
 use Rattle.sentry_tables.specs.Laws.{HasLaws}
-use Rattle.sentry_members.specs.Spelling.{SpellingLaws}
-use Rattle.sentry_members.proofs.Spellings.{spelled_has_laws}
+use Rattle.sentry_tables.specs.Spelling.{SpellingLaws}
+use Rattle.sentry_tables.proofs.Spellings.{spelled_has_laws}
 use Rattle.sentry_words.proofs.Enumerations.{ReadsItsWords, words_laws}
 use Rattle.sentry_reports.specs.declared.category.Category.{Category}
 use Rattle.sentry_reports.specs.declared.category.Category.TheVariants as category

@@ -4,9 +4,9 @@ use Rattle.sentry_tables.specs.Cell.{Cell}
 use Rattle.sentry_tables.specs.Fields.{Field, field, rows_of, table_of, fields_by}
 use Rattle.sentry_tables.specs.Kind.{must, Kind, keys}
 use Rattle.sentry_tables.specs.Written.{in_order}
-use Rattle.sentry_members.specs.Cells.{natural_cell}
-use Rattle.sentry_members.specs.Kinds.{unsigned_kind}
-use Rattle.sentry_members.specs.Spelling.{word_cell}
+use Rattle.sentry_tables.specs.Cells.{natural_cell}
+use Rattle.sentry_tables.specs.Kinds.{unsigned_kind}
+use Rattle.sentry_tables.specs.Spelling.{word_cell}
 use Rattle.sentry_reports.specs.Categories.{category_kind, category_word, reason_kind, reason_word}
 use Rattle.sentry_reports.specs.declared.item.Item.{Item}
 

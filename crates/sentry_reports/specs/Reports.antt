@@ -4,7 +4,7 @@ use Rattle.sentry_tables.specs.Cell.{Cell}
 use Rattle.sentry_tables.specs.Fields.{Field, field, rows_of, table_of, fields_by}
 use Rattle.sentry_tables.specs.Kind.{must, at_once, Kind, list, keys}
 use Rattle.sentry_tables.specs.Written.{in_order}
-use Rattle.sentry_members.specs.Cells.{list_cell}
+use Rattle.sentry_tables.specs.Cells.{list_cell}
 use Rattle.sentry_moments.specs.MomentForms.{seconds_kind}
 use Rattle.sentry_moments.specs.Moments.{moment_cell}
 use Rattle.sentry_moments.specs.declared.moment.Moment.{Moment}

@@ -3,7 +3,7 @@
 ghost use Rattle.std.specs.Prelude.{◌≡◌};
 ghost use Rattle.sentry_reports.specs.Categories.{categories, category_in_place, category_index, category_of, category_word};
 
-use sentry_members::Word;
+use sentry_tables::Word;
 use sentry_words::IndexedEnum;
 
 /// A data category: the type of data that a client report counts as lost.

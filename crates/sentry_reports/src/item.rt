@@ -5,8 +5,8 @@ ghost use Rattle.sentry_reports.specs.ItemTable.{item_fields, item_in_order};
 use crate::category::Category;
 use crate::reason::Reason;
 use sentry_json::Node;
-use sentry_members::Formed;
 use sentry_rows::{AsTable, Copier, CopyTable, ReadTable, Reader, Sink, Table};
+use sentry_tables::Formed;
 use std::alloc::AllocError;
 
 /// An item of a client report: the quantity lost in a category for a reason.

@@ -3,7 +3,7 @@
 ghost use Rattle.std.specs.Prelude.{◌≡◌};
 ghost use Rattle.sentry_reports.specs.Categories.{reasons, reason_in_place, reason_index, reason_of, reason_word};
 
-use sentry_members::Word;
+use sentry_tables::Word;
 use sentry_words::IndexedEnum;
 
 /// A discard reason: why data was lost.

@@ -8,9 +8,9 @@ use crate::kept_sums::sums_of;
 use crate::report::Report;
 use rand_core::Rng;
 use sentry_json::Node;
-use sentry_members::Formed;
 use sentry_moments::{Moment, Seconds};
 use sentry_rows::{AsTable, Copier, CopyTable, ReadTableAt, Reader, Sink, Table};
+use sentry_tables::Formed;
 use std::alloc::AllocError;
 use std::marker::Model;
 

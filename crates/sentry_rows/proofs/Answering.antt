@@ -6,10 +6,10 @@ use Rattle.serde_json.specs.Find.{as_object}
 use Rattle.sentry_tables.specs.Cell.{Cell, fields, Cells, no_cells, cell}
 use Rattle.sentry_tables.specs.Kind.{Rule, Kind, table, Rows, no_rows, row, Other, keys, others}
 use Rattle.sentry_tables.specs.Shows.{RowsShow, members_in}
-use Rattle.sentry_members.specs.Reading.{Shown, Refused, RowRefused, RowShown, ShownAt, RefusedAt, RowRefusedAt, RowShownAt, Only}
+use Rattle.sentry_tables.specs.Reading.{Shown, Refused, RowRefused, RowShown, ShownAt, RefusedAt, RowRefusedAt, RowShownAt, Only}
 use Rattle.sentry_rows.specs.Fields.{RowsShown}
-use Rattle.sentry_members.specs.declared.error.TreeError.{TreeError}
-use Rattle.sentry_members.specs.declared.error.TreeError.TheVariants.{Misfit, Memory}
+use Rattle.sentry_tables.specs.declared.error.TreeError.{TreeError}
+use Rattle.sentry_tables.specs.declared.error.TreeError.TheVariants.{Misfit, Memory}
 
 pub refused_now : (now : Cell) (key : List ℕ) (r : Rule) (K : Kind) (d : Data) → RowRefused key r K d → RowRefusedAt now key r K d
 unfolding RowRefusedAt RowRefused

@@ -10,16 +10,16 @@ use Rattle.sentry_tables.specs.Cell.{Cell, mapping, Entries, same_cell}
 use Rattle.sentry_tables.specs.Kind.{map, tagged, tagged_map, Cases, words, tag}
 use Rattle.sentry_tables.specs.Norm.{norm}
 use Rattle.sentry_tables.specs.Shows.{IsMapping, MembersShow, word_at, word_of}
-use Rattle.sentry_members.proofs.ListsShown.{shown_nowhere}
-use Rattle.sentry_members.proofs.Sorted.{MapEntry}
-use Rattle.sentry_members.specs.Cells.{entries, map_cell, empty_map}
-use Rattle.sentry_members.specs.Made.{made}
-use Rattle.sentry_members.specs.Reading.{ShownAt, RefusedAt, Only}
-use Rattle.sentry_members.specs.Written.{written}
-use Rattle.sentry_members.specs.declared.way.Way.{Way}
-use Rattle.sentry_members.specs.declared.way.Way.TheVariants.{Same, Normal}
-use Rattle.sentry_members.specs.declared.error.TreeError.{TreeError}
-use Rattle.sentry_members.specs.declared.error.TreeError.TheVariants.{Misfit, Memory}
+use Rattle.sentry_tables.proofs.ListsShown.{shown_nowhere}
+use Rattle.sentry_tables.proofs.Sorted.{MapEntry}
+use Rattle.sentry_tables.specs.Cells.{entries, map_cell, empty_map}
+use Rattle.sentry_tables.specs.Made.{made}
+use Rattle.sentry_tables.specs.Reading.{ShownAt, RefusedAt, Only}
+use Rattle.sentry_tables.specs.Writes.{written}
+use Rattle.sentry_tables.specs.declared.way.Way.{Way}
+use Rattle.sentry_tables.specs.declared.way.Way.TheVariants.{Same, Normal}
+use Rattle.sentry_tables.specs.declared.error.TreeError.{TreeError}
+use Rattle.sentry_tables.specs.declared.error.TreeError.TheVariants.{Misfit, Memory}
 use Rattle.sentry_writing.proofs.Others.{is_key}
 use Rattle.sentry_rows.specs.Cased.{ReadsCaseAt, ShowsEntry, EntryShownAt, EntryRefusedAt, ReadsEntryAt}
 use Rattle.sentry_rows.proofs.CasesRead.{shown_by_word, refused_by_word}

@@ -10,10 +10,10 @@ use Rattle.sentry_tables.specs.Cell.{Cell, choice, fields, no_cells}
 use Rattle.sentry_tables.specs.Kind.{table, tagged, no_rows, Cases, no_cases, case}
 use Rattle.sentry_tables.specs.Meets.{IsPlain, IsStored, CaseMeets, plain_demand, stored_demand}
 use Rattle.sentry_tables.specs.Norm.{case_norm}
-use Rattle.sentry_members.specs.Made.{made}
-use Rattle.sentry_members.specs.Written.{written, WritesTree}
-use Rattle.sentry_members.specs.declared.way.Way.{Way}
-use Rattle.sentry_members.specs.declared.way.Way.TheVariants.{Same, Normal}
+use Rattle.sentry_tables.specs.Made.{made}
+use Rattle.sentry_tables.specs.Writes.{written, WritesTree}
+use Rattle.sentry_tables.specs.declared.way.Way.{Way}
+use Rattle.sentry_tables.specs.declared.way.Way.TheVariants.{Same, Normal}
 use Rattle.sentry_writing.specs.Given.{case_written}
 use Rattle.sentry_rows.specs.Cased.{but_tag, CaseTaken, TakesCase, CaseMade, MakesCase}
 use Rattle.sentry_rows.specs.Taken.{IsCaseTree, WritesCase, TestsCase}

@@ -9,9 +9,9 @@ use Rattle.sentry_json.proofs.Beside.{among}
 use Rattle.sentry_tables.specs.Cell.{Cell, choice, fields, no_cells}
 use Rattle.sentry_tables.specs.Kind.{table, tagged, no_rows, Cases, no_cases, case, words, tag, without}
 use Rattle.sentry_tables.specs.Shows.{Shows, CaseShows, is_object, IsChoice, word_of, members_in}
-use Rattle.sentry_members.specs.Reading.{Shown, Refused, ShownAt, RefusedAt, Only}
-use Rattle.sentry_members.specs.declared.error.TreeError.{TreeError}
-use Rattle.sentry_members.specs.declared.error.TreeError.TheVariants.{Misfit, Memory}
+use Rattle.sentry_tables.specs.Reading.{Shown, Refused, ShownAt, RefusedAt, Only}
+use Rattle.sentry_tables.specs.declared.error.TreeError.{TreeError}
+use Rattle.sentry_tables.specs.declared.error.TreeError.TheVariants.{Misfit, Memory}
 use Rattle.sentry_rows.proofs.Answering.{shows_table}
 use Rattle.sentry_writing.proofs.Others.{is_key}
 use Rattle.sentry_rows.specs.Cased.{but_tag, case_kind, CaseShown, CaseRefused, CaseShownAt, CaseRefusedAt}

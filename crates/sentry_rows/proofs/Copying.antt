@@ -7,9 +7,9 @@ use Rattle.sentry_tables.specs.Cell.{Cell, cell, fields}
 use Rattle.sentry_tables.specs.Fields.{Field, rows_of, cells_by, table_of, fields_by}
 use Rattle.sentry_tables.specs.Kind.{Rule, must, may, may_null, may_strict, default, always, draw, at_once, Kind, table, Other, ignored}
 use Rattle.sentry_tables.specs.Norm.{norm, is_null_of, row_norm, rows_norm}
-use Rattle.sentry_members.specs.Made.{made, row_made}
-use Rattle.sentry_members.specs.declared.way.Way.{Way}
-use Rattle.sentry_members.specs.declared.way.Way.TheVariants.{Same, Normal}
+use Rattle.sentry_tables.specs.Made.{made, row_made}
+use Rattle.sentry_tables.specs.declared.way.Way.{Way}
+use Rattle.sentry_tables.specs.declared.way.Way.TheVariants.{Same, Normal}
 use Rattle.sentry_rows.specs.declared.copier.Copier.{Copier}
 use Rattle.sentry_rows.specs.Copied.{copied_by, CopiesField, CopiesFields, CopiesOthers, CopiesKept}
 

@@ -7,9 +7,9 @@ use Rattle.sentry_tables.specs.Cell.{Cell, Cells, no_cells, cell, fields}
 use Rattle.sentry_tables.specs.Fields.{Field, rows_of, cells_by, table_of, fields_by}
 use Rattle.sentry_tables.specs.Kind.{Rule, must, may, may_null, default, always, Kind, Rows, Other, ignored, kept, table, keys, others, without}
 use Rattle.sentry_tables.specs.Shows.{Shows, RowShows, RowsShow, AreFields, members_in}
-use Rattle.sentry_members.specs.Reading.{Shown, RowShown, RowRefused, Reads, ReadsRow, Refused, RowShownAt, RowRefusedAt, ReadsAt, ReadsRowAt, ShownAt, RefusedAt}
-use Rattle.sentry_members.specs.declared.error.TreeError.{TreeError}
-use Rattle.sentry_members.specs.declared.error.TreeError.TheVariants.{Misfit, Memory}
+use Rattle.sentry_tables.specs.Reading.{Shown, RowShown, RowRefused, Reads, ReadsRow, Refused, RowShownAt, RowRefusedAt, ReadsAt, ReadsRowAt, ShownAt, RefusedAt}
+use Rattle.sentry_tables.specs.declared.error.TreeError.{TreeError}
+use Rattle.sentry_tables.specs.declared.error.TreeError.TheVariants.{Misfit, Memory}
 use Rattle.sentry_json.specs.Nodes.{tree_of}
 use Rattle.sentry_rows.specs.declared.reader.Reader.{Reader}
 use Rattle.sentry_rows.specs.Fields.{Keeps, Ends, ReadsField, ReadsFields, ReadsOthers, ReadsKept, ReadsFieldAt, ReadsFieldsAt, read_of}

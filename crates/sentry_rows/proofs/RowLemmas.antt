@@ -7,9 +7,9 @@ use Rattle.serde_json.specs.Find.{get, as_null, as_object}
 use Rattle.sentry_tables.specs.Cell.{Cell, absent, present}
 use Rattle.sentry_tables.specs.Kind.{must, may, may_strict, default, draw, at_once, Kind}
 use Rattle.sentry_tables.specs.Shows.{Shows, unless_null_at, IsPresent}
-use Rattle.sentry_members.specs.Reading.{Shown, Refused, RowShown, RowRefused, Reads, ReadsRow, ShownAt, RefusedAt, RowShownAt, RowRefusedAt, ReadsAt, ReadsRowAt, Only}
-use Rattle.sentry_members.specs.declared.error.TreeError.{TreeError}
-use Rattle.sentry_members.specs.declared.error.TreeError.TheVariants.{Misfit, Memory}
+use Rattle.sentry_tables.specs.Reading.{Shown, Refused, RowShown, RowRefused, Reads, ReadsRow, ShownAt, RefusedAt, RowShownAt, RowRefusedAt, ReadsAt, ReadsRowAt, Only}
+use Rattle.sentry_tables.specs.declared.error.TreeError.{TreeError}
+use Rattle.sentry_tables.specs.declared.error.TreeError.TheVariants.{Misfit, Memory}
 
 is_null : (e : Data) → is_some (as_null e) ≡ true → unless_null_at e ≡ None
 is_null null h = refl

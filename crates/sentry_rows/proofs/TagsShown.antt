@@ -8,9 +8,9 @@ use Rattle.serde_json.specs.Find.{get, as_str}
 use Rattle.sentry_tables.specs.Cell.{Cell, choice}
 use Rattle.sentry_tables.specs.Kind.{table, tagged, Rows, Other, Cases, no_cases, case, keys, others, words, has_key, tag}
 use Rattle.sentry_tables.specs.Shows.{RowsShow, CaseShows, AreFields, IsChoice, members_in, word_of}
-use Rattle.sentry_members.specs.Reading.{Shown, Refused, ShownAt, RefusedAt, Only}
-use Rattle.sentry_members.specs.declared.error.TreeError.{TreeError}
-use Rattle.sentry_members.specs.declared.error.TreeError.TheVariants.{Misfit, Memory}
+use Rattle.sentry_tables.specs.Reading.{Shown, Refused, ShownAt, RefusedAt, Only}
+use Rattle.sentry_tables.specs.declared.error.TreeError.{TreeError}
+use Rattle.sentry_tables.specs.declared.error.TreeError.TheVariants.{Misfit, Memory}
 
 pub word_there : (d e : Data) → get tag d ≡ Some e → as_str e ≡ word_of None d
 word_there d e is = rw is refl

@@ -4,10 +4,10 @@ use Rattle.serde_json.specs.Data.{Data, Members}
 use Rattle.sentry_tables.specs.Cell.{Cell, Cells}
 use Rattle.sentry_tables.specs.Kind.{Kind, table, tagged, Rows, Other, kept, Cases, no_cases, case, words, tag}
 use Rattle.sentry_tables.specs.Shows.{AreFields, IsChoice, CaseShows, TaggedShows, word_at}
-use Rattle.sentry_members.specs.Made.{made}
-use Rattle.sentry_members.specs.Reading.{Shown, Refused, ShownAt, RefusedAt, Only}
-use Rattle.sentry_members.specs.declared.way.Way.{Way}
-use Rattle.sentry_members.specs.declared.error.TreeError.{TreeError}
+use Rattle.sentry_tables.specs.Made.{made}
+use Rattle.sentry_tables.specs.Reading.{Shown, Refused, ShownAt, RefusedAt, Only}
+use Rattle.sentry_tables.specs.declared.way.Way.{Way}
+use Rattle.sentry_tables.specs.declared.error.TreeError.{TreeError}
 
 -- members that no row names are kept, but for the tag
 abbrev pub but_tag : Other

@@ -4,7 +4,7 @@ use Rattle.serde_json.specs.Data.{Members}
 use Rattle.sentry_tables.specs.Cell.{Cell}
 use Rattle.sentry_tables.specs.Fields.{Field}
 use Rattle.sentry_tables.specs.Kind.{Rule, must, may, may_null, may_strict, default, always, draw, at_once, Kind}
-use Rattle.sentry_members.specs.Made.{row_made}
+use Rattle.sentry_tables.specs.Made.{row_made}
 use Rattle.sentry_rows.specs.declared.copier.Copier.{Copier}
 
 -- a rule by which a row has the same normal form: of those that have a value, and of those that may have none

@@ -6,9 +6,9 @@ use Rattle.sentry_tables.specs.Cell.{Cell, Cells, no_cells, cell}
 use Rattle.sentry_tables.specs.Fields.{Field}
 use Rattle.sentry_tables.specs.Kind.{Rule, Kind, Rows, no_rows, row, without}
 use Rattle.sentry_tables.specs.Shows.{members_in}
-use Rattle.sentry_members.specs.Reading.{RowShown, RowRefused, RowShownAt, RowRefusedAt}
-use Rattle.sentry_members.specs.declared.error.TreeError.{TreeError}
-use Rattle.sentry_members.specs.declared.error.TreeError.TheVariants.{Misfit}
+use Rattle.sentry_tables.specs.Reading.{RowShown, RowRefused, RowShownAt, RowRefusedAt}
+use Rattle.sentry_tables.specs.declared.error.TreeError.{TreeError}
+use Rattle.sentry_tables.specs.declared.error.TreeError.TheVariants.{Misfit}
 use Rattle.sentry_rows.specs.declared.reader.Reader.{Reader}
 
 -- the tree of a reader, whatever holds it

@@ -9,7 +9,7 @@ use Rattle.serde_json.specs.declared.value.Value.{Value}
 use Rattle.sentry_tables.specs.Cell.{Cells}
 use Rattle.sentry_tables.specs.Kind.{Rows, Other, keys}
 use Rattle.sentry_tables.specs.Meets.{RowsMeet, StandsApart, IsKept, plain_demand, stored_demand}
-use Rattle.sentry_members.specs.Written.{WritesTree}
+use Rattle.sentry_tables.specs.Writes.{WritesTree}
 use Rattle.sentry_writing.specs.Given.{case_written}
 
 -- its written tree

@@ -3,8 +3,8 @@
 ghost use Rattle.std.specs.Prelude.{◌≡◌, ℕ, List, Some, option_map};
 ghost use Rattle.sentry_tables.specs.Kind.{tagged_map, words};
 ghost use Rattle.sentry_tables.specs.Shows.{word_at, word_of};
-ghost use Rattle.sentry_members.specs.Cells.{map_cell, empty_map};
-ghost use Rattle.sentry_members.specs.Reading.{ReadsAt};
+ghost use Rattle.sentry_tables.specs.Cells.{map_cell, empty_map};
+ghost use Rattle.sentry_tables.specs.Reading.{ReadsAt};
 ghost use Rattle.sentry_moments.specs.Moments.{moment_cell};
 ghost use Rattle.sentry_rows.specs.Cased.{ReadsEntryAt};
 
@@ -14,9 +14,9 @@ use json::Writer;
 use rand_core::Rng;
 use sentry_json::Node;
 use sentry_json::keys::place;
-use sentry_members::codec::DefaultedCodec;
-use sentry_members::{Codec, Formed, Member, TreeError, Way};
 use sentry_moments::Moment;
+use sentry_tables::codec::DefaultedCodec;
+use sentry_tables::{Codec, Formed, Member, TreeError, Way};
 use serde_json::{Map, Value};
 use std::alloc::{AllocError, Global};
 use std::collections::btree_map::Entry;

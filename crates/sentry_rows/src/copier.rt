@@ -3,12 +3,12 @@
 ghost use Rattle.std.specs.Prelude.{◌≡◌, None, IfOk, is_some, true};
 ghost use Rattle.serde_json.specs.View.{members_view};
 ghost use Rattle.sentry_tables.specs.Kind.{must, may, may_strict, list as list_kind, map as map_kind, values as values_kind};
-ghost use Rattle.sentry_members.specs.Cells.{text_cell, cow_cell, option_cell, list_cell, map_cell};
-ghost use Rattle.sentry_members.specs.Kinds.{text_kind};
+ghost use Rattle.sentry_tables.specs.Cells.{text_cell, cow_cell, option_cell, list_cell, map_cell};
+ghost use Rattle.sentry_tables.specs.Kinds.{text_kind};
 ghost use Rattle.sentry_rows.specs.Copied.{CopiesField, CopiesFields, CopiesOthers, CopiesKept};
 
-use sentry_members::codec::{remake_option_as, remake_strict_as};
-use sentry_members::{Codec, Member, Own, Way};
+use sentry_tables::codec::{remake_option_as, remake_strict_as};
+use sentry_tables::{Codec, Member, Own, Way};
 use sentry_writing::kept::copy_others;
 use sentry_writing::{KeptTable, Table, Values};
 use serde_json::{Map, Value};

@@ -1,12 +1,12 @@
 //! Rows whose values are drawn if absent, as ids.
 
 ghost use Rattle.sentry_tables.specs.Kind.{draw};
-ghost use Rattle.sentry_members.specs.Reading.{ReadsRow};
+ghost use Rattle.sentry_tables.specs.Reading.{ReadsRow};
 ghost use Rattle.sentry_json.specs.Nodes.{tree_of};
 
 use rand_core::Rng;
 use sentry_json::{Node, Object};
-use sentry_members::{Drawn, TreeError};
+use sentry_tables::{Drawn, TreeError};
 use std::alloc::Global;
 
 /// Reads a member with the codec `F`; drawn from `ids` if absent.

@@ -3,7 +3,7 @@
 //! A table writes its rows to a [`Sink`], or tests with one whether they are plain; reads them from
 //! a [`Reader`], which remembers the first failure; and copies them with a [`Copier`]. The codecs
 //! [`AsTable`] and [`AsKept`] combine the three for a member of another table. The types that a row
-//! may hold are in `sentry_members`. [`rows`], [`draw`] and [`timed`] read one row of a tree,
+//! may hold are in `sentry_tables`. [`rows`], [`draw`] and [`timed`] read one row of a tree,
 //! [`timed`] with the caller's `now` and generator of ids.
 #![tactic(auto)]
 
@@ -27,7 +27,7 @@ pub use form::{AsKept, AsTable, DefaultedTable};
 pub use read::{ReadKept, ReadTable, ReadTableAt};
 pub use reader::Reader;
 pub use rows::MadeCodec;
-pub use sentry_members::Drawn;
+pub use sentry_tables::Drawn;
 pub use sentry_writing::{
     KeptTable, Sink, Table, Values, beside, kept, sink, table, text, tree, values,
 };

@@ -2,7 +2,7 @@
 //! absent ids.
 
 ghost use Rattle.sentry_tables.specs.Kind.{at_once, must, default as default_rule, list as list_kind, values as values_kind};
-ghost use Rattle.sentry_members.specs.Cells.{list_cell, empty_list};
+ghost use Rattle.sentry_tables.specs.Cells.{list_cell, empty_list};
 ghost use Rattle.sentry_moments.specs.Moments.{moment_cell};
 ghost use Rattle.sentry_rows.specs.Fields.{ReadsFieldAt};
 
@@ -10,8 +10,8 @@ use crate::reader::Reader;
 use crate::timed::{FromTreeAt, ReadCodecAt, now_or_as, read_list_at};
 use rand_core::Rng;
 use sentry_json::Node;
-use sentry_members::{ReadCodec, TreeError};
 use sentry_moments::Moment;
+use sentry_tables::{ReadCodec, TreeError};
 use sentry_writing::values::{AsValues, Values};
 
 impl<'t, N: Node> Reader<'t, N> {

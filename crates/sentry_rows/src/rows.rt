@@ -6,14 +6,14 @@ ghost use Rattle.sentry_json.specs.Nodes.{tree_of};
 ghost use Rattle.sentry_tables.specs.Cell.{text};
 ghost use Rattle.sentry_tables.specs.Kind.{must, may, may_strict, default as default_rule, without};
 ghost use Rattle.sentry_tables.specs.Shows.{members_in};
-ghost use Rattle.sentry_members.specs.Cells.{text_cell, option_cell};
-ghost use Rattle.sentry_members.specs.Kinds.{text_kind};
-ghost use Rattle.sentry_members.specs.Reading.{ReadsRow};
-ghost use Rattle.sentry_members.specs.declared.error.TreeError.TheVariants.{Memory};
+ghost use Rattle.sentry_tables.specs.Cells.{text_cell, option_cell};
+ghost use Rattle.sentry_tables.specs.Kinds.{text_kind};
+ghost use Rattle.sentry_tables.specs.Reading.{ReadsRow};
+ghost use Rattle.sentry_tables.specs.declared.error.TreeError.TheVariants.{Memory};
 
 use sentry_json::{Node, Object};
-use sentry_members::codec::DefaultedCodec;
-use sentry_members::{FromTree, ReadCodec, TreeError};
+use sentry_tables::codec::DefaultedCodec;
+use sentry_tables::{FromTree, ReadCodec, TreeError};
 use serde_json::{Map, Value};
 use std::alloc::{AllocError, Global};
 

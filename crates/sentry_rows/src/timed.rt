@@ -3,15 +3,15 @@
 
 ghost use Rattle.serde_json.specs.View.{view};
 ghost use Rattle.sentry_tables.specs.Kind.{at_once, list as list_kind, values as values_kind};
-ghost use Rattle.sentry_members.specs.Cells.{list_cell};
-ghost use Rattle.sentry_members.specs.Reading.{ReadsAt, ReadsRowAt};
+ghost use Rattle.sentry_tables.specs.Cells.{list_cell};
+ghost use Rattle.sentry_tables.specs.Reading.{ReadsAt, ReadsRowAt};
 ghost use Rattle.sentry_moments.specs.Moments.{moment_cell};
 ghost use Rattle.sentry_json.specs.Nodes.{tree_of};
 
 use rand_core::Rng;
 use sentry_json::{Node, Object};
-use sentry_members::{AsBoxed, Codec, Formed, Member, Own, ReadCodec, TreeError};
 use sentry_moments::Moment;
+use sentry_tables::{AsBoxed, Codec, Formed, Member, Own, ReadCodec, TreeError};
 use sentry_writing::values::{AsValues, Values};
 use serde_json::Value;
 use std::alloc::Global;
@@ -159,7 +159,7 @@ pub fn now_or_as<F: ReadCodec<Moment>, N: Node>(
 ///
 /// - `Misfit` if the node is neither, or an item shows no value of the type.
 /// - `Memory` if an allocation fails.
-#[tactic(auto, using(sentry_members::proofs::ValuesShown::bare_read_at, sentry_members::proofs::ValuesShown::no_values_at))]
+#[tactic(auto, using(sentry_tables::proofs::ValuesShown::bare_read_at, sentry_tables::proofs::ValuesShown::no_values_at))]
 pub fn read_values_at<T: FromTreeAt, R: Rng, N: Node>(
     alloc: Global,
     node: &N,

@@ -20,3 +20,15 @@ pub mod Sample
 pub mod DrawnSample
 pub mod ByRows
 pub mod WrittenAs
+pub mod Collections
+pub mod Equal
+pub mod ListsShown
+pub mod ScalarsShown
+pub mod Sorted
+pub mod SoundTrees
+pub mod Soundness
+pub mod Spellings
+pub mod Texts
+pub mod Tokens
+pub mod ValuesShown
+pub mod Ways

@@ -11,3 +11,10 @@ pub mod Norm
 pub mod Shows
 pub mod Written
 pub mod WrittenAs
+pub mod Cells
+pub mod Continued
+pub mod Kinds
+pub mod Made
+pub mod Reading
+pub mod Spelling
+pub mod Writes

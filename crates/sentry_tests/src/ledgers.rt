@@ -9,7 +9,7 @@ ghost use Rattle.sentry_ledger.specs.Held.{quantity_held};
 use crate::envelopes::memory::read_at_last;
 use crate::envelopes::read;
 use crate::wanted::{told, wanted};
-use sentry_members::text_of;
+use sentry_tables::text_of;
 use sentry_types::IndexedEnum;
 use sentry_types::protocol::v7::client_report::{
     Category, ItemLoss, Ledger, LedgerFull, Reason, Report, Step, StepAnswer, filter_recorded,

@@ -8,7 +8,7 @@ use Rattle.std.specs.Net.Text.{leading_zero_digits, hex, groups_text, longest_ze
 use Rattle.std.specs.Char.{digit_char}
 use Rattle.std.proofs.NetLemmas.Texts.{AllSegments, AllSegments-drop}
 use Rattle.std.proofs.lemmas.Fmt.{length-decimal-le}
-use Rattle.sentry_members.specs.Spelling.{FitsRoom}
+use Rattle.sentry_tables.specs.Spelling.{FitsRoom}
 use Rattle.sentry_text.specs.Address.{address_text}
 use Rattle.sentry_text.specs.Ip.{IsStoredIp, IsStoredIpAddress, ip_address_text}
 use Rattle.sentry_text.specs.declared.ip.IpAddress.{IpAddress}

@@ -17,10 +17,10 @@ use Rattle.sentry_tables.specs.Written.{is_null}
 use Rattle.sentry_tables.specs.Basic.{IsBelow}
 use Rattle.sentry_tables.specs.Lawful.{ScalarLaws, RefusesNull, IsNormal}
 use Rattle.sentry_tables.proofs.Basic.{ReaderLaws, lawful_reader, reader_refuses_null}
-use Rattle.sentry_members.specs.Cells.{natural_cell}
-use Rattle.sentry_members.specs.Reading.{Shown, Refused}
-use Rattle.sentry_members.specs.Written.{written, WritesTree}
-use Rattle.sentry_members.proofs.Tokens.{string_wrote}
+use Rattle.sentry_tables.specs.Cells.{natural_cell}
+use Rattle.sentry_tables.specs.Reading.{Shown, Refused}
+use Rattle.sentry_tables.specs.Writes.{written, WritesTree}
+use Rattle.sentry_tables.proofs.Tokens.{string_wrote}
 use Rattle.sentry_text.specs.Address.{IsAddress, address_of, address_text}
 use Rattle.sentry_text.specs.AddressTree.{number_address, address_in, address_tree, address_scalar, address_kind}
 use Rattle.sentry_text.proofs.Addresses.{address_of_iff, written_address}

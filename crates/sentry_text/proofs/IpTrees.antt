@@ -12,8 +12,8 @@ use Rattle.std.proofs.NetLemmas.Alphabet.{IsDigitOrDot, IsHexOrColon, All-ipv4_t
 use Rattle.std.proofs.NetLemmas.Texts.{AllSegments, AllSegments-drop}
 use Rattle.sentry_tables.specs.Cell.{Cell, absent, octets, choice}
 use Rattle.sentry_tables.specs.Lawful.{IsLawful, IsNormal, RefusesNull}
-use Rattle.sentry_members.specs.Spelling.{SpellingLaws}
-use Rattle.sentry_members.proofs.Spellings.{read_as_laws, spelled_laws, spelled_refuses_null}
+use Rattle.sentry_tables.specs.Spelling.{SpellingLaws}
+use Rattle.sentry_tables.proofs.Spellings.{read_as_laws, spelled_laws, spelled_refuses_null}
 use Rattle.sentry_text.specs.declared.ip.IpAddress.{IpAddress}
 use Rattle.sentry_text.specs.declared.ip.IpAddress.TheVariants.{Auto, Exact}
 use Rattle.sentry_text.specs.Ip.{auto_text, IsIpAddress, ip_of, ip_address_of, ip_address_text, IsStoredIp, IsStoredIpAddress}

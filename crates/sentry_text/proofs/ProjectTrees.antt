@@ -6,9 +6,9 @@ use Rattle.std.proofs.lemmas.Str.{IsUtf8-from_ascii}
 use Rattle.sentry_tables.specs.Cell.{Cell, text, whole}
 use Rattle.sentry_tables.specs.Basic.{IsText, IsBelow}
 use Rattle.sentry_tables.specs.Lawful.{IsNormal}
-use Rattle.sentry_members.specs.Cells.{natural_cell}
-use Rattle.sentry_members.specs.Spelling.{SpellingLaws, word_of}
-use Rattle.sentry_members.proofs.Spellings.{WordLaws, read_as_laws}
+use Rattle.sentry_tables.specs.Cells.{natural_cell}
+use Rattle.sentry_tables.specs.Spelling.{SpellingLaws, word_of}
+use Rattle.sentry_tables.proofs.Spellings.{WordLaws, read_as_laws}
 use Rattle.sentry_text.specs.Number.{number_of}
 use Rattle.sentry_text.specs.ProjectTree.{project_spelling, project_kind, number_text, organization_spelling, organization_text_kind}
 use Rattle.sentry_text.proofs.ValueTexts.{ValueLaws, value_laws}

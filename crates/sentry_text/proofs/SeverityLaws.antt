@@ -13,9 +13,9 @@ use Rattle.sentry_tables.specs.Basic.{whole_tree}
 use Rattle.sentry_tables.specs.Written.{is_null}
 use Rattle.sentry_tables.specs.Lawful.{ScalarLaws, RefusesNull}
 use Rattle.sentry_tables.proofs.Basic.{lawful_reader, reader_refuses_null}
-use Rattle.sentry_members.specs.Reading.{Shown, Refused}
-use Rattle.sentry_members.specs.Written.{written, WritesTree}
-use Rattle.sentry_members.proofs.Tokens.{u8_wrote}
+use Rattle.sentry_tables.specs.Reading.{Shown, Refused}
+use Rattle.sentry_tables.specs.Writes.{written, WritesTree}
+use Rattle.sentry_tables.proofs.Tokens.{u8_wrote}
 use Rattle.sentry_text.specs.Severity.{IsSeverity, IsSeverityCell, severity_at, severity_scalar, severity_kind}
 
 within : (n : ℕ) → IsSeverity n → (nat_le 1 n && nat_le n 24) ≡ true

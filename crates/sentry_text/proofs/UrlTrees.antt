@@ -23,10 +23,10 @@ use Rattle.sentry_tables.specs.Lawful.{RefusesNull, IsLawful, IsNormal}
 use Rattle.sentry_tables.specs.Laws.{HasLaws}
 use Rattle.sentry_tables.specs.Meets.{IsStored, IsReadable}
 use Rattle.sentry_tables.specs.Shows.{Shows}
-use Rattle.sentry_members.specs.Cells.{natural_cell, option_cell, cells}
-use Rattle.sentry_members.specs.Spelling.{SpellingLaws}
-use Rattle.sentry_members.specs.Written.{written, WritesTree}
-use Rattle.sentry_members.proofs.Spellings.{spelled_laws, spelled_has_laws, spelled_refuses_null, text_tree, spelling_wrote}
+use Rattle.sentry_tables.specs.Cells.{natural_cell, option_cell, cells}
+use Rattle.sentry_tables.specs.Spelling.{SpellingLaws}
+use Rattle.sentry_tables.specs.Writes.{written, WritesTree}
+use Rattle.sentry_tables.proofs.Spellings.{spelled_laws, spelled_has_laws, spelled_refuses_null, text_tree, spelling_wrote}
 use Rattle.sentry_text.specs.UrlTree.{host_cell, url_cell, text_of, natural_of, naturals_of, host_of, option_of, url_of, UrlReadsBack, url_spelling, url_kind}
 use Rattle.sentry_text.proofs.ParsedUrls.{parsed_valid}
 use Rattle.sentry_text.proofs.Utf8Bytes.{utf8_bytes}

@@ -2,7 +2,7 @@
 use Rattle.std.proofs.Common.{◌≡◌, ℕ, List, Option, Some, option_map, sym, ap, ◌∙◌, subst, IsUtf8}
 use Rattle.std.proofs.NetLemmas.Options.{map_some}
 use Rattle.sentry_tables.specs.Cell.{Cell}
-use Rattle.sentry_members.proofs.Spellings.{WordLaws}
+use Rattle.sentry_tables.proofs.Spellings.{WordLaws}
 
 -- `A`, which `of` reads and `to` writes, as cells, which `written` writes
 module _ {A : Type 0} (of : List ℕ → Option A) (to : A → List ℕ) (Held : A → Type 0) (cell : A → Cell) (written : Cell → List ℕ) (Stored : Cell → Type 0) where

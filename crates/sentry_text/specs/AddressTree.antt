@@ -5,7 +5,7 @@ use Rattle.serde_json.specs.Data.{Num, unsigned, negative, float, Data, null, nu
 use Rattle.sentry_tables.specs.Cell.{Cell, whole}
 use Rattle.sentry_tables.specs.Kind.{Scalar, Kind, scalar}
 use Rattle.sentry_tables.specs.Basic.{read_by, IsBelow}
-use Rattle.sentry_members.specs.Cells.{natural_cell}
+use Rattle.sentry_tables.specs.Cells.{natural_cell}
 use Rattle.sentry_text.specs.Address.{address_of, address_text}
 
 -- a negative number stands for its 64 bits in two's complement

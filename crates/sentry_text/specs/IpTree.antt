@@ -6,7 +6,7 @@ use Rattle.std.specs.Net.Addr.{ipv4_octets, ipv6_octets, segments_of}
 use Rattle.std.specs.Net.Text.{ipv4_text, ipv6_text}
 use Rattle.sentry_tables.specs.Cell.{Cell, absent, octets, choice}
 use Rattle.sentry_tables.specs.Kind.{Kind}
-use Rattle.sentry_members.specs.Spelling.{Spelling, read_as, spelled_kind}
+use Rattle.sentry_tables.specs.Spelling.{Spelling, read_as, spelled_kind}
 use Rattle.sentry_text.specs.declared.ip.IpAddress.{IpAddress}
 use Rattle.sentry_text.specs.declared.ip.IpAddress.TheVariants.{Auto, Exact}
 use Rattle.sentry_text.specs.Ip.{auto_text, ip_of, ip_address_of}

@@ -3,9 +3,9 @@ use Rattle.std.specs.Prelude.{ℕ, ◌^◌, pos, List, [], Some, option_map, dec
 use Rattle.sentry_tables.specs.Cell.{Cell, text, whole}
 use Rattle.sentry_tables.specs.Kind.{Kind}
 use Rattle.sentry_tables.specs.Basic.{IsText, IsBelow}
-use Rattle.sentry_members.specs.Cells.{natural_cell}
-use Rattle.sentry_members.specs.Kinds.{unsigned_kind}
-use Rattle.sentry_members.specs.Spelling.{Spelling, spelled_kind, read_as, word_of}
+use Rattle.sentry_tables.specs.Cells.{natural_cell}
+use Rattle.sentry_tables.specs.Kinds.{unsigned_kind}
+use Rattle.sentry_tables.specs.Spelling.{Spelling, spelled_kind, read_as, word_of}
 use Rattle.sentry_text.specs.Number.{number_of}
 use Rattle.sentry_text.specs.ProjectId.{project_text, organization_value}
 use Rattle.sentry_text.specs.declared.project_id.ProjectId.{ProjectId}

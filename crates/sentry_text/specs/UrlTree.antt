@@ -10,10 +10,10 @@ use Rattle.url.specs.Parts.{Parts, kind_of, serialize, IsValid}
 use Rattle.url.specs.Parser.{parse_url}
 use Rattle.sentry_tables.specs.Cell.{Cell, present, text, octets, whole, sequence, Cells, no_cells, cell}
 use Rattle.sentry_tables.specs.Kind.{Kind}
-use Rattle.sentry_members.specs.Cells.{natural_cell, option_cell, list_cell}
-use Rattle.sentry_members.specs.Spelling.{Spelling, spelled_kind}
-use Rattle.sentry_members.specs.declared.error.TreeError.{TreeError}
-use Rattle.sentry_members.specs.declared.error.TreeError.TheVariants as tree
+use Rattle.sentry_tables.specs.Cells.{natural_cell, option_cell, list_cell}
+use Rattle.sentry_tables.specs.Spelling.{Spelling, spelled_kind}
+use Rattle.sentry_tables.specs.declared.error.TreeError.{TreeError}
+use Rattle.sentry_tables.specs.declared.error.TreeError.TheVariants as tree
 use Rattle.sentry_text.specs.CellParts.{cells_of, first, others}
 
 -- ---- a URL as cells

@@ -5,15 +5,15 @@ ghost use Rattle.std.specs.Int.{w64, cast_unsigned};
 ghost use Rattle.std.specs.Result.{result_ok};
 ghost use Rattle.sentry_text.specs.Number.{ReadsAs};
 ghost use Rattle.sentry_text.specs.Address.{address_of, address_text};
-ghost use Rattle.sentry_members.specs.Cells.{natural_cell};
+ghost use Rattle.sentry_tables.specs.Cells.{natural_cell};
 ghost use Rattle.sentry_text.specs.AddressTree.{address_in, address_kind};
 
 use crate::{ParseNumberError, parse_number};
 use json::Writer;
 use sentry_json::Node;
-use sentry_members::member::Usual;
-use sentry_members::spelled::print_into;
-use sentry_members::{FromTree, Member, Room, TreeError, Way};
+use sentry_tables::member::Usual;
+use sentry_tables::spelled::print_into;
+use sentry_tables::{FromTree, Member, Room, TreeError, Way};
 use serde_json::Value;
 use std::alloc::{AllocError, Global};
 use std::fmt;
@@ -230,7 +230,7 @@ impl Member for Addr {
         out.string(self.text(&mut room)?)
     }
 
-    #[tactic(auto, using(sentry_members::proofs::Ways::unchanged))]
+    #[tactic(auto, using(sentry_tables::proofs::Ways::unchanged))]
     fn remake(&self, _way: Way) -> Result<Addr, AllocError> {
         Ok(*self)
     }
@@ -275,7 +275,7 @@ impl Member for RegVal {
         Addr(self.0).write(out)
     }
 
-    #[tactic(auto, using(sentry_members::proofs::Ways::unchanged))]
+    #[tactic(auto, using(sentry_tables::proofs::Ways::unchanged))]
     fn remake(&self, _way: Way) -> Result<RegVal, AllocError> {
         Ok(*self)
     }

@@ -6,8 +6,8 @@ ghost use Rattle.sentry_text.specs.declared.ip.IpAddress.TheVariants.{Exact};
 ghost use Rattle.sentry_text.specs.Ip.{IsStoredIpAddress};
 
 use crate::ip_text::hold_ip;
-use sentry_members::spelled::print_into;
-use sentry_members::{AsText, Formed, Room, Spelled, TreeError, Way};
+use sentry_tables::spelled::print_into;
+use sentry_tables::{AsText, Formed, Room, Spelled, TreeError, Way};
 use std::alloc::{AllocError, Global};
 use std::cmp::Ordering;
 use std::fmt;
@@ -126,7 +126,7 @@ impl Spelled for IpAddress {
         print_into(self, room)
     }
 
-    #[tactic(auto, using(sentry_members::proofs::Ways::unchanged))]
+    #[tactic(auto, using(sentry_tables::proofs::Ways::unchanged))]
     fn respell(&self, _way: Way) -> Result<IpAddress, AllocError> {
         Ok(*self)
     }

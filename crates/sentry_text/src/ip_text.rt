@@ -1,14 +1,14 @@
 //! The form of IP addresses as trees.
 
 ghost use Rattle.std.specs.Prelude.{◌≡◌, ◌<◌, ◌^◌, ℕ, IfOk, length, slice_index};
-ghost use Rattle.sentry_members.specs.Spelling.{ReadsSpelling};
+ghost use Rattle.sentry_tables.specs.Spelling.{ReadsSpelling};
 ghost use Rattle.sentry_text.specs.Ip.{IsStoredIp};
 ghost use Rattle.sentry_text.specs.IpTree.{ip_cell, ip_cell_text, ip_kind, ip_spelling};
 
 use json::Writer;
 use sentry_json::Node;
-use sentry_members::spelled::print_into;
-use sentry_members::{Codec, ReadCodec, Room, TreeError, Way};
+use sentry_tables::spelled::print_into;
+use sentry_tables::{Codec, ReadCodec, Room, TreeError, Way};
 use serde_json::Value;
 use std::alloc::{AllocError, Global};
 use std::net::IpAddr;
@@ -24,19 +24,19 @@ impl Codec<IpAddr> for IpText {
 
     ghost cell_of = { ip_cell };
 
-    #[tactic(auto, using(sentry_members::proofs::Spellings::text_tree))]
+    #[tactic(auto, using(sentry_tables::proofs::Spellings::text_tree))]
     fn to_tree(value: &IpAddr, alloc: Global) -> Result<Value, AllocError> {
         let mut room = Room::new();
         Value::try_from_str(alloc, written_ip(value, &mut room)?)
     }
 
-    #[tactic(auto, using(sentry_members::proofs::Spellings::spelling_wrote))]
+    #[tactic(auto, using(sentry_tables::proofs::Spellings::spelling_wrote))]
     fn write(value: &IpAddr, out: &mut Writer) -> Result<(), AllocError> {
         let mut room = Room::new();
         out.string(written_ip(value, &mut room)?)
     }
 
-    #[tactic(auto, using(sentry_members::proofs::Ways::unchanged))]
+    #[tactic(auto, using(sentry_tables::proofs::Ways::unchanged))]
     fn remake(value: &IpAddr, _way: Way) -> Result<IpAddr, AllocError> {
         Ok(*value)
     }
@@ -52,7 +52,7 @@ impl Codec<IpAddr> for IpText {
 }
 
 impl ReadCodec<IpAddr> for IpText {
-    #[tactic(auto, using(sentry_members::proofs::Spellings::text_read, sentry_members::proofs::Spellings::not_text))]
+    #[tactic(auto, using(sentry_tables::proofs::Spellings::text_read, sentry_tables::proofs::Spellings::not_text))]
     fn from_node<N: Node>(_alloc: Global, node: &N) -> Result<IpAddr, TreeError> {
         match node.as_str() {
             Some(text) => read_ip(text),

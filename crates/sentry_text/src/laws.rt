@@ -8,7 +8,7 @@ ghost use Rattle.sentry_tables.specs.Cell.{Cell};
 ghost use Rattle.sentry_tables.specs.Basic.{IsText};
 ghost use Rattle.sentry_tables.specs.Lawful.{IsNormal, RefusesNull};
 ghost use Rattle.sentry_tables.specs.Laws.{HasLaws};
-ghost use Rattle.sentry_members.specs.Cells.{natural_cell};
+ghost use Rattle.sentry_tables.specs.Cells.{natural_cell};
 ghost use Rattle.sentry_text.specs.Number.{IsNumber, number_of};
 ghost use Rattle.sentry_text.specs.ProjectId.{project_text, organization_value, error_index};
 ghost use Rattle.sentry_text.specs.ProjectTree.{project_kind, organization_kind, organization_text_kind};

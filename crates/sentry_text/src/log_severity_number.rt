@@ -1,12 +1,12 @@
 //! How severe a log is, as a number.
 
 ghost use Rattle.std.specs.Prelude.{◌≡◌, ℕ, OkIff};
-ghost use Rattle.sentry_members.specs.Cells.{natural_cell};
+ghost use Rattle.sentry_tables.specs.Cells.{natural_cell};
 ghost use Rattle.sentry_text.specs.Severity.{IsSeverity, severity_kind};
 
 use json::Writer;
 use sentry_json::Node;
-use sentry_members::{FromTree, Member, TreeError, Way};
+use sentry_tables::{FromTree, Member, TreeError, Way};
 use serde_json::Value;
 use std::alloc::{AllocError, Global};
 use std::marker::Model;
@@ -74,7 +74,7 @@ impl Member for LogSeverityNumber {
 
     ghost cell_of = { natural_cell };
 
-    #[tactic(auto, unfolding(sentry_members::specs::Written::written))]
+    #[tactic(auto, unfolding(sentry_tables::specs::Written::written))]
     fn to_tree(&self, _alloc: Global) -> Result<Value, AllocError> {
         Ok(Value::from(self.value()))
     }
@@ -84,7 +84,7 @@ impl Member for LogSeverityNumber {
         out.u64(u64::from(self.value()))
     }
 
-    #[tactic(auto, using(sentry_members::proofs::Ways::unchanged))]
+    #[tactic(auto, using(sentry_tables::proofs::Ways::unchanged))]
     fn remake(&self, _way: Way) -> Result<LogSeverityNumber, AllocError> {
         Ok(*self)
     }

@@ -5,13 +5,13 @@ ghost use Rattle.sentry_text.specs.Number.{ReadsAs, number_of};
 ghost use Rattle.sentry_text.specs.ProjectId.{project_text, organization_value};
 ghost use Rattle.sentry_text.specs.ProjectTree.{project_cell, project_spelling, organization_cell, organization_kind, organization_spelling, organization_text_kind};
 ghost use Rattle.sentry_text.specs.declared.project_id.ParseProjectIdError.TheVariants.{Memory};
-ghost use Rattle.sentry_members.specs.Spelling.{ReadsSpelling};
+ghost use Rattle.sentry_tables.specs.Spelling.{ReadsSpelling};
 
 use crate::number::{ParseNumberError, parse_number};
 use json::Writer;
 use sentry_json::Node;
-use sentry_members::spelled::print_into;
-use sentry_members::{
+use sentry_tables::spelled::print_into;
+use sentry_tables::{
     AsText, Codec, Formed, FromTree, Member, ReadCodec, Room, Spelled, TreeError, Way,
 };
 use serde_json::Value;
@@ -123,7 +123,7 @@ impl Spelled for ProjectId {
         Ok(self.value())
     }
 
-    #[tactic(auto, using(sentry_members::proofs::Ways::unchanged))]
+    #[tactic(auto, using(sentry_tables::proofs::Ways::unchanged))]
     fn respell(&self, _way: Way) -> Result<ProjectId, AllocError> {
         self.clone()
     }
@@ -194,7 +194,7 @@ impl Member for OrganizationId {
         self.value().write(out)
     }
 
-    #[tactic(auto, using(sentry_members::proofs::Ways::unchanged))]
+    #[tactic(auto, using(sentry_tables::proofs::Ways::unchanged))]
     fn remake(&self, _way: Way) -> Result<OrganizationId, AllocError> {
         Ok(*self)
     }
@@ -242,19 +242,19 @@ impl Codec<OrganizationId> for OrganizationText {
 
     ghost cell_of = { organization_cell };
 
-    #[tactic(auto, using(sentry_members::proofs::Spellings::text_tree))]
+    #[tactic(auto, using(sentry_tables::proofs::Spellings::text_tree))]
     fn to_tree(id: &OrganizationId, alloc: Global) -> Result<Value, AllocError> {
         let mut room = Room::new();
         Value::try_from_str(alloc, id.text(&mut room)?)
     }
 
-    #[tactic(auto, using(sentry_members::proofs::Spellings::spelling_wrote))]
+    #[tactic(auto, using(sentry_tables::proofs::Spellings::spelling_wrote))]
     fn write(id: &OrganizationId, out: &mut Writer) -> Result<(), AllocError> {
         let mut room = Room::new();
         out.string(id.text(&mut room)?)
     }
 
-    #[tactic(auto, using(sentry_members::proofs::Ways::unchanged))]
+    #[tactic(auto, using(sentry_tables::proofs::Ways::unchanged))]
     fn remake(id: &OrganizationId, _way: Way) -> Result<OrganizationId, AllocError> {
         Ok(*id)
     }
@@ -270,7 +270,7 @@ impl Codec<OrganizationId> for OrganizationText {
 }
 
 impl ReadCodec<OrganizationId> for OrganizationText {
-    #[tactic(auto, using(sentry_members::proofs::Spellings::text_read, sentry_members::proofs::Spellings::not_text))]
+    #[tactic(auto, using(sentry_tables::proofs::Spellings::text_read, sentry_tables::proofs::Spellings::not_text))]
     fn from_node<N: Node>(_alloc: Global, node: &N) -> Result<OrganizationId, TreeError> {
         match node.as_str() {
             Some(text) => OrganizationId::of_text(text),

@@ -2,13 +2,13 @@
 
 ghost use Rattle.std.specs.Prelude.{◌≡◌};
 ghost use Rattle.url.specs.Parts.{IsValid};
-ghost use Rattle.sentry_members.specs.Spelling.{ReadsSpelling};
+ghost use Rattle.sentry_tables.specs.Spelling.{ReadsSpelling};
 ghost use Rattle.sentry_text.specs.UrlTree as spec;
 ghost use Rattle.sentry_text.specs.UrlTree.{url_cell, url_kind, url_spelling};
 
 use json::Writer;
 use sentry_json::Node;
-use sentry_members::{Codec, ReadCodec, TreeError, Way};
+use sentry_tables::{Codec, ReadCodec, TreeError, Way};
 use serde_json::Value;
 use std::alloc::{AllocError, Global};
 use url::{ParseError, Url};
@@ -38,7 +38,7 @@ impl Codec<Url> for UrlText {
         out.string(value.as_str())
     }
 
-    #[tactic(auto, using(sentry_members::proofs::Ways::unchanged))]
+    #[tactic(auto, using(sentry_tables::proofs::Ways::unchanged))]
     fn remake(value: &Url, _way: Way) -> Result<Url, AllocError> {
         value.clone()
     }
@@ -54,7 +54,7 @@ impl Codec<Url> for UrlText {
 }
 
 impl ReadCodec<Url> for UrlText {
-    #[tactic(auto, using(sentry_members::proofs::Spellings::text_read, sentry_members::proofs::Spellings::not_text))]
+    #[tactic(auto, using(sentry_tables::proofs::Spellings::text_read, sentry_tables::proofs::Spellings::not_text))]
     fn from_node<N: Node>(alloc: Global, node: &N) -> Result<Url, TreeError> {
         match node.as_str() {
             Some(text) => read_url(alloc, text),

@@ -3,8 +3,8 @@ use Rattle.std.proofs.Common.{◌≡◌, ℕ, List, Option, Some, true, refl}
 use Rattle.sentry_tables.specs.Lawful.{is_ascii}
 use Rattle.sentry_tables.specs.Laws.{HasLaws}
 use Rattle.sentry_tables.proofs.Sound.{ascii_text}
-use Rattle.sentry_members.specs.Spelling.{SpellingLaws, enumeration}
-use Rattle.sentry_members.proofs.Spellings.{enumeration_laws, spelled_has_laws}
+use Rattle.sentry_tables.specs.Spelling.{SpellingLaws, enumeration}
+use Rattle.sentry_tables.proofs.Spellings.{enumeration_laws, spelled_has_laws}
 use Rattle.sentry_words.specs.Level.{level_word, level_of, level_spelling, level_kind}
 use Rattle.sentry_words.specs.SpanStatus.{span_status_word, span_status_of, span_status_spelling, span_status_kind}
 use Rattle.sentry_words.specs.SessionStatus.{session_status_word, session_status_of, session_status_spelling, session_status_kind}

@@ -2,8 +2,8 @@
 use Rattle.std.proofs.Common.{◌≡◌, codes, Bool, true, false, Some, refl, IsUtf8}
 use Rattle.sentry_tables.specs.Laws.{HasLaws}
 use Rattle.sentry_tables.proofs.Sound.{ascii_text}
-use Rattle.sentry_members.specs.Spelling.{SpellingLaws, IsWord}
-use Rattle.sentry_members.proofs.Spellings.{enumeration_laws, spelled_has_laws}
+use Rattle.sentry_tables.specs.Spelling.{SpellingLaws, IsWord}
+use Rattle.sentry_tables.proofs.Spellings.{enumeration_laws, spelled_has_laws}
 use Rattle.sentry_words.specs.Sampled.{sampled_word, sampled_of, sampled_spelling, sampled_kind, sampled_cell}
 
 pub sampled_stored : (truth : Bool) → IsWord sampled_word (sampled_cell truth)

@@ -10,12 +10,12 @@ use Rattle.sentry_tables.specs.Lawful.{is_ascii}
 use Rattle.sentry_tables.specs.Norm.{norm}
 use Rattle.sentry_tables.specs.Laws.{HasLaws}
 use Rattle.sentry_tables.proofs.Sound.{ascii_text}
-use Rattle.sentry_members.specs.Spelling.{SpellingLaws, spelled_kind}
-use Rattle.sentry_members.specs.Made.{made}
-use Rattle.sentry_members.specs.declared.way.Way.{Way}
-use Rattle.sentry_members.specs.declared.way.Way.TheVariants.{Normal}
-use Rattle.sentry_members.proofs.Ways.{made_normal}
-use Rattle.sentry_members.proofs.Spellings.{ReadLaws, read_to_laws, spelled_has_laws}
+use Rattle.sentry_tables.specs.Spelling.{SpellingLaws, spelled_kind}
+use Rattle.sentry_tables.specs.Made.{made}
+use Rattle.sentry_tables.specs.declared.way.Way.{Way}
+use Rattle.sentry_tables.specs.declared.way.Way.TheVariants.{Normal}
+use Rattle.sentry_tables.proofs.Ways.{made_normal}
+use Rattle.sentry_tables.proofs.Spellings.{ReadLaws, read_to_laws, spelled_has_laws}
 use Rattle.sentry_words.specs.Units.{Row, times, sizes, binary_sizes, shares, units, spellings, known, other, unit_cell, found, unit_of, unit_text, IsUnit, unit_norm, unit_spelling, unit_kind}
 use Rattle.sentry_words.specs.declared.unit.Unit.{Unit}
 use Rattle.sentry_words.specs.declared.unit.Unit.TheVariants

@@ -1,7 +1,7 @@
 -- The words of a level.
 use Rattle.std.specs.Prelude.{ℕ, List, [], ◌∷◌, Option, codes}
 use Rattle.sentry_tables.specs.Kind.{Kind}
-use Rattle.sentry_members.specs.Spelling.{Spelling, enumeration, spelled_kind}
+use Rattle.sentry_tables.specs.Spelling.{Spelling, enumeration, spelled_kind}
 use Rattle.sentry_words.specs.Lookup.{lookup}
 use Rattle.sentry_words.specs.declared.level.Level.{Level}
 use Rattle.sentry_words.specs.declared.level.Level.TheVariants as level

@@ -1,7 +1,7 @@
 -- The words of a metric's type.
 use Rattle.std.specs.Prelude.{ℕ, List, [], ◌∷◌, Option, codes}
 use Rattle.sentry_tables.specs.Kind.{Kind}
-use Rattle.sentry_members.specs.Spelling.{Spelling, enumeration, spelled_kind}
+use Rattle.sentry_tables.specs.Spelling.{Spelling, enumeration, spelled_kind}
 use Rattle.sentry_words.specs.Lookup.{lookup, by_word}
 use Rattle.sentry_words.specs.declared.metric_type.MetricType.{MetricType}
 use Rattle.sentry_words.specs.declared.metric_type.MetricType.TheVariants as metric_type

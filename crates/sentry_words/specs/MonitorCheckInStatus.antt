@@ -1,7 +1,7 @@
 -- The words of a check-in's status.
 use Rattle.std.specs.Prelude.{ℕ, List, [], ◌∷◌, Some, unwrap_or, codes}
 use Rattle.sentry_tables.specs.Kind.{Kind}
-use Rattle.sentry_members.specs.Spelling.{Spelling, enumeration, spelled_kind}
+use Rattle.sentry_tables.specs.Spelling.{Spelling, enumeration, spelled_kind}
 use Rattle.sentry_words.specs.Lookup.{lookup, by_word}
 use Rattle.sentry_words.specs.declared.monitor_check_in_status.MonitorCheckInStatus.{MonitorCheckInStatus}
 use Rattle.sentry_words.specs.declared.monitor_check_in_status.MonitorCheckInStatus.TheVariants as check_in_status

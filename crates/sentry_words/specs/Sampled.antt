@@ -2,7 +2,7 @@
 use Rattle.std.specs.Prelude.{ℕ, List, codes, Bool, true, false, Option, Some, None, cond, bytes_eq}
 use Rattle.sentry_tables.specs.Cell.{Cell}
 use Rattle.sentry_tables.specs.Kind.{Kind}
-use Rattle.sentry_members.specs.Spelling.{Spelling, spelled_kind, enumeration, word_cell}
+use Rattle.sentry_tables.specs.Spelling.{Spelling, spelled_kind, enumeration, word_cell}
 
 abbrev pub sampled_word : Bool → List ℕ
 sampled_word true = codes "true"

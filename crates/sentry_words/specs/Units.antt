@@ -5,7 +5,7 @@ use Rattle.std.specs.Cow.{cow_str_bytes}
 use Rattle.std.specs.List.{list_any}
 use Rattle.sentry_tables.specs.Cell.{Cell, text, choice}
 use Rattle.sentry_tables.specs.Kind.{Kind}
-use Rattle.sentry_members.specs.Spelling.{Spelling, spelled_kind, read_to}
+use Rattle.sentry_tables.specs.Spelling.{Spelling, spelled_kind, read_to}
 use Rattle.sentry_words.specs.declared.unit.Unit.{Unit}
 use Rattle.sentry_words.specs.declared.unit.Unit.TheVariants
 

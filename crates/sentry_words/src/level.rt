@@ -4,7 +4,7 @@ ghost use Rattle.std.specs.Prelude.{◌≡◌, ◌↔◌, IsTrue, Some};
 ghost use Rattle.std.specs.Result.{result_ok};
 ghost use Rattle.sentry_words.specs.Level.{level_word, level_of};
 
-use sentry_members::Word;
+use sentry_tables::Word;
 use std::fmt;
 use std::str::FromStr;
 use thiserror::Error;

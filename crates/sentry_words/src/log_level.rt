@@ -5,7 +5,7 @@ ghost use Rattle.std.specs.Result.{result_ok};
 ghost use Rattle.sentry_words.specs.LogLevel.{log_level_word, log_level_of};
 
 use crate::parse_word_error::ParseWordError;
-use sentry_members::Word;
+use sentry_tables::Word;
 use std::str::FromStr;
 
 /// Severity of a log.

@@ -3,7 +3,7 @@
 ghost use Rattle.std.specs.Prelude.{◌≡◌, Some};
 ghost use Rattle.sentry_words.specs.MonitorCheckInStatus.{check_in_status_word, check_in_status_of};
 
-use sentry_members::Word;
+use sentry_tables::Word;
 
 /// Status of a monitor check-in.
 ///

@@ -1,12 +1,12 @@
 //! Booleans as JSON strings.
 
 ghost use Rattle.std.specs.Prelude.{◌≡◌};
-ghost use Rattle.sentry_members.specs.Spelling.{ReadsSpelling};
+ghost use Rattle.sentry_tables.specs.Spelling.{ReadsSpelling};
 ghost use Rattle.sentry_words.specs.Sampled.{sampled_word, sampled_kind, sampled_spelling, sampled_cell};
 
 use json::Writer;
 use sentry_json::Node;
-use sentry_members::{Codec, ReadCodec, TreeError, Way};
+use sentry_tables::{Codec, ReadCodec, TreeError, Way};
 use serde_json::Value;
 use std::alloc::{AllocError, Global};
 
@@ -36,17 +36,17 @@ impl Codec<bool> for Sampled {
 
     ghost cell_of = { sampled_cell };
 
-    #[tactic(auto, unfolding(sentry_members::specs::Written::written))]
+    #[tactic(auto, unfolding(sentry_tables::specs::Written::written))]
     fn to_tree(value: &bool, alloc: Global) -> Result<Value, AllocError> {
         Value::try_from_str(alloc, word(*value))
     }
 
-    #[tactic(auto, using(sentry_members::proofs::Spellings::spelling_wrote))]
+    #[tactic(auto, using(sentry_tables::proofs::Spellings::spelling_wrote))]
     fn write(value: &bool, out: &mut Writer) -> Result<(), AllocError> {
         out.string(word(*value))
     }
 
-    #[tactic(auto, using(sentry_members::proofs::Ways::unchanged))]
+    #[tactic(auto, using(sentry_tables::proofs::Ways::unchanged))]
     fn remake(value: &bool, _way: Way) -> Result<bool, AllocError> {
         Ok(*value)
     }
@@ -62,7 +62,7 @@ impl Codec<bool> for Sampled {
 }
 
 impl ReadCodec<bool> for Sampled {
-    #[tactic(auto, using(sentry_members::proofs::Spellings::text_read, sentry_members::proofs::Spellings::not_text))]
+    #[tactic(auto, using(sentry_tables::proofs::Spellings::text_read, sentry_tables::proofs::Spellings::not_text))]
     fn from_node<N: Node>(_alloc: Global, node: &N) -> Result<bool, TreeError> {
         match node.as_str() {
             Some(text) => truth_of(text),

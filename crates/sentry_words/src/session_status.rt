@@ -4,7 +4,7 @@ ghost use Rattle.std.specs.Prelude.{◌≡◌, Some};
 ghost use Rattle.std.specs.Result.{result_ok};
 ghost use Rattle.sentry_words.specs.SessionStatus.{session_status_word, session_status_of};
 
-use sentry_members::Word;
+use sentry_tables::Word;
 use std::fmt;
 use std::str::FromStr;
 use thiserror::Error;

@@ -4,7 +4,7 @@ ghost use Rattle.std.specs.Prelude.{◌≡◌, IfOk, codes, drop, take, option_m
 ghost use Rattle.std.specs.Cow.{cow_str_bytes};
 ghost use Rattle.sentry_words.specs.Units.{times, units, named, found, unit_cell, unit_of, unit_text, unit_spelling};
 
-use sentry_members::{AsText, Formed, Room, Spelled, TreeError, Way};
+use sentry_tables::{AsText, Formed, Room, Spelled, TreeError, Way};
 use std::alloc::{AllocError, Global};
 use std::borrow::CowStr;
 
@@ -333,7 +333,7 @@ impl Spelled for Unit {
         Ok(self.as_str())
     }
 
-    #[tactic(auto, using(sentry_members::proofs::Ways::made_same, crate::proofs::UnitLaws::known_normal, crate::proofs::UnitLaws::other_normal))]
+    #[tactic(auto, using(sentry_tables::proofs::Ways::made_same, crate::proofs::UnitLaws::known_normal, crate::proofs::UnitLaws::other_normal))]
     fn respell(&self, way: Way) -> Result<Unit, AllocError> {
         match way {
             Way::Same => self.clone(),

@@ -4,9 +4,9 @@ use Rattle.std.specs.Prelude.{OnOk}
 use Rattle.json.specs.Token.{Token}
 use Rattle.json.specs.Written.{Written, Writes}
 use Rattle.serde_json.specs.Data.{Data, null, string, no_members, member}
-use Rattle.sentry_members.specs.Continued.{no_members_wrote}
-use Rattle.sentry_members.specs.Written.{WritesTree, WritesMembers}
-use Rattle.sentry_members.proofs.Tokens.{members_wrote, null_wrote, string_wrote}
+use Rattle.sentry_tables.specs.Continued.{no_members_wrote}
+use Rattle.sentry_tables.specs.Writes.{WritesTree, WritesMembers}
+use Rattle.sentry_tables.proofs.Tokens.{members_wrote, null_wrote, string_wrote}
 
 pub member_wrote : {E F : Type 0} (k : List ℕ) (d : Data) (r : Result (Unit {0}) E) (a b c : Written) → Writes {E = F} (Ok tt) a b (Token.key k) → OnOk r (WritesTree d b c) → OnOk r (WritesMembers (member k d no_members) a c)
 member_wrote k d (Ok u) a b c x y = members_wrote k k d no_members a b c c refl x y (no_members_wrote c)

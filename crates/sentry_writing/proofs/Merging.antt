@@ -15,9 +15,9 @@ use Rattle.sentry_tables.specs.Cell.{Cells}
 use Rattle.sentry_tables.specs.Kind.{Rows, keys}
 use Rattle.sentry_tables.specs.Written.{put_all, rows_given, in_order}
 use Rattle.sentry_tables.proofs.Given.{put_all_later, put_all_ordered, rows_given_ordered}
-use Rattle.sentry_members.specs.Cells.{tree_cell}
-use Rattle.sentry_members.specs.Kinds.{any_kind}
-use Rattle.sentry_members.specs.Written.{written}
+use Rattle.sentry_tables.specs.Cells.{tree_cell}
+use Rattle.sentry_tables.specs.Kinds.{any_kind}
+use Rattle.sentry_tables.specs.Writes.{written}
 use Rattle.sentry_writing.specs.Given.{both}
 use Rattle.sentry_writing.specs.Sinks.{tag_left}
 use Rattle.sentry_writing.specs.Merged.{Merges, ClearsWay}

@@ -9,9 +9,9 @@ use Rattle.sentry_tables.specs.Cell.{Cell, fields}
 use Rattle.sentry_tables.specs.Kind.{Kind, Other, keys, must, list, values, table, tag}
 use Rattle.sentry_tables.specs.Written.{rows_given, put_all, in_order}
 use Rattle.sentry_tables.proofs.Given.{rows_tree_put, rows_given_ordered, put_all_ordered}
-use Rattle.sentry_members.specs.Cells.{list_cell}
-use Rattle.sentry_members.specs.Written.{written, WritesTree, WritesMembers}
-use Rattle.sentry_members.proofs.Tokens.{object_wrote}
+use Rattle.sentry_tables.specs.Cells.{list_cell}
+use Rattle.sentry_tables.specs.Writes.{written, WritesTree, WritesMembers}
+use Rattle.sentry_tables.proofs.Tokens.{object_wrote}
 use Rattle.sentry_writing.specs.Failing.{While}
 use Rattle.sentry_writing.specs.Given.{row_given, case_written}
 use Rattle.sentry_writing.proofs.Merging.{put_among}

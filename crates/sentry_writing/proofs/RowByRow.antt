@@ -8,7 +8,7 @@ use Rattle.sentry_tables.specs.Norm.{norm}
 use Rattle.sentry_tables.specs.Written.{tree, row_tree, given, rows_given}
 use Rattle.sentry_tables.specs.Meets.{RowsMeet, plain_demand, stored_demand}
 use Rattle.sentry_writing.specs.Given.{both, row_given, GivesRow, GivesRows, Tested}
-use Rattle.sentry_members.specs.Written.{written}
+use Rattle.sentry_tables.specs.Writes.{written}
 
 given-both : (k : List ℕ) (o : Option Data) (ms : Members) → both (given k o no_members) ms ≡ given k o ms
 given-both k None ms = refl

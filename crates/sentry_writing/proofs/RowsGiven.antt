@@ -1,15 +1,15 @@
 -- What rows give.
 use Rattle.std.proofs.Common.{◌≡◌, ℕ, List, [], ◌∷◌, length, String, Global, false, refl}
 use Rattle.std.specs.Prelude.{◌==◌, bytes_eq, IsUtf8, ⊤, true}
-use Rattle.sentry_members.specs.Kinds.{text_kind}
+use Rattle.sentry_tables.specs.Kinds.{text_kind}
 use Rattle.serde_json.specs.Data.{no_members, member, string}
 use Rattle.sentry_tables.specs.Cell.{Cell, text}
 use Rattle.sentry_tables.specs.Kind.{Kind, default, list, map, values}
-use Rattle.sentry_members.specs.Cells.{list_cell, map_cell, empty_list, empty_map}
+use Rattle.sentry_tables.specs.Cells.{list_cell, map_cell, empty_list, empty_map}
 use Rattle.serde_json.specs.Data.{Members}
 use Rattle.sentry_tables.specs.Meets.{IsPlain, IsStored}
 use Rattle.sentry_writing.specs.Given.{row_given, Took, GivesRow}
-use Rattle.sentry_members.specs.Written.{written}
+use Rattle.sentry_tables.specs.Writes.{written}
 
 pub list_given : {A : Type 0} (key : List ℕ) (K : Kind) (f : A → Cell) (xs : List A) → (length xs == 0) ≡ false
     → row_given key (default empty_list) (list K) (list_cell f xs) ≡ member key (written (list K) (list_cell f xs)) no_members

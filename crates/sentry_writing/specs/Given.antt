@@ -8,7 +8,7 @@ use Rattle.sentry_tables.specs.Kind.{Rule, Kind, Rows, tag}
 use Rattle.sentry_tables.specs.Meets.{RowMeets, IsPlain, IsStored}
 use Rattle.sentry_tables.specs.Norm.{norm}
 use Rattle.sentry_tables.specs.Written.{row_tree, rows_tree, given}
-use Rattle.sentry_members.specs.Written.{written}
+use Rattle.sentry_tables.specs.Writes.{written}
 
 -- the members of one list, and then those of another
 abbrev pub both : Members → Members → Members

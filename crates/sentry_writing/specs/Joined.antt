@@ -8,8 +8,8 @@ use Rattle.serde_json.specs.Data.{Members, no_members, member, put}
 use Rattle.serde_json.specs.Written.{has_float, members_have_float}
 use Rattle.sentry_tables.specs.Written.{put_all}
 use Rattle.sentry_writing.specs.Given.{both}
-use Rattle.sentry_members.specs.Continued.{continues_on, continues_as}
-use Rattle.sentry_members.specs.Written.{tokens_of, member_tokens, WritesMembers}
+use Rattle.sentry_tables.specs.Continued.{continues_on, continues_as}
+use Rattle.sentry_tables.specs.Writes.{tokens_of, member_tokens, WritesMembers}
 
 -- ---- text
 

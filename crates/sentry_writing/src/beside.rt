@@ -11,7 +11,7 @@ ghost use Rattle.sentry_writing.specs.Sinks.{tag_left, others_left};
 
 use crate::sink::Sink;
 use crate::table::Table;
-use sentry_members::{Codec, Own};
+use sentry_tables::{Codec, Own};
 use serde_json::{Map, Value};
 use std::cmp::Ordering;
 use std::collections::btree_map::Iter;

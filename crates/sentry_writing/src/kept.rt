@@ -9,8 +9,8 @@ ghost use Rattle.sentry_tables.specs.Kind.{has_key};
 ghost use Rattle.sentry_tables.specs.Meets.{IsClear};
 
 use sentry_json::is_among;
-use sentry_members::Member;
-use sentry_members::tree::has_float;
+use sentry_tables::Member;
+use sentry_tables::tree::has_float;
 use serde_json::{Map, Value};
 use std::alloc::AllocError;
 

@@ -6,7 +6,7 @@ ghost use Rattle.sentry_tables.specs.Meets.{RowsMeet, plain_demand, stored_deman
 
 use crate::sink::Sink;
 use crate::table::Table;
-use sentry_members::Codec;
+use sentry_tables::Codec;
 
 // A sink that tests each value, also one that its row omits, and writes nothing.
 #[derive(Drop)]

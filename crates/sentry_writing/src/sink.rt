@@ -5,15 +5,15 @@ ghost use Rattle.sentry_tables.specs.Meets.{IsPlain, IsStored};
 ghost use Rattle.serde_json.specs.Data.{Members, no_members, member, null, string};
 ghost use Rattle.sentry_tables.specs.Cell.{Cell, text as text_of};
 ghost use Rattle.sentry_tables.specs.Kind.{must, may, may_null, may_strict, default, always, draw, at_once, list as list_kind, map as map_kind, values as values_kind};
-ghost use Rattle.sentry_members.specs.Cells.{option_cell, list_cell, map_cell, empty_list, empty_map};
-ghost use Rattle.sentry_members.specs.Kinds.{text_kind};
+ghost use Rattle.sentry_tables.specs.Cells.{option_cell, list_cell, map_cell, empty_list, empty_map};
+ghost use Rattle.sentry_tables.specs.Kinds.{text_kind};
 ghost use Rattle.sentry_writing.specs.Given.{both, Took, GivesRow};
-ghost use Rattle.sentry_members.specs.Written.{written};
+ghost use Rattle.sentry_tables.specs.Writes.{written};
 
 use crate::values::Values;
-use sentry_members::codec::DefaultedCodec;
-use sentry_members::member::Usual;
-use sentry_members::{Codec, Drawn, Member, Own};
+use sentry_tables::codec::DefaultedCodec;
+use sentry_tables::member::Usual;
+use sentry_tables::{Codec, Drawn, Member, Own};
 use serde_json::Map;
 use std::convert::AsStr;
 
@@ -210,7 +210,7 @@ pub trait Sink {
     }
 
     /// Adds a string that is omitted when it equals the default `usual`.
-    #[tactic(auto, unfolding(crate::specs::Given::row_given, crate::specs::Given::GivesRow, sentry_members::specs::Written::written))]
+    #[tactic(auto, unfolding(crate::specs::Given::row_given, crate::specs::Given::GivesRow, sentry_tables::specs::Written::written))]
     #[inline(always)]
     final fn text_unless<T: AsStr>(&mut self, key: &str, value: &T, usual: &str)
         ensures { GivesRow Adds Tests key.now (default (text_of usual.now)) text_kind

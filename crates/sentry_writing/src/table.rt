@@ -6,7 +6,7 @@ ghost use Rattle.serde_json.specs.View.{view, members_view};
 ghost use Rattle.sentry_tables.specs.Fields.{Field, table_of, fields_by, rows_of, cells_by};
 ghost use Rattle.sentry_tables.specs.Kind.{keys};
 ghost use Rattle.sentry_tables.specs.Written.{put_all, rows_given, in_order};
-ghost use Rattle.sentry_members.specs.Written.{written, WritesTree, WritesMembers};
+ghost use Rattle.sentry_tables.specs.Writes.{written, WritesTree, WritesMembers};
 ghost use Rattle.sentry_writing.specs.Given.{GivesRows, case_written};
 ghost use Rattle.sentry_writing.specs.Sinks.{members_so_far, tag_left};
 

@@ -2,11 +2,11 @@
 
 ghost use Rattle.std.specs.Prelude.{◌≡◌, OnOk};
 ghost use Rattle.serde_json.specs.Data.{no_members, member, null, string};
-ghost use Rattle.sentry_members.specs.Written.{written, WritesMembers};
+ghost use Rattle.sentry_tables.specs.Writes.{written, WritesMembers};
 
 use crate::sink::Sink;
 use json::Writer;
-use sentry_members::Codec;
+use sentry_tables::Codec;
 use std::alloc::AllocError;
 
 /// A sink that appends members to a JSON writer.
@@ -24,7 +24,7 @@ impl<'w> Sink for TextRows<'w> {
     ghost use Rattle.std.specs.Prelude.{refl, ⊤};
     ghost use Rattle.sentry_writing.specs.Failing.{While, nothing_while, joined_while};
     ghost use Rattle.sentry_writing.specs.Joined.{members_join};
-    ghost use Rattle.sentry_members.specs.Continued.{no_members_wrote};
+    ghost use Rattle.sentry_tables.specs.Continued.{no_members_wrote};
     ghost use Rattle.std.proofs.Common.{◌∙◌};
 
     ghost Adds = { λ a b ms. (b.out.ghost_name ≡ a.out.ghost_name) ×
@@ -59,15 +59,15 @@ impl<'w> Sink for TextRows<'w> {
         self.failed = write_word(&mut *self.out, key, text).err();
     }
 
-    #[tactic(auto, using(crate::specs::Failing::nothing_while, sentry_members::specs::Continued::no_members_wrote))]
+    #[tactic(auto, using(crate::specs::Failing::nothing_while, sentry_tables::specs::Continued::no_members_wrote))]
     #[inline(always)]
     fn left_out<F: Codec<T>, T>(&mut self, _value: &T) {}
 
-    #[tactic(auto, using(crate::specs::Failing::nothing_while, sentry_members::specs::Continued::no_members_wrote))]
+    #[tactic(auto, using(crate::specs::Failing::nothing_while, sentry_tables::specs::Continued::no_members_wrote))]
     #[inline(always)]
     fn left_out_text(&mut self, _text: &str) {}
 
-    #[tactic(auto, using(crate::specs::Failing::nothing_while, sentry_members::specs::Continued::no_members_wrote))]
+    #[tactic(auto, using(crate::specs::Failing::nothing_while, sentry_tables::specs::Continued::no_members_wrote))]
     #[inline(always)]
     fn absent(&mut self) {}
 

@@ -9,7 +9,7 @@ ghost use Rattle.sentry_writing.specs.Sinks.{members_so_far};
 
 use crate::kept::copy_others;
 use crate::sink::Sink;
-use sentry_members::Codec;
+use sentry_tables::Codec;
 use serde_json::{Map, Value, put};
 use std::alloc::{AllocError, Global};
 

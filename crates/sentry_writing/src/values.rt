@@ -1,15 +1,15 @@
 //! Lists that are written under the key `values`.
 
 ghost use Rattle.sentry_tables.specs.Kind.{values as values_kind};
-ghost use Rattle.sentry_members.specs.Cells.{list_cell};
+ghost use Rattle.sentry_tables.specs.Cells.{list_cell};
 
 use crate::sink::Sink;
 use crate::text::write_member;
 use crate::tree::TreeRows;
 use json::Writer;
 use sentry_json::Node;
-use sentry_members::read::read_values;
-use sentry_members::{Codec, Formed, FromTree, Member, Own, ReadCodec, TreeError, Way};
+use sentry_tables::read::read_values;
+use sentry_tables::{Codec, Formed, FromTree, Member, Own, ReadCodec, TreeError, Way};
 use serde_json::Value;
 use std::alloc::{AllocError, Global};
 use std::slice::{Iter, IterMut};

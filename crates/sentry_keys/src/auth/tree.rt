@@ -1,15 +1,15 @@
 //! Client authentication as a JSON object, which never holds the timestamp.
 
 ghost use Rattle.std.specs.Prelude.{◌≡◌, None, IfOk};
-ghost use Rattle.sentry_members.specs.Reading.{Reads};
+ghost use Rattle.sentry_tables.specs.Reading.{Reads};
 ghost use Rattle.sentry_keys.specs.AuthFields.{auth_table, rows_cell};
 
 use crate::auth::{Auth, LATEST};
 use json::Writer;
 use sentry_json::Node;
-use sentry_members::{FromTree, Member, TreeError, Way};
 use sentry_rows::table::{table_tree, write_table};
 use sentry_rows::{Reader, Sink, Table};
+use sentry_tables::{FromTree, Member, TreeError, Way};
 use serde_json::Value;
 use std::alloc::{AllocError, Global};
 

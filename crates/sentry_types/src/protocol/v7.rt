@@ -52,11 +52,11 @@ pub use uuid::Uuid;
 // Types as trees of JSON: the traits of their calls, and the forms of those that have several.
 pub use sentry_identifiers::{Hyphenated, Simple};
 pub use sentry_json::{Named, Node};
-pub use sentry_members::{
-    Codec, Drawn, Formed, FromTree, Member, Own, ReadCodec, TreeError, Way, read_line, whole,
-};
 pub use sentry_moments::{Rfc3339, Seconds};
 pub use sentry_rows::{FromTreeAt, ReadCodecAt};
+pub use sentry_tables::{
+    Codec, Drawn, Formed, FromTree, Member, Own, ReadCodec, TreeError, Way, read_line, whole,
+};
 pub use sentry_text::{IpText, OrganizationText, UrlText};
 pub use sentry_words::Sampled;
 

@@ -1,4 +1,4 @@
-use Rattle.sentry_tape.specs.TapeView.{node_data}
+use Rattle.sentry_json.specs.TapeView.{node_data}
 use Rattle.sentry_envelope.proofs.HeadersFilled.{rows_filled}
 use Rattle.sentry_envelope.proofs.headers.fill_from_root.Goals as goal
 

@@ -1,6 +1,6 @@
 use Rattle.std.proofs.Common.{rules, ◌≡◌}
 use Rattle.std.specs.Prelude.{codes}
-use Rattle.sentry_tape.specs.TapeView.{node_data}
+use Rattle.sentry_json.specs.TapeView.{node_data}
 use Rattle.sentry_envelope.proofs.HeadersFilled.{line_filled, none_filled}
 use Rattle.sentry_envelope.proofs.headers.fill_headers.Goals as goal
 

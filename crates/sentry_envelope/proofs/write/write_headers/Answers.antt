@@ -1,4 +1,4 @@
-use Rattle.sentry_members.specs.Written.{written}
+use Rattle.sentry_tables.specs.Writes.{written}
 use Rattle.sentry_envelope.specs.HeaderFields.{headers_cell}
 use Rattle.sentry_envelope.proofs.HeaderValues.{header_whole, where_stored_and_plain}
 use Rattle.sentry_envelope.proofs.write.write_headers.Goals as goal

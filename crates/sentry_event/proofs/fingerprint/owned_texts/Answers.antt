@@ -1,8 +1,8 @@
 use Rattle.std.proofs.Common.{◌≡◌, ap, take, arith, rules}
 use Rattle.std.proofs.lemmas.List.{take_all}
 use Rattle.sentry_tables.specs.Cell.{sequence, text}
-use Rattle.sentry_members.specs.Cells.{cow_cell}
-use Rattle.sentry_members.proofs.Collections.{copied_more}
+use Rattle.sentry_tables.specs.Cells.{cow_cell}
+use Rattle.sentry_tables.proofs.Collections.{copied_more}
 use Rattle.sentry_event.proofs.fingerprint.owned_texts.Goals as goal
 
 pub loop-text-preserved : goal.loop-text-preserved

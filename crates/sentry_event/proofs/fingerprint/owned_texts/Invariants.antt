@@ -1,5 +1,5 @@
 use Rattle.std.proofs.Common.{◌≡◌, take}
-use Rattle.sentry_members.specs.Cells.{cow_cell, cells}
+use Rattle.sentry_tables.specs.Cells.{cow_cell, cells}
 use Rattle.sentry_event.proofs.fingerprint.owned_texts.Given as goal
 
 abbrev pub invariant-loop-text : goal.invariant-loop-text

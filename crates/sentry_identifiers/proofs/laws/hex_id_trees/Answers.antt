@@ -1,5 +1,5 @@
 use Rattle.sentry_tables.proofs.Laws.{has_laws}
-use Rattle.sentry_members.proofs.Spellings.{spelled_laws}
+use Rattle.sentry_tables.proofs.Spellings.{spelled_laws}
 use Rattle.sentry_identifiers.specs.HexIdTree.{hex_id_spelling, span_id_kind, trace_id_kind}
 use Rattle.sentry_identifiers.proofs.HexIdTrees.{hex_id_laws, drawn_id_laws}
 use Rattle.sentry_identifiers.proofs.laws.hex_id_trees.Goals as goal

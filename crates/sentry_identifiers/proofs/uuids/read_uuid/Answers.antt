@@ -1,6 +1,6 @@
 use Rattle.std.proofs.Common.{rules, sym}
 use Rattle.std.proofs.lemmas.Bool.{false≢true}
-use Rattle.sentry_members.proofs.Spellings.{not_text}
+use Rattle.sentry_tables.proofs.Spellings.{not_text}
 use Rattle.sentry_identifiers.specs.Uuids.{uuid_spelling}
 use Rattle.sentry_identifiers.proofs.UuidTexts.{uuid_shown, not_uuid}
 use Rattle.sentry_identifiers.proofs.uuids.read_uuid.Goals as goal

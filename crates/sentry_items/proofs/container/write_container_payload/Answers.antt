@@ -1,8 +1,8 @@
 use Rattle.std.proofs.Common.{◌++◌, ◌∙◌, ap}
 use Rattle.serde_json.specs.Written.{compact_text}
 use Rattle.sentry_tables.specs.Written.{tree}
-use Rattle.sentry_members.specs.Written.{written}
-use Rattle.sentry_members.proofs.Tokens.{text_written}
+use Rattle.sentry_tables.specs.Writes.{written}
+use Rattle.sentry_tables.proofs.Tokens.{text_written}
 use Rattle.sentry_items.specs.Containers.{container_cell, container_type}
 use Rattle.sentry_items.specs.View.{payload_kind}
 use Rattle.sentry_items.proofs.container.write_container_payload.Goals as goal

@@ -6,9 +6,9 @@ use Rattle.sentry_json.specs.Nodes.{named_by}
 use Rattle.sentry_json.proofs.Latest.{one_passed_over, one_put, one_counts}
 use Rattle.sentry_tables.specs.Kind.{tagged_map}
 use Rattle.sentry_tables.specs.Shows.{MembersShow}
-use Rattle.sentry_members.specs.Cells.{entries}
-use Rattle.sentry_members.specs.Reading.{Only, RefusedAt}
-use Rattle.sentry_members.proofs.ListsShown.{shown_name, shown_still, shown_put_as}
+use Rattle.sentry_tables.specs.Cells.{entries}
+use Rattle.sentry_tables.specs.Reading.{Only, RefusedAt}
+use Rattle.sentry_tables.proofs.ListsShown.{shown_name, shown_still, shown_put_as}
 use Rattle.sentry_moments.specs.Moments.{moment_cell}
 use Rattle.sentry_rows.specs.Cased.{ShowsEntry}
 use Rattle.sentry_rows.proofs.CaseMaps.{no_map, map_fails, map_shown, entry_shown}

@@ -1,7 +1,7 @@
 use Rattle.std.proofs.Common.{◌≤◌, length, drop}
 use Rattle.sentry_json.specs.Nodes.{named_by}
 use Rattle.sentry_tables.specs.Shows.{MembersShow}
-use Rattle.sentry_members.specs.Cells.{entries}
+use Rattle.sentry_tables.specs.Cells.{entries}
 use Rattle.sentry_moments.specs.Moments.{moment_cell}
 use Rattle.sentry_rows.specs.Cased.{ShowsEntry}
 use Rattle.sentry_rows.proofs.case_map.read_case_map.Given as goal

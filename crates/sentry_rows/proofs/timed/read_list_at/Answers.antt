@@ -2,10 +2,10 @@ use Rattle.std.proofs.Common.{◌≡◌, Some, take, arith, rules}
 use Rattle.std.proofs.lemmas.List.{take_all}
 use Rattle.sentry_json.specs.Nodes.{items_by}
 use Rattle.serde_json.specs.Find.{as_array}
-use Rattle.sentry_members.specs.Reading.{Only, RefusedAt}
+use Rattle.sentry_tables.specs.Reading.{Only, RefusedAt}
 use Rattle.sentry_tables.specs.Kind.{list}
 use Rattle.sentry_moments.specs.Moments.{moment_cell}
-use Rattle.sentry_members.proofs.ListsShown.{not_array_at, list_fails_at, list_shown_at, each_more_at, shown_here}
+use Rattle.sentry_tables.proofs.ListsShown.{not_array_at, list_fails_at, list_shown_at, each_more_at, shown_here}
 use Rattle.sentry_rows.proofs.timed.read_list_at.Goals as goal
 
 pub returns-in-None : goal.returns-in-None

@@ -1,6 +1,6 @@
 use Rattle.std.proofs.Common.{take}
 use Rattle.sentry_json.specs.Nodes.{items_by}
-use Rattle.sentry_members.specs.Cells.{cells}
+use Rattle.sentry_tables.specs.Cells.{cells}
 use Rattle.sentry_tables.specs.Shows.{Shows, ItemsShow}
 use Rattle.sentry_moments.specs.Moments.{moment_cell}
 use Rattle.sentry_rows.proofs.timed.read_list_at.Given as goal

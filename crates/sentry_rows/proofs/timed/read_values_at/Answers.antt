@@ -1,5 +1,5 @@
 use Rattle.std.proofs.Common.{rules}
-use Rattle.sentry_members.proofs.ValuesShown.{under_read_at}
+use Rattle.sentry_tables.proofs.ValuesShown.{under_read_at}
 use Rattle.sentry_rows.proofs.timed.read_values_at.Goals as goal
 
 pub returns-in-Some : goal.returns-in-Some

@@ -1,7 +1,7 @@
 use Rattle.std.proofs.Common.{◌^◌, refl, arith}
 use Rattle.sentry_tables.proofs.Basic.{unsigned_laws, unsigned_refuses_null}
 use Rattle.sentry_tables.proofs.Laws.{has_laws}
-use Rattle.sentry_members.proofs.Spellings.{spelled_has_laws, spelled_refuses_null}
+use Rattle.sentry_tables.proofs.Spellings.{spelled_has_laws, spelled_refuses_null}
 use Rattle.sentry_text.specs.ProjectTree.{organization_spelling, organization_kind}
 use Rattle.sentry_text.proofs.ProjectTrees.{organization_text_laws, organization_is_normal}
 use Rattle.sentry_text.proofs.laws.organization_trees.Goals as goal

@@ -1,4 +1,4 @@
-use Rattle.sentry_members.proofs.Spellings.{spelled_has_laws, spelled_refuses_null}
+use Rattle.sentry_tables.proofs.Spellings.{spelled_has_laws, spelled_refuses_null}
 use Rattle.sentry_text.specs.ProjectTree.{project_spelling}
 use Rattle.sentry_text.proofs.ProjectTrees.{project_laws, project_is_normal}
 use Rattle.sentry_text.proofs.laws.project_trees.Goals as goal

@@ -1,4 +1,4 @@
-use Rattle.sentry_members.proofs.Spellings.{spelled_refuses_null}
+use Rattle.sentry_tables.proofs.Spellings.{spelled_refuses_null}
 use Rattle.sentry_words.specs.Level.{level_spelling}
 use Rattle.sentry_words.proofs.Enumerations.{level_has_laws}
 use Rattle.sentry_words.proofs.laws.levels.Goals as goal

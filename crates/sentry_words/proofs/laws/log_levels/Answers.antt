@@ -1,4 +1,4 @@
-use Rattle.sentry_members.proofs.Spellings.{spelled_refuses_null}
+use Rattle.sentry_tables.proofs.Spellings.{spelled_refuses_null}
 use Rattle.sentry_words.specs.LogLevel.{log_level_spelling}
 use Rattle.sentry_words.proofs.Enumerations.{log_level_has_laws}
 use Rattle.sentry_words.proofs.laws.log_levels.Goals as goal

@@ -1,4 +1,4 @@
-use Rattle.sentry_members.proofs.Spellings.{spelled_refuses_null}
+use Rattle.sentry_tables.proofs.Spellings.{spelled_refuses_null}
 use Rattle.sentry_words.specs.MetricType.{metric_type_spelling}
 use Rattle.sentry_words.proofs.Enumerations.{metric_type_has_laws}
 use Rattle.sentry_words.proofs.laws.metric_types.Goals as goal

@@ -1,4 +1,4 @@
-use Rattle.sentry_members.proofs.Spellings.{spelled_refuses_null}
+use Rattle.sentry_tables.proofs.Spellings.{spelled_refuses_null}
 use Rattle.sentry_words.specs.MonitorCheckInStatus.{check_in_status_spelling}
 use Rattle.sentry_words.proofs.Enumerations.{check_in_status_has_laws}
 use Rattle.sentry_words.proofs.laws.monitor_check_in_statuses.Goals as goal

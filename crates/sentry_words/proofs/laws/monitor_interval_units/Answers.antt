@@ -1,4 +1,4 @@
-use Rattle.sentry_members.proofs.Spellings.{spelled_refuses_null}
+use Rattle.sentry_tables.proofs.Spellings.{spelled_refuses_null}
 use Rattle.sentry_words.specs.MonitorIntervalUnit.{interval_unit_spelling}
 use Rattle.sentry_words.proofs.Enumerations.{interval_unit_has_laws}
 use Rattle.sentry_words.proofs.laws.monitor_interval_units.Goals as goal

@@ -1,4 +1,4 @@
-use Rattle.sentry_members.proofs.Spellings.{spelled_refuses_null}
+use Rattle.sentry_tables.proofs.Spellings.{spelled_refuses_null}
 use Rattle.sentry_words.specs.Orientation.{orientation_spelling}
 use Rattle.sentry_words.proofs.Enumerations.{orientation_has_laws}
 use Rattle.sentry_words.proofs.laws.orientations.Goals as goal

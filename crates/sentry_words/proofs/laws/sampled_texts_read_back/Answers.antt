@@ -1,4 +1,4 @@
-use Rattle.sentry_members.proofs.Spellings.{spelled_refuses_null}
+use Rattle.sentry_tables.proofs.Spellings.{spelled_refuses_null}
 use Rattle.sentry_words.specs.Sampled.{sampled_spelling}
 use Rattle.sentry_words.proofs.SampledLaws.{sampled_back, sampled_has_laws}
 use Rattle.sentry_words.proofs.laws.sampled_texts_read_back.Goals as goal

@@ -1,4 +1,4 @@
-use Rattle.sentry_members.proofs.Spellings.{spelled_refuses_null}
+use Rattle.sentry_tables.proofs.Spellings.{spelled_refuses_null}
 use Rattle.sentry_words.specs.SessionStatus.{session_status_spelling}
 use Rattle.sentry_words.proofs.Enumerations.{session_status_has_laws}
 use Rattle.sentry_words.proofs.laws.session_statuses.Goals as goal

@@ -1,4 +1,4 @@
-use Rattle.sentry_members.proofs.Spellings.{spelled_refuses_null}
+use Rattle.sentry_tables.proofs.Spellings.{spelled_refuses_null}
 use Rattle.sentry_words.specs.SpanStatus.{span_status_spelling}
 use Rattle.sentry_words.proofs.Enumerations.{span_status_has_laws}
 use Rattle.sentry_words.proofs.laws.span_statuses.Goals as goal

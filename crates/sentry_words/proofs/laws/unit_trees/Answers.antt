@@ -1,5 +1,5 @@
 use Rattle.std.proofs.Common.{refl}
-use Rattle.sentry_members.proofs.Spellings.{spelled_refuses_null}
+use Rattle.sentry_tables.proofs.Spellings.{spelled_refuses_null}
 use Rattle.sentry_words.specs.Units.{unit_spelling}
 use Rattle.sentry_words.proofs.UnitLaws.{unit_has_laws}
 use Rattle.sentry_words.proofs.laws.unit_trees.Goals as goal

@@ -1,8 +1,8 @@
 use Rattle.std.proofs.Common.{◌≡◌}
 use Rattle.std.proofs.lemmas.Result.{IfOk-weaker}
 use Rattle.serde_json.specs.View.{members_view}
-use Rattle.sentry_members.specs.Cells.{map_cell, tree_cell}
-use Rattle.sentry_members.proofs.Collections.{others_same_cell}
+use Rattle.sentry_tables.specs.Cells.{map_cell, tree_cell}
+use Rattle.sentry_tables.proofs.Collections.{others_same_cell}
 use Rattle.sentry_writing.proofs.kept.copy_others.Goals as goal
 
 pub returns : goal.returns

@@ -1,6 +1,6 @@
 use Rattle.std.proofs.Common.{refl}
-use Rattle.sentry_members.proofs.SoundTrees.{sound_members_are_stored}
-use Rattle.sentry_members.proofs.Soundness.{members_sound}
+use Rattle.sentry_tables.proofs.SoundTrees.{sound_members_are_stored}
+use Rattle.sentry_tables.proofs.Soundness.{members_sound}
 use Rattle.sentry_writing.proofs.kept.others_are_plain.Goals as goal
 
 pub returns-clause-stored : goal.returns-clause-stored

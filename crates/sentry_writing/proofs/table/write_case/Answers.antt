@@ -1,5 +1,5 @@
 use Rattle.std.proofs.Common.{OnOk, subst}
-use Rattle.sentry_members.specs.Written.{WritesTree}
+use Rattle.sentry_tables.specs.Writes.{WritesTree}
 use Rattle.sentry_writing.proofs.OfTables.{case_text}
 use Rattle.sentry_writing.proofs.table.write_case.Goals as goal
 

@@ -1,7 +1,7 @@
 use Rattle.std.proofs.Common.{rules, sym, subst}
 use Rattle.sentry_tables.specs.Fields.{rows_of, cells_by}
 use Rattle.sentry_tables.specs.Written.{rows_given}
-use Rattle.sentry_members.specs.Written.{WritesMembers}
+use Rattle.sentry_tables.specs.Writes.{WritesMembers}
 use Rattle.sentry_writing.proofs.OfTables.{while_none}
 use Rattle.sentry_writing.proofs.table.write_own.Goals as goal
 

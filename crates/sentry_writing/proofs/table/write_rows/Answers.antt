@@ -1,4 +1,4 @@
-use Rattle.sentry_members.proofs.Tokens.{object_wrote}
+use Rattle.sentry_tables.proofs.Tokens.{object_wrote}
 use Rattle.sentry_writing.proofs.table.write_rows.Goals as goal
 
 pub returns : goal.returns

@@ -1,6 +1,6 @@
 use Rattle.std.proofs.Common.{OnOk, subst}
-use Rattle.sentry_members.proofs.Tokens.{object_wrote}
-use Rattle.sentry_members.specs.Written.{WritesTree}
+use Rattle.sentry_tables.proofs.Tokens.{object_wrote}
+use Rattle.sentry_tables.specs.Writes.{WritesTree}
 use Rattle.sentry_writing.proofs.OfTables.{in_order_is}
 use Rattle.sentry_writing.proofs.table.write_table.Goals as goal
 

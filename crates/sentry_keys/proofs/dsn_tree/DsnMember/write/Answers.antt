@@ -1,6 +1,6 @@
 use Rattle.std.proofs.Common.{◌≡◌, ◌∙◌, sym}
 use Rattle.std.specs.String.{string_bytes}
-use Rattle.sentry_members.proofs.Spellings.{spelling_wrote}
+use Rattle.sentry_tables.proofs.Spellings.{spelling_wrote}
 use Rattle.sentry_keys.specs.Dsn.{dsn_parts, dsn_text}
 use Rattle.sentry_keys.specs.DsnTree.{dsn_cell, dsn_spelling}
 use Rattle.sentry_keys.proofs.DsnTrees.{parts_written}

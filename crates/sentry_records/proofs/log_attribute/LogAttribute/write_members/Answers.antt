@@ -1,6 +1,6 @@
 use Rattle.std.proofs.Common.{rules, sym, subst}
 use Rattle.serde_json.specs.View.{view}
-use Rattle.sentry_members.specs.Written.{WritesMembers}
+use Rattle.sentry_tables.specs.Writes.{WritesMembers}
 use Rattle.sentry_records.specs.LogAttribute.{attribute_form, attribute_members}
 use Rattle.sentry_writing.proofs.OfTables.{while_none}
 use Rattle.sentry_records.proofs.log_attribute.LogAttribute.write_members.Goals as goal

@@ -1,6 +1,6 @@
 use Rattle.std.proofs.Common.{rules, OnOk, sym, subst}
 use Rattle.sentry_tables.specs.Kind.{tagged}
-use Rattle.sentry_members.specs.Written.{written, WritesTree}
+use Rattle.sentry_tables.specs.Writes.{written, WritesTree}
 use Rattle.sentry_rows.proofs.CasesGiven.{text_wrote}
 use Rattle.sentry_rows.proofs.cased.AsCaseCodec.write.Goals as goal
 

@@ -1,5 +1,5 @@
 use Rattle.std.proofs.Common.{rules}
-use Rattle.sentry_members.specs.Cells.{list_cell}
+use Rattle.sentry_tables.specs.Cells.{list_cell}
 use Rattle.sentry_moments.specs.Moments.{moment_cell}
 use Rattle.sentry_rows.proofs.Reading.{must_kept_at, missing_kept_at}
 use Rattle.sentry_rows.proofs.reader.Reader.required_list_at.Goals as goal

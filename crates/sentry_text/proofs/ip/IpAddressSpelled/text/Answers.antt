@@ -1,6 +1,6 @@
 use Rattle.std.proofs.Common.{◌≡◌, IfOk, sym, subst}
 use Rattle.std.specs.Prelude.{IfErr}
-use Rattle.sentry_members.specs.Spelling.{FitsRoom}
+use Rattle.sentry_tables.specs.Spelling.{FitsRoom}
 use Rattle.sentry_text.proofs.IpTrees.{address_written}
 use Rattle.sentry_text.proofs.AddressLengths.{ip_address_fits}
 use Rattle.sentry_text.proofs.ip.IpAddressSpelled.text.Goals as goal

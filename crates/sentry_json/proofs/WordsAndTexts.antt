@@ -1,0 +1,112 @@
+-- How scalars are spelled.
+use Rattle.std.proofs.Common.{◌≡◌, ℕ, zero, suc, ℤ, pos, negsuc, neg_ℤ, ◌^◌, ◌<◌, ◌≤◌, true, false, cond, List, [], ◌∷◌, ◌++◌, length, get_or, take, Some, option_map, decimal, refl, sym, ap, ap₂, ◌∙◌, arith}
+use Rattle.std.proofs.lemmas.Fmt.{decimal-digits_value}
+use Rattle.std.proofs.lemmas.Str.Parse.{numerals_by_value, tells_digits}
+use Rattle.std.proofs.lemmas.Int.Digits.{digits_value-lt}
+use Rattle.std.proofs.lemmas.List.{length-take-le, get_or-take}
+use Rattle.std.specs.Str.Parse.{IsNumeral, digits_value}
+use Rattle.json.specs.Token as json_token
+use Rattle.json.specs.Json as json
+use Rattle.json.specs.Lex.{token, lex, in_word, between, string_token}
+use Rattle.json.specs.Word.{ends_word, word}
+use Rattle.json.proofs.Printed.Numbers.{lex-number, in_word-ended}
+use Rattle.json.proofs.Printed.Decimals.{IsNumber-decimal, IsNumber-signed_decimal}
+use Rattle.serde_json.specs.Data.{number, string}
+use Rattle.serde_json.proofs.Numbers.{number_of-decimal, number_of-negative}
+use Rattle.sentry_json.specs.declared.tape.token.Token.{Token}
+use Rattle.sentry_json.specs.declared.tape.token.Token.TheVariants as variants
+use Rattle.sentry_json.specs.Spelled.{Spells, SpellsString, IsQuoted}
+use Rattle.sentry_json.specs.Tokens.{width, text_of, value_of, value_at}
+use Rattle.sentry_json.proofs.Integers.{power_below}
+
+-- ---- integers
+
+-- digits in the way that the number is written
+record IsWritten (ds : List ℕ) (n : ℕ) : Type 0 where
+  same : ds ≡ decimal n
+  fits : n < 2 ^ 64
+
+written : (text : List ℕ) (n len : ℕ) → IsNumeral 10 (take len text) → n ≡ digits_value 10 (take len text) → len ≤ length text → len ≤ 19 → (get_or text 0 0 ≡ 48 → len ≡ 1) → IsWritten (take len text) n
+written text n len numeral is le few lead =
+    let ds = take len text in
+    let size : length ds ≡ len = length-take-le len text le in
+    let some : 0 < len = omega (arith, numeral.0, size) in
+    let fits : digits_value 10 ds < 2 ^ 64 = omega (arith, size, power_below (length ds) 19 (omega arith), digits_value-lt 10 ds numeral.1) in
+    let first : get_or ds 0 0 ≡ get_or text 0 0 = get_or-take len text 0 0 some in
+    let one : get_or ds 0 0 ≡ 48 → length ds ≡ 1 = λ e. size ∙ lead (sym first ∙ e) in
+    record { same = sym (ap decimal is ∙ decimal-digits_value (numerals_by_value _ tells_digits) ds numeral.1 numeral.0 one fits); fits = rw is fits }
+
+-- with a minus
+minus_spelled : (n : ℕ) (whole rest : List ℕ) (z : ℤ) → whole ≡ 45 ∷ (decimal n ++ rest) → 0 < n → n < 2 ^ 63 → z ≡ neg_ℤ (pos n) → Spells whole rest (variants.Negative z) [] 0
+unfolding value_at
+minus_spelled zero whole rest z is some low same = absurd (omega arith)
+minus_spelled (suc k) whole rest z is some low same =
+    record {
+      json = json.number (45 ∷ decimal (suc k));
+      lexed = λ ended. ap (lex between) is ∙ lex-number (45 ∷ decimal (suc k)) rest (IsNumber-signed_decimal (negsuc k) (omega arith)) ended;
+      meant = ap (option_map number) (number_of-negative k (omega arith)) ∙ ap (λ y. Some (value_of (variants.Negative y) [])) (sym same);
+      closed = refl;
+      shallow = omega arith;
+    }
+
+-- the digits that the code counts
+module _ (text rest : List ℕ) (n len : ℕ) (parts : text ≡ take len text ++ rest) (numeral : IsNumeral 10 (take len text)) (is : n ≡ digits_value 10 (take len text)) (le : len ≤ length text) (few : len ≤ 19) (lead : get_or text 0 0 ≡ 48 → len ≡ 1) where
+  by_decimal : text ≡ decimal n ++ rest
+  by_decimal = parts ∙ ap (λ ds. ds ++ rest) (written text n len numeral is le few lead).same
+
+  pub whole_spelled : Spells text rest (variants.Whole n) [] 0
+  unfolding value_at
+  whole_spelled =
+      let fits = (written text n len numeral is le few lead).fits in
+      record {
+        json = json.number (decimal n);
+        lexed = λ ended. ap (lex between) by_decimal ∙ lex-number (decimal n) rest (IsNumber-decimal n fits) ended;
+        meant = ap (option_map number) (number_of-decimal n fits);
+        closed = refl;
+        shallow = omega arith;
+      }
+
+  pub negative_spelled : (whole : List ℕ) (z : ℤ) → whole ≡ 45 ∷ text → 0 < n → n < 2 ^ 63 → z ≡ neg_ℤ (pos n) → Spells whole rest (variants.Negative z) [] 0
+  negative_spelled whole z front some low same = minus_spelled n whole rest z (front ∙ ap (λ s. 45 ∷ s) by_decimal) some low same
+
+-- ---- strings
+
+-- a token that has a text is the string of it
+text_value : (t : Token) (s : List ℕ) → text_of t ≡ Some s → (Some (string s) ≡ Some (value_of t [])) × (width t ≡ 0)
+unfolding value_at
+text_value variants.Null s e = absurd (cc)
+text_value (variants.Bool b) s e = absurd (cc)
+text_value (variants.Whole n) s e = absurd (cc)
+text_value (variants.Negative z) s e = absurd (cc)
+text_value (variants.Text x) s e = (ap (option_map string) (sym e), refl)
+text_value (variants.Unescaped x) s e = (ap (option_map string) (sym e), refl)
+text_value (variants.Array n) s e = absurd (cc)
+text_value (variants.Object n) s e = absurd (cc)
+
+pub string_spelled : (text inside rest s : List ℕ) (t : Token) → text ≡ 34 ∷ inside → text_of t ≡ Some s → IsQuoted inside s rest → SpellsString text rest t
+unfolding lex
+string_spelled text inside rest s t is named quoted =
+    record { name = s; named = named; lexed = ap (lex between) is ∙ ap₂ (λ o l. token (string_token o) ∷ l) quoted.read quoted.lexed }
+
+pub text_spelled : (text rest : List ℕ) (t : Token) (most : ℕ) → SpellsString text rest t → Spells text rest t [] most
+text_spelled text rest t most s =
+    let same = text_value t s.name s.named in
+    record { json = json.string s.name; lexed = λ ended. s.lexed; meant = same.0; closed = same.1; shallow = omega arith }
+
+-- ---- words
+
+-- a literal is read where a word ends behind it
+word_ended : (t : json_token.Token) (rest : List ℕ) → ends_word rest ≡ true → token (cond (ends_word rest) t json_token.bad) ∷ lex in_word rest ≡ token t ∷ lex between rest
+word_ended t rest ended = ap₂ (λ b l. token (cond b t json_token.bad) ∷ l) ended (in_word-ended rest ended)
+
+pub null_spelled : (text rest : List ℕ) → text ≡ 110 ∷ 117 ∷ 108 ∷ 108 ∷ rest → Spells text rest variants.Null [] 0
+unfolding lex word value_at
+null_spelled text rest is = record { json = json.null; lexed = λ ended. ap (lex between) is ∙ word_ended json_token.null rest ended; meant = refl; closed = refl; shallow = omega arith }
+
+pub true_spelled : (text rest : List ℕ) → text ≡ 116 ∷ 114 ∷ 117 ∷ 101 ∷ rest → Spells text rest (variants.Bool true) [] 0
+unfolding lex word value_at
+true_spelled text rest is = record { json = json.boolean true; lexed = λ ended. ap (lex between) is ∙ word_ended (json_token.boolean true) rest ended; meant = refl; closed = refl; shallow = omega arith }
+
+pub false_spelled : (text rest : List ℕ) → text ≡ 102 ∷ 97 ∷ 108 ∷ 115 ∷ 101 ∷ rest → Spells text rest (variants.Bool false) [] 0
+unfolding lex word value_at
+false_spelled text rest is = record { json = json.boolean false; lexed = λ ended. ap (lex between) is ∙ word_ended (json_token.boolean false) rest ended; meant = refl; closed = refl; shallow = omega arith }

@@ -1,0 +1,253 @@
+//! A tape of our own for lines of JSON: one pass over the text, a token for each value and each
+//! key.
+
+mod escape;
+mod node;
+mod number;
+mod rest;
+mod run;
+mod scalar;
+mod token;
+
+ghost use Rattle.std.specs.Prelude.{◌≡◌, ◌++◌, ◌∷◌, ◌<◌, [], ℕ, IfSome, List, Some, if◌then◌else◌, length, true};
+ghost use Rattle.sentry_json.specs.Line.{tree_of};
+ghost use Rattle.sentry_json.specs.Spelled.{IsBehind, IsQuoted, Spells, SpellsString};
+ghost use Rattle.sentry_json.specs.Tokens.{text_of};
+ghost use Rattle.sentry_json.specs.TapeView.{node_data};
+ghost use Rattle.sentry_json.specs.declared.tape.token.Token.{Token};
+ghost use Rattle.sentry_json.specs.declared.tape.token.Token.TheVariants as token;
+
+use crate::tape::escape::split_escaped;
+use crate::tape::number::split_whole;
+use crate::tape::rest::Rest;
+use crate::tape::scalar::split_scalar;
+use crate::tape::token::Token;
+pub use node::TapeNode;
+use std::alloc::Global;
+
+// As deep as a line may nest.
+const DEEPEST: u8 = 127;
+
+// Room is made for a token in so many bytes, which is what payloads mostly have.
+const BYTES: usize = 8;
+
+// The least room: a tape serves line after line, and the lines of a small envelope fit at once.
+const LEAST: usize = 40;
+
+/// The tokens of a line of JSON, in the order of the line; its memory serves line after line.
+#[derive(Drop)]
+pub struct Tape<'a> {
+    alloc: Global,
+    tokens: Vec<Token<'a>>,
+}
+
+impl<'a> Tape<'a> {
+    /// Creates an empty tape, without allocating yet.
+    pub fn new(alloc: Global) -> Tape<'a> {
+        Tape {
+            alloc,
+            tokens: Vec::new(alloc),
+        }
+    }
+
+    /// Reads a line, in place of the one before, and returns its root node. Its numbers are integers
+    /// of at most 19 digits, and no white space stands between brackets that hold nothing; `None` if
+    /// it isn't such a line, or if an allocation fails.
+    pub fn parse(&mut self, line: &'a [u8]) -> Option<TapeNode<'_, 'a>>
+        ensures { IfSome result (λ root. tree_of line.now ≡ Some (node_data root)) }
+    {
+        self.tokens.clear();
+        let text = Rest::new(line)?;
+        self.tokens.reserve((line.len() / BYTES).max(LEAST)).ok()?;
+        let front = text.skip_space();
+        let rest = take_value(self.alloc, front, false, DEEPEST, &mut self.tokens)?;
+        let end = rest.skip_space();
+        if !end.text.is_empty() {
+            return None;
+        }
+        Some(TapeNode::new(&self.tokens))
+    }
+}
+
+// Appends the token of a string, behind its opening quote, and returns what follows it.
+#[inline(always)]
+fn take_escaped<'a>(
+    alloc: Global,
+    inside: Rest<'a>,
+    tokens: &mut Vec<Token<'a>>,
+) -> Option<Rest<'a>>
+    ensures spelled { IfSome result (λ rest. (token : Token) × (s : List ℕ)
+        × (text_of token ≡ Some s) × (tokens.new.items ≡ tokens.old.items ++ token ∷ [])
+        × IsQuoted inside.entry.text.now s rest.text.now) }
+    ensures shorter { IfSome result (λ rest. length rest.text.now < length inside.entry.text.now) }
+{
+    let (text, rest) = split_escaped(alloc, inside)?;
+    tokens
+        .push(Token::Unescaped(Box::new(alloc, text).ok()?))
+        .ok()?;
+    Some(rest)
+}
+
+// The same of a word or an integer with a minus.
+#[inline(always)]
+fn take_scalar<'a>(text: Rest<'a>, tokens: &mut Vec<Token<'a>>) -> Option<Rest<'a>>
+    ensures spelled { IfSome result (λ rest. (token : Token)
+        × (tokens.new.items ≡ tokens.old.items ++ token ∷ [])
+        × Spells text.entry.text.now rest.text.now token [] 0) }
+    ensures shorter { IfSome result (λ rest. length rest.text.now < length text.entry.text.now) }
+{
+    let (token, rest) = split_scalar(text)?;
+    tokens.push(token).ok()?;
+    Some(rest)
+}
+
+// Appends the token of a string, a word or a number at the front, and returns what follows it; a
+// key is a string. Not inlined: most are strings without escapes, which `take_value` takes itself.
+#[inline(never)]
+fn take_leaf<'a>(
+    alloc: Global,
+    text: Rest<'a>,
+    key: bool,
+    tokens: &mut Vec<Token<'a>>,
+) -> Option<Rest<'a>>
+    ensures spelled { IfSome result (λ rest. (token : Token)
+        × (tokens.new.items ≡ tokens.old.items ++ token ∷ [])
+        × Spells text.entry.text.now rest.text.now token [] 0) }
+    ensures string { IfSome result (λ rest. key ≡ true → (name : Token)
+        × (tokens.new.items ≡ tokens.old.items ++ name ∷ [])
+        × SpellsString text.entry.text.now rest.text.now name) }
+    ensures shorter { IfSome result (λ rest. length rest.text.now < length text.entry.text.now) }
+{
+    if let Some(inside) = text.after(b'"') {
+        return take_escaped(alloc, inside, tokens);
+    }
+    if key {
+        return None;
+    }
+    if let Some((number, rest)) = split_whole(text) {
+        tokens.push(number).ok()?;
+        return Some(rest);
+    }
+    take_scalar(text, tokens)
+}
+
+// Appends the tokens of the value at the front, and returns what follows it; a key is a string.
+#[cycle(take)]
+#[inline(always)]
+fn take_value<'a>(
+    alloc: Global,
+    text: Rest<'a>,
+    key: bool,
+    depth: u8,
+    tokens: &mut Vec<Token<'a>>,
+) -> Option<Rest<'a>>
+    ensures spelled { IfSome result (λ rest. (first : Token) × (inside : List Token)
+        × (tokens.new.items ≡ tokens.old.items ++ first ∷ inside)
+        × Spells text.entry.text.now rest.text.now first inside depth) }
+    ensures string { IfSome result (λ rest. key ≡ true → (name : Token)
+        × (tokens.new.items ≡ tokens.old.items ++ name ∷ [])
+        × SpellsString text.entry.text.now rest.text.now name) }
+    ensures shorter { IfSome result (λ rest. length rest.text.now < length text.entry.text.now) }
+{
+    // Each call's answer is taken apart before the ways join, so that the place in the line stays in
+    // registers.
+    if let Some((string, rest)) = text.split_plain() {
+        tokens.push(Token::Text(string)).ok()?;
+        return Some(rest);
+    }
+    let byte = *text.bytes().first()?;
+    if !key && (byte == b'{' || byte == b'[') {
+        let rest = take_inside(alloc, text.after(byte)?, byte == b'{', depth, tokens)?;
+        return Some(rest);
+    }
+    let rest = take_leaf(alloc, text, key, tokens)?;
+    Some(rest)
+}
+
+// The same of an object or an array, behind its opening bracket. A key and its value are one turn
+// of the loop each, so that what takes a string stands in it once.
+#[cycle(take)]
+#[inline(never)]
+fn take_inside<'a>(
+    alloc: Global,
+    text: Rest<'a>,
+    object: bool,
+    depth: u8,
+    tokens: &mut Vec<Token<'a>>,
+) -> Option<Rest<'a>>
+    ensures spelled { IfSome result (λ rest. (first : Token) × (inside : List Token)
+        × (tokens.new.items ≡ tokens.old.items ++ first ∷ inside)
+        × Spells ((if object then 123 else 91) ∷ text.entry.text.now)
+        rest.text.now first inside depth) }
+    ensures shorter { IfSome result (λ rest. length rest.text.now < length text.entry.text.now) }
+{
+    let depth = depth.checked_sub(1)?;
+    let place = tokens.len();
+    tokens.push(bracket(object, 0)).ok()?;
+    let close = closing(object);
+    if let Some(rest) = text.after(close) {
+        return Some(rest);
+    }
+    let mut left = text;
+    let mut key = object;
+    loop {
+        if let Some(next) = left.after_space() {
+            left = next.skip_space();
+            continue;
+        }
+        let rest = take_value(alloc, left, key, depth, tokens)?;
+        if key {
+            left = rest.after_spaced(b':')?;
+            key = false;
+            continue;
+        }
+        let (comma, next) = after_value(rest, close)?;
+        if comma {
+            left = next;
+            key = object;
+            continue;
+        }
+        tokens[place] = bracket(object, tokens.len() - place - 1);
+        return Some(next);
+    }
+}
+
+// Returns whether a comma follows a value, else it is the closing bracket; and what follows that.
+#[inline(always)]
+fn after_value<'a>(rest: Rest<'a>, close: u8) -> Option<(bool, Rest<'a>)>
+    ensures follows { IfSome result (λ x.
+        IsBehind (if x.0 then 44 else close) rest.entry.text.now x.1.text.now) }
+    ensures shorter { IfSome result (λ x. length x.1.text.now < length rest.entry.text.now) }
+{
+    if let Some(next) = rest.after(b',') {
+        return Some((true, next));
+    }
+    if let Some(next) = rest.after(close) {
+        return Some((false, next));
+    }
+    let front = rest.skip_space();
+    if let Some(next) = front.after(b',') {
+        return Some((true, next));
+    }
+    Some((false, front.after(close)?))
+}
+
+// The token of an object or an array.
+#[inline(always)]
+fn bracket<'a>(object: bool, width: usize) -> Token<'a>
+    ensures { result ≡ (if object then token.Object width else token.Array width) }
+{
+    if object {
+        Token::Object(width)
+    } else {
+        Token::Array(width)
+    }
+}
+
+// The byte that ends an object or an array.
+#[inline(always)]
+fn closing(object: bool) -> u8
+    ensures { result ≡ (if object then 125 else 93) }
+{
+    if object { b'}' } else { b']' }
+}

@@ -1,0 +1,23 @@
+//! Words and integers with a minus, at the front of a text.
+
+ghost use Rattle.std.specs.Prelude.{◌<◌, [], IfSome, length};
+ghost use Rattle.sentry_json.specs.Spelled.{Spells};
+
+use crate::tape::number::split_negative;
+use crate::tape::rest::Rest;
+use crate::tape::token::Token;
+
+// Splits off a word or an integer with a minus.
+#[inline(always)]
+pub(crate) fn split_scalar<'a>(text: Rest<'a>) -> Option<(Token<'a>, Rest<'a>)>
+    ensures spelled { IfSome result (λ x. Spells text.entry.text.now x.1.text.now x.0 [] 0) }
+    ensures shorter { IfSome result (λ x. length x.1.text.now < length text.entry.text.now) }
+{
+    match text.bytes().first()? {
+        b'n' => Some((Token::Null, text.after_word("null")?)),
+        b't' => Some((Token::Bool(true), text.after_word("true")?)),
+        b'f' => Some((Token::Bool(false), text.after_word("false")?)),
+        b'-' => split_negative(text),
+        _ => None,
+    }
+}

@@ -1,5 +1,0 @@
-use Rattle.sentry_members.proofs.ScalarsShown.{signed_seen}
-use Rattle.sentry_members.proofs.read.node_as_i64.Goals as goal
-
-pub returns : goal.returns
-returns g c = signed_seen c.as_i64.result _ c.as_i64.ensures.value c.as_i64.ensures.ranged

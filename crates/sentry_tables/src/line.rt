@@ -1,0 +1,204 @@
+//! Reading of values from lines of JSON.
+
+ghost use Rattle.std.specs.Prelude.{◌≡◌, ◌↔◌, IsTrue, IfOk, IfErr, IfSome, Some, None, false};
+ghost use Rattle.serde_json.specs.Data.{Data};
+ghost use Rattle.serde_json.specs.View.{view};
+ghost use Rattle.serde_json.specs.Written.{has_float};
+ghost use Rattle.sentry_json.specs.Line.{tree_of};
+ghost use Rattle.sentry_json.specs.Sound.{IsSound};
+ghost use Rattle.sentry_json.specs.TapeView.{node_data};
+ghost use Rattle.sentry_tables.specs.Reading.{Only, LineShows, LineRefused, ReadsText, Shown, Refused};
+
+use crate::error::TreeError;
+use crate::lazy_scratch::LazyScratch;
+use crate::read::FromTree;
+use crate::tree::has_float;
+use json::Scratch;
+use sentry_json::{Line, LineError, Node, Tape, TapeNode};
+use serde_json::Value;
+use std::alloc::{AllocError, Global};
+
+/// Returns whether no number in a tree, at any depth, is a float.
+pub fn whole(tree: &Value) -> bool
+    ensures exactly { IsTrue result ↔ (has_float (view tree.now) ≡ false) }
+    ensures sound { IsTrue result → IsSound (view tree.now) }
+{
+    !has_float(tree)
+}
+
+/// Parses a line as a JSON tree.
+///
+/// # Errors
+///
+/// - `Misfit` if the line is not UTF-8, is not one JSON text that nests at most 127 deep, or has a
+///   number that is read as a float ([`has_float`]).
+/// - `Memory` if an allocation fails.
+#[inline(never)]
+pub fn read_tree(alloc: Global, line: &[u8]) -> Result<Value, TreeError>
+    ensures ok { IfOk result (λ tree. tree_of line.now ≡ Some (view tree)) }
+    ensures sound { IfOk result (λ tree. IsSound (view tree)) }
+    ensures err { IfErr result (λ e. Only e (tree_of line.now ≡ None)) }
+{
+    match Value::from_slice(alloc, line) {
+        Ok(tree) if has_float(&tree) => Err(TreeError::Misfit),
+        Ok(tree) => Ok(tree),
+        Err(error) if error.is_memory() => Err(TreeError::Memory),
+        Err(_) => Err(TreeError::Misfit),
+    }
+}
+
+/// A reader of values of type `T` from JSON nodes.
+pub trait ReadsNode<T>: Drop {
+    // the tree may be read as the value
+    ghost shown: { Self → Data → T → Type 0 };
+
+    // the tree is read as no value
+    ghost refused: { Self → Data → Type 0 };
+
+    /// Reads a value from the tree at a node.
+    ///
+    /// # Errors
+    ///
+    /// - `Misfit` if the tree is not a value of the type.
+    /// - `Memory` if an allocation fails.
+    fn read<N: Node>(self, alloc: Global, node: &N) -> Result<T, TreeError>
+        ensures ok { IfOk result (λ value. shown self (N.data_of node.now) value) }
+        ensures err { IfErr result (λ e. Only e (refused self (N.data_of node.now))) };
+}
+
+/// A reader of lines of JSON, which keeps its working memory from line to line.
+///
+/// A line as clients write it is read in one pass onto a tape of its own ([`Tape::parse`]); any
+/// other, such as one with a number of 20 digits, goes the general way, onto the tape of a [`Line`]
+/// or, if a tape doesn't serve ([`LineError::Unfit`]), into a tree.
+#[derive(Drop)]
+pub struct LineReader<'s, 'a> {
+    alloc: Global,
+    tape: Tape<'a>,
+    scratch: &'s mut LazyScratch,
+}
+
+impl<'s, 'a> LineReader<'s, 'a> {
+    /// Creates a reader with the caller's working memory for lines that go the general way.
+    pub fn new(alloc: Global, scratch: &'s mut LazyScratch) -> LineReader<'s, 'a> {
+        LineReader {
+            alloc,
+            tape: Tape::new(alloc),
+            scratch,
+        }
+    }
+
+    /// Returns the allocator of the reader.
+    #[inline]
+    pub fn alloc(&self) -> Global {
+        self.alloc
+    }
+
+    /// Returns the root node of a line as clients write it; `None` if another way has to serve.
+    #[inline]
+    pub fn root(&mut self, line: &'a [u8]) -> Option<TapeNode<'_, 'a>>
+        ensures { IfSome result (λ root. tree_of line.now ≡ Some (node_data root)) }
+    {
+        self.tape.parse(line)
+    }
+
+    /// Returns working memory for lines that go the general way. `AllocError` if it isn't made yet
+    /// and an allocation fails.
+    pub fn scratch(&mut self) -> Result<&mut Scratch, AllocError> {
+        self.scratch.get()
+    }
+
+    /// Reads a value from a line with `reader`.
+    ///
+    /// # Errors
+    ///
+    /// - `Misfit` if [`read_tree`] rejects the line, or the tree is not a value of the type.
+    /// - `Memory` if an allocation fails.
+    #[tactic(auto, using(crate::proofs::Texts::line_shows, crate::proofs::Texts::line_refused))]
+    pub fn read_by<T, R: ReadsNode<T>>(&mut self, line: &'a [u8], reader: R) -> Result<T, TreeError>
+        ensures ok { IfOk result (λ value. LineShows (λ d. R.shown reader d value) line.now) }
+        ensures err { IfErr result (λ e. Only e (LineRefused (λ d. R.refused reader d) line.now)) }
+    {
+        match self.tape.parse(line) {
+            Some(root) => reader.read(self.alloc, &root),
+            None => read_any(self.alloc, line, self.scratch, reader),
+        }
+    }
+
+    /// Reads a value from a line.
+    ///
+    /// # Errors
+    ///
+    /// As of [`LineReader::read_by`].
+    #[tactic(auto, using(crate::proofs::Texts::text_read_by))]
+    pub fn read<T: FromTree>(&mut self, line: &'a [u8]) -> Result<T, TreeError>
+        ensures { ReadsText T.kind T.cell_of line.now result }
+    {
+        self.read_by(line, Plainly)
+    }
+}
+
+// Reads any line: onto the tape of a `Line`, or as a tree if a tape doesn't serve. Not inlined: few
+// lines come here.
+#[cold]
+#[inline(never)]
+#[tactic(auto, using(crate::proofs::Texts::line_shows, crate::proofs::Texts::line_refused, crate::proofs::Texts::no_line))]
+fn read_any<T, R: ReadsNode<T>>(
+    alloc: Global,
+    line: &[u8],
+    scratch: &mut LazyScratch,
+    reader: R,
+) -> Result<T, TreeError>
+    ensures ok { IfOk result (λ value. LineShows (λ d. R.shown reader d value) line.now) }
+    ensures err { IfErr result (λ e. Only e (LineRefused (λ d. R.refused reader d) line.now)) }
+{
+    match Line::parse(line, scratch.get()?, Vec::new(alloc)) {
+        Ok(read) => {
+            let root = read.root();
+            reader.read(alloc, &root)
+        }
+        Err(LineError::Misfit) => Err(TreeError::Misfit),
+        Err(LineError::Memory) => Err(TreeError::Memory),
+        Err(LineError::Unfit) => read_as_tree(alloc, line, reader),
+    }
+}
+
+#[cold]
+#[inline(never)]
+#[tactic(auto, using(crate::proofs::Texts::line_shows, crate::proofs::Texts::line_refused, crate::proofs::Texts::no_line))]
+fn read_as_tree<T, R: ReadsNode<T>>(alloc: Global, line: &[u8], reader: R) -> Result<T, TreeError>
+    ensures ok { IfOk result (λ value. LineShows (λ d. R.shown reader d value) line.now) }
+    ensures err { IfErr result (λ e. Only e (LineRefused (λ d. R.refused reader d) line.now)) }
+{
+    let tree = read_tree(alloc, line)?;
+    reader.read(alloc, &&tree)
+}
+
+// The reader of a type by its own `FromTree`.
+#[derive(Drop)]
+struct Plainly;
+
+impl<T: FromTree> ReadsNode<T> for Plainly {
+    ghost shown = { λ reader d value. Shown T.kind d (T.cell_of value) };
+
+    ghost refused = { λ reader d. Refused T.kind d };
+
+    fn read<N: Node>(self, alloc: Global, node: &N) -> Result<T, TreeError> {
+        T::from_node(alloc, node)
+    }
+}
+
+/// Reads a value from a line.
+///
+/// To read many lines, make one [`LineReader`].
+///
+/// # Errors
+///
+/// - `Misfit` if [`read_tree`] rejects the line, or the tree is not a value of the type.
+/// - `Memory` if an allocation fails.
+#[inline(never)]
+pub fn read_line<T: FromTree>(alloc: Global, line: &[u8]) -> Result<T, TreeError>
+    ensures { ReadsText T.kind T.cell_of line.now result }
+{
+    LineReader::new(alloc, &mut LazyScratch::new(alloc)).read(line)
+}

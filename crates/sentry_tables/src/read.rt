@@ -1,0 +1,263 @@
+//! Reading of values from JSON trees.
+
+ghost use Rattle.std.specs.Prelude.{◌≡◌, ◌^◌, option_map, option_and_then};
+ghost use Rattle.serde_json.specs.Find.{as_number};
+ghost use Rattle.serde_json.specs.View.{view};
+ghost use Rattle.sentry_json.specs.Nodes.{items_by};
+ghost use Rattle.sentry_tables.specs.Basic.{signed_at, pair_of};
+ghost use Rattle.sentry_tables.specs.Cell.{whole};
+ghost use Rattle.sentry_tables.specs.Kind.{values as values_kind};
+ghost use Rattle.sentry_tables.specs.Cells.{pair_cell, list_cell};
+ghost use Rattle.sentry_tables.specs.Reading.{Reads};
+
+use crate::codec::{Codec, Own};
+use crate::error::TreeError;
+use crate::member::{Formed, Member};
+use sentry_json::Node;
+use serde_json::{Map, Value};
+use std::alloc::Global;
+use std::borrow::CowStr;
+use std::collections::btree_map::Entry;
+
+/// A type whose values are read from JSON trees, without the caller's `now` or a generator of ids.
+pub trait FromTree: Member {
+    /// Reads a value from the tree at a node.
+    ///
+    /// # Errors
+    ///
+    /// - `Misfit` if the tree is not a value of the type.
+    /// - `Memory` if an allocation fails.
+    fn from_node<N: Node>(alloc: Global, node: &N) -> Result<Self, TreeError>
+        ensures { Reads Self.kind Self.cell_of (N.data_of node.now) result };
+
+    /// Reads a value from a JSON tree.
+    ///
+    /// # Errors
+    ///
+    /// - `Misfit` if the tree is not a value of the type.
+    /// - `Memory` if an allocation fails.
+    final fn from_tree(alloc: Global, tree: &Value) -> Result<Self, TreeError>
+        ensures { Reads Self.kind Self.cell_of (view tree.now) result }
+    {
+        Self::from_node(alloc, &tree)
+    }
+}
+
+/// A codec whose values are read from JSON trees, without the caller's `now` or a generator of ids.
+pub trait ReadCodec<T>: Codec<T> {
+    /// Reads a value from the tree at a node.
+    ///
+    /// # Errors
+    ///
+    /// - `Misfit` if the tree is not a value of the type.
+    /// - `Memory` if an allocation fails.
+    fn from_node<N: Node>(alloc: Global, node: &N) -> Result<T, TreeError>
+        ensures { Reads Self.kind Self.cell_of (N.data_of node.now) result };
+}
+
+impl<T: FromTree> ReadCodec<T> for Own {
+    fn from_node<N: Node>(alloc: Global, node: &N) -> Result<T, TreeError> {
+        T::from_node(alloc, node)
+    }
+}
+
+impl<T: Formed> FromTree for T
+where
+    T::Form: ReadCodec<T>,
+{
+    fn from_node<N: Node>(alloc: Global, node: &N) -> Result<T, TreeError> {
+        <T::Form as ReadCodec<T>>::from_node(alloc, node)
+    }
+}
+
+impl FromTree for String {
+    #[tactic(auto, using(crate::proofs::ScalarsShown::text_refused, crate::proofs::ScalarsShown::text_shown))]
+    fn from_node<N: Node>(alloc: Global, node: &N) -> Result<String, TreeError> {
+        match node.as_str() {
+            Some(text) => Ok(String::from_str(alloc, text)?),
+            None => Err(TreeError::Misfit),
+        }
+    }
+}
+
+impl<'a> FromTree for CowStr<'a> {
+    #[tactic(auto, using(crate::proofs::ScalarsShown::text_refused, crate::proofs::ScalarsShown::text_shown))]
+    fn from_node<N: Node>(alloc: Global, node: &N) -> Result<CowStr<'a>, TreeError> {
+        match node.as_str() {
+            Some(text) => Ok(CowStr::Owned(String::from_str(alloc, text)?)),
+            None => Err(TreeError::Misfit),
+        }
+    }
+}
+
+impl FromTree for bool {
+    #[tactic(auto, using(crate::proofs::ScalarsShown::truth_refused, crate::proofs::ScalarsShown::truth_shown))]
+    fn from_node<N: Node>(_alloc: Global, node: &N) -> Result<bool, TreeError> {
+        match node.as_bool() {
+            Some(truth) => Ok(truth),
+            None => Err(TreeError::Misfit),
+        }
+    }
+}
+
+impl FromTree for u8 {
+    fn from_node<N: Node>(_alloc: Global, node: &N) -> Result<u8, TreeError> {
+        match node.as_u64() {
+            Some(number) => match u8::try_from(number) {
+                Ok(number) => Ok(number),
+                Err(_) => Err(TreeError::Misfit),
+            },
+            None => Err(TreeError::Misfit),
+        }
+    }
+}
+
+impl FromTree for u16 {
+    fn from_node<N: Node>(_alloc: Global, node: &N) -> Result<u16, TreeError> {
+        match node.as_u64() {
+            Some(number) => match u16::try_from(number) {
+                Ok(number) => Ok(number),
+                Err(_) => Err(TreeError::Misfit),
+            },
+            None => Err(TreeError::Misfit),
+        }
+    }
+}
+
+impl FromTree for u32 {
+    fn from_node<N: Node>(_alloc: Global, node: &N) -> Result<u32, TreeError> {
+        match node.as_u64() {
+            Some(number) => match u32::try_from(number) {
+                Ok(number) => Ok(number),
+                Err(_) => Err(TreeError::Misfit),
+            },
+            None => Err(TreeError::Misfit),
+        }
+    }
+}
+
+impl FromTree for u64 {
+    fn from_node<N: Node>(_alloc: Global, node: &N) -> Result<u64, TreeError> {
+        match node.as_u64() {
+            Some(natural) => Ok(natural),
+            None => Err(TreeError::Misfit),
+        }
+    }
+}
+
+// `as_i64` with a contract in the terms of signed kinds.
+fn node_as_i64<N: Node>(node: &N) -> Option<i64>
+    ensures { option_map whole result
+        ≡ option_and_then (signed_at (2 ^ 63)) (as_number (N.data_of node.now)) }
+{
+    node.as_i64()
+}
+
+impl FromTree for i32 {
+    fn from_node<N: Node>(_alloc: Global, node: &N) -> Result<i32, TreeError> {
+        match node_as_i64(node) {
+            Some(number) => match i32::try_from(number) {
+                Ok(number) => Ok(number),
+                Err(_) => Err(TreeError::Misfit),
+            },
+            None => Err(TreeError::Misfit),
+        }
+    }
+}
+
+impl FromTree for i64 {
+    fn from_node<N: Node>(_alloc: Global, node: &N) -> Result<i64, TreeError> {
+        match node_as_i64(node) {
+            Some(number) => Ok(number),
+            None => Err(TreeError::Misfit),
+        }
+    }
+}
+
+impl FromTree for Value {
+    #[tactic(auto, using(crate::proofs::ScalarsShown::any_shown))]
+    fn from_node<N: Node>(alloc: Global, node: &N) -> Result<Value, TreeError> {
+        Ok(node.to_value(alloc)?)
+    }
+}
+
+// `None` unless the items are exactly two integers in the range of `u64`.
+fn two_numbers<N: Node>(items: &[N]) -> Option<(u64, u64)>
+    ensures { option_map pair_cell result ≡ pair_of (items_by N.data_of items.now) }
+{
+    let (first, after) = items.split_first()?;
+    let (second, more) = after.split_first()?;
+    match more.split_first() {
+        None => Some((first.as_u64()?, second.as_u64()?)),
+        Some(_) => None,
+    }
+}
+
+impl FromTree for (u64, u64) {
+    #[tactic(auto, using(crate::proofs::ScalarsShown::no_pair, crate::proofs::ScalarsShown::pair_refused, crate::proofs::ScalarsShown::pair_shown))]
+    fn from_node<N: Node>(alloc: Global, node: &N) -> Result<(u64, u64), TreeError> {
+        match node.items(alloc)? {
+            Some(items) => match two_numbers(&items) {
+                Some(pair) => Ok(pair),
+                None => Err(TreeError::Misfit),
+            },
+            None => Err(TreeError::Misfit),
+        }
+    }
+}
+
+impl<T: FromTree> FromTree for Vec<T> {
+    fn from_node<N: Node>(alloc: Global, node: &N) -> Result<Vec<T>, TreeError> {
+        let items = match node.items(alloc)? {
+            Some(items) => items,
+            None => return Err(TreeError::Misfit),
+        };
+        let mut list = Vec::with_capacity(alloc, items.len())?;
+        for item in &items {
+            list.push(T::from_node(alloc, item)?)?;
+        }
+        Ok(list)
+    }
+}
+
+// Of members with equal keys, the last counts: members are read from the last to the first.
+impl<T: FromTree> FromTree for Map<String, T> {
+    fn from_node<N: Node>(alloc: Global, node: &N) -> Result<Map<String, T>, TreeError> {
+        let members = match node.members(alloc)? {
+            Some(members) => members,
+            None => return Err(TreeError::Misfit),
+        };
+        let mut map = Map::new(alloc);
+        let mut left = members.len();
+        while left > 0 {
+            left -= 1;
+            let member = &members[left];
+            let name = String::from_str(alloc, member.key)?;
+            // A member whose key comes again later isn't even read.
+            if let Entry::Vacant(place) = map.entry(name)? {
+                place.insert(T::from_node(alloc, &member.node)?);
+            }
+        }
+        Ok(map)
+    }
+}
+
+/// Reads a list from an array, or from the array at the key `values` of an object.
+///
+/// # Errors
+///
+/// - `Misfit` if the tree is neither, or an item is not a value of the type.
+/// - `Memory` if an allocation fails.
+#[tactic(auto, using(crate::proofs::ValuesShown::bare_read, crate::proofs::ValuesShown::no_values))]
+pub fn read_values<T: FromTree, N: Node>(alloc: Global, node: &N) -> Result<Vec<T>, TreeError>
+    ensures { Reads (values_kind T.kind) (λ v.
+        list_cell T.cell_of v.items) (N.data_of node.now) result }
+{
+    if node.is_array() {
+        return FromTree::from_node(alloc, node);
+    }
+    match node.get("values") {
+        Some(list) => FromTree::from_node(alloc, &list),
+        None => Err(TreeError::Misfit),
+    }
+}

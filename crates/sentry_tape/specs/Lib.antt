@@ -1,5 +1,0 @@
-pub mod Escaped
-pub mod PlainTexts
-pub mod Spelled
-pub mod TapeView
-pub mod Tokens
