@@ -19,7 +19,7 @@ use Rattle.sentry_tables.specs.Shows.{Shows}
 use Rattle.sentry_tables.specs.Fields.{table_of}
 use Rattle.sentry_tables.specs.Written.{tree, is_null}
 use Rattle.sentry_tables.proofs.Basic.{text_laws, unsigned_laws}
-use Rattle.sentry_tables.proofs.Drawn.{never_drawn}
+use Rattle.sentry_tables.proofs.DrawnTrees.{never_drawn}
 use Rattle.sentry_tables.proofs.Laws.{has_laws}
 use Rattle.sentry_tables.specs.Cells.{text_cell, natural_cell, option_cell}
 use Rattle.sentry_tables.specs.Kinds.{text_kind}

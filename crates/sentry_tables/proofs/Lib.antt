@@ -11,7 +11,7 @@ pub mod Rewritten
 pub mod Decide
 pub mod Timeless
 pub mod Single
-pub mod Drawn
+pub mod DrawnTrees
 pub mod DrawnWritten
 pub mod Depth
 pub mod Laws

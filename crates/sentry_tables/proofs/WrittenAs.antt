@@ -8,7 +8,7 @@ use Rattle.sentry_tables.specs.Laws.{HasLaws, IsStableAt}
 use Rattle.sentry_tables.specs.Meets.{IsStored, IsPlain}
 use Rattle.sentry_tables.specs.Norm.{norm}
 use Rattle.sentry_tables.specs.Written.{tree}
-use Rattle.sentry_tables.proofs.Drawn.{never_drawn}
+use Rattle.sentry_tables.proofs.DrawnTrees.{never_drawn}
 use Rattle.sentry_tables.specs.WrittenAs.{any_moment, written_as, FormLaws}
 
 is_moment : IsMoment any_moment
