@@ -137,7 +137,7 @@ impl Member for ThreadId {
 
     ghost cell_of = { thread_id_cell };
 
-    #[tactic(auto, unfolding(crate::specs::ThreadIds::thread_id_kind, sentry_tables::specs::Written::written))]
+    #[tactic(auto, unfolding(crate::specs::ThreadIds::thread_id_kind, sentry_tables::specs::Writes::written))]
     fn to_tree(&self, alloc: Global) -> Result<Value, AllocError> {
         match self {
             ThreadId::Int(number) => Ok(Value::from(*number)),

@@ -33,7 +33,7 @@ impl Codec<Uuid> for Hyphenated {
 
     ghost cell_of = { octets };
 
-    #[tactic(auto, unfolding(sentry_tables::specs::Written::written))]
+    #[tactic(auto, unfolding(sentry_tables::specs::Writes::written))]
     fn to_tree(value: &Uuid, alloc: Global) -> Result<Value, AllocError> {
         Value::try_from_str(alloc, value.hyphenated().encode_lower(&mut [0; 36]))
     }
@@ -63,7 +63,7 @@ impl Codec<Uuid> for Simple {
 
     ghost cell_of = { octets };
 
-    #[tactic(auto, unfolding(sentry_tables::specs::Written::written))]
+    #[tactic(auto, unfolding(sentry_tables::specs::Writes::written))]
     fn to_tree(value: &Uuid, alloc: Global) -> Result<Value, AllocError> {
         Value::try_from_str(alloc, value.simple().encode_lower(&mut [0; 32]))
     }

@@ -176,7 +176,7 @@ impl EnvelopeItem {
 /// # Errors
 ///
 /// `AllocError` if an allocation fails; a part of the payload may have been appended.
-#[tactic(auto, unfolding(sentry_tables::specs::Written::written))]
+#[tactic(auto, unfolding(sentry_tables::specs::Writes::written))]
 pub fn write_payload(item: &EnvelopeItem, out: &mut Vec<u8>) -> Result<(), AllocError>
     ensures { OnOk result (AppendsPayload (item_held item.now) out.old.items out.new.items) }
 {

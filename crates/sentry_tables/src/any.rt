@@ -19,12 +19,12 @@ impl Member for Value {
 
     ghost cell_of = { tree_cell };
 
-    #[tactic(auto, unfolding(crate::specs::Written::written))]
+    #[tactic(auto, unfolding(crate::specs::Writes::written))]
     fn to_tree(&self, _alloc: Global) -> Result<Value, AllocError> {
         self.clone()
     }
 
-    #[tactic(auto, unfolding(crate::specs::Written::written))]
+    #[tactic(auto, unfolding(crate::specs::Writes::written))]
     fn write(&self, out: &mut Writer) -> Result<(), AllocError> {
         write_value(self, out)
     }

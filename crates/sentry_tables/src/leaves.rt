@@ -17,7 +17,7 @@ impl Member for String {
 
     ghost cell_of = { text_cell };
 
-    #[tactic(auto, unfolding(crate::specs::Written::written))]
+    #[tactic(auto, unfolding(crate::specs::Writes::written))]
     fn to_tree(&self, alloc: Global) -> Result<Value, AllocError> {
         Value::try_from_str(alloc, self.as_str())
     }
@@ -47,7 +47,7 @@ impl Member for bool {
 
     ghost cell_of = { truth };
 
-    #[tactic(auto, unfolding(crate::specs::Written::written))]
+    #[tactic(auto, unfolding(crate::specs::Writes::written))]
     fn to_tree(&self, _alloc: Global) -> Result<Value, AllocError> {
         Ok(Value::from(*self))
     }
@@ -76,7 +76,7 @@ impl Member for u8 {
 
     ghost cell_of = { natural_cell };
 
-    #[tactic(auto, unfolding(crate::specs::Written::written))]
+    #[tactic(auto, unfolding(crate::specs::Writes::written))]
     fn to_tree(&self, _alloc: Global) -> Result<Value, AllocError> {
         Ok(Value::from(*self))
     }
@@ -106,7 +106,7 @@ impl Member for u16 {
 
     ghost cell_of = { natural_cell };
 
-    #[tactic(auto, unfolding(crate::specs::Written::written))]
+    #[tactic(auto, unfolding(crate::specs::Writes::written))]
     fn to_tree(&self, _alloc: Global) -> Result<Value, AllocError> {
         Ok(Value::from(*self))
     }
@@ -136,7 +136,7 @@ impl Member for u32 {
 
     ghost cell_of = { natural_cell };
 
-    #[tactic(auto, unfolding(crate::specs::Written::written))]
+    #[tactic(auto, unfolding(crate::specs::Writes::written))]
     fn to_tree(&self, _alloc: Global) -> Result<Value, AllocError> {
         Ok(Value::from(*self))
     }
@@ -166,7 +166,7 @@ impl Member for u64 {
 
     ghost cell_of = { natural_cell };
 
-    #[tactic(auto, unfolding(crate::specs::Written::written))]
+    #[tactic(auto, unfolding(crate::specs::Writes::written))]
     fn to_tree(&self, _alloc: Global) -> Result<Value, AllocError> {
         Ok(Value::from(*self))
     }
@@ -293,7 +293,7 @@ impl<'a> Member for CowStr<'a> {
 
     ghost cell_of = { cow_cell };
 
-    #[tactic(auto, unfolding(crate::specs::Written::written))]
+    #[tactic(auto, unfolding(crate::specs::Writes::written))]
     fn to_tree(&self, alloc: Global) -> Result<Value, AllocError> {
         Value::try_from_str(alloc, self.as_str())
     }

@@ -74,7 +74,7 @@ impl Member for LogSeverityNumber {
 
     ghost cell_of = { natural_cell };
 
-    #[tactic(auto, unfolding(sentry_tables::specs::Written::written))]
+    #[tactic(auto, unfolding(sentry_tables::specs::Writes::written))]
     fn to_tree(&self, _alloc: Global) -> Result<Value, AllocError> {
         Ok(Value::from(self.value()))
     }

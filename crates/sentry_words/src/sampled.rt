@@ -36,7 +36,7 @@ impl Codec<bool> for Sampled {
 
     ghost cell_of = { sampled_cell };
 
-    #[tactic(auto, unfolding(sentry_tables::specs::Written::written))]
+    #[tactic(auto, unfolding(sentry_tables::specs::Writes::written))]
     fn to_tree(value: &bool, alloc: Global) -> Result<Value, AllocError> {
         Value::try_from_str(alloc, word(*value))
     }

@@ -210,7 +210,7 @@ pub trait Sink {
     }
 
     /// Adds a string that is omitted when it equals the default `usual`.
-    #[tactic(auto, unfolding(crate::specs::Given::row_given, crate::specs::Given::GivesRow, sentry_tables::specs::Written::written))]
+    #[tactic(auto, unfolding(crate::specs::Given::row_given, crate::specs::Given::GivesRow, sentry_tables::specs::Writes::written))]
     #[inline(always)]
     final fn text_unless<T: AsStr>(&mut self, key: &str, value: &T, usual: &str)
         ensures { GivesRow Adds Tests key.now (default (text_of usual.now)) text_kind
