@@ -1,17 +1,14 @@
 -- What a reader knows that goes frame by frame: the items so far, and what remains.
-use Rattle.std.proofs.Common.{◌≡◌, ◌≢◌, inl, inr, ℕ, zero, suc, List, [], ◌∷◌, ◌++◌, Some, refl, sym, ◌∙◌, ap, subst}
+use Rattle.std.proofs.Common.{◌≡◌, ◌≢◌, inl, inr, ℕ, List, [], ◌∷◌, ◌++◌, refl, sym, ◌∙◌, ap, subst}
 use Rattle.sentry_tables.specs.Cell.{Cell, absent}
-use Rattle.sentry_tables.specs.Kind.{Kind}
 use Rattle.sentry_tables.specs.Laws.{TextShows}
 use Rattle.sentry_framing.specs.Framing.{Frame, IsLineAndBody, IsFirstFrame, IsFault}
-use Rattle.sentry_framing.specs.ItemHeader.{Header, read_header}
-use Rattle.sentry_envelope.specs.Profile.{Form, attachment_form, opaque_form, json_form, container_form, ItemType, words, Profile, ProfileLaws}
-use Rattle.sentry_items.specs.Containers.{container_kind}
-use Rattle.sentry_envelope.specs.Envelope.{Content, attached, opaque, value, Item, item, Envelope, reads, attached_by, ContentShows, ContentShowsAt, ItemShows, ItemsStand, given_by, or_else, first_id, Spells}
-use Rattle.sentry_envelope.specs.EnvelopeFault.{FrameStands, FrameIsRefused, IsFirstFault, BodyIsAtFault, Fault}
+use Rattle.sentry_envelope.specs.Profile.{ItemType, Profile, ProfileLaws}
+use Rattle.sentry_envelope.specs.Envelope.{Item, Envelope, reads, ItemShows, ItemsStand, given_by, or_else, first_id, Spells}
+use Rattle.sentry_envelope.specs.EnvelopeFault.{FrameIsRefused, IsFirstFault, BodyIsAtFault, Fault}
 use Rattle.sentry_framing.specs.declared.error.EnvelopeError.{EnvelopeError}
 use Rattle.sentry_framing.specs.declared.error.EnvelopeError.TheVariants.{InvalidHeader, InvalidItemPayload}
-use Rattle.sentry_envelope.proofs.EnvelopeShown.{no_value, header_shows, line_stands, line_refused, frame_refused}
+use Rattle.sentry_envelope.proofs.EnvelopeShown.{line_stands, line_refused}
 use Rattle.sentry_envelope.proofs.EnvelopeAnswers.{some_remain, frames_of_items}
 
 -- ---- one more item
@@ -34,81 +31,6 @@ or_else_twice _ b c = refl
 pub first_id_snoc : (ts : List ItemType) (items : List Item) (i : Item) → first_id ts (items ++ i ∷ []) ≡ or_else (first_id ts items) (given_by ts i)
 first_id_snoc ts [] i = or_else_absent (given_by ts i)
 first_id_snoc ts (j ∷ items) i = ap (or_else (given_by ts j)) (first_id_snoc ts items i) ∙ or_else_twice (given_by ts j) (first_id ts items) (given_by ts i)
-
--- ---- contents by the form of their type
-
--- a form, or none
-pub data FormAt : Type 1 where
-  no_form : FormAt
-  the_form : Form → FormAt
-
--- the form of the type at this place
-abbrev pub form_at : List ItemType → ℕ → FormAt
-form_at [] n = no_form
-form_at (t ∷ ts) zero = the_form t.form
-form_at (t ∷ ts) (suc n) = form_at ts n
-
-same_form : (f g : Form) → the_form f ≡ the_form g → f ≡ g
-same_form f g e = cc
-
-none_there : (f : Form) → no_form ≡ the_form f → ⊥
-none_there f e = cc
-
-module _ (now : Cell) (h : Header) (payload : List ℕ) (c : Content) where
-  pub content_at : (ts : List ItemType) (n : ℕ) (f : Form) → form_at ts n ≡ the_form f → ContentShows f now h payload c → ContentShowsAt ts n now h payload c
-  content_at [] n f is shows = absurd (none_there f is)
-  content_at (t ∷ ts) zero f is shows = subst (λ g. ContentShows g now h payload c) (sym (same_form t.form f is)) shows
-  content_at (t ∷ ts) (suc n) f is shows = content_at ts n f is shows
-
-  pub content_by : (ts : List ItemType) (n : ℕ) (f : Form) → form_at ts n ≡ the_form f → ContentShowsAt ts n now h payload c → ContentShows f now h payload c
-  content_by [] n f is shows = absurd shows
-  content_by (t ∷ ts) zero f is shows = subst (λ g. ContentShows g now h payload c) (same_form t.form f is) shows
-  content_by (t ∷ ts) (suc n) f is shows = content_by ts n f is shows
-
-module _ (P : Profile) (frame : Frame) (h : Header) (n : ℕ) (read : read_header (words P.types) frame.header ≡ Some h) (place : h.kind ≡ n) where
-  -- the content that the payload shows at the header's place is the item's
-  pub item_shows_at : (now : Cell) (c : Content) → ContentShowsAt P.types n now h frame.payload c → ItemShows P now frame (item n c)
-  item_shows_at now c shows = (h, read, place, shows)
-
-  pub item_shows : (f : Form) → form_at P.types n ≡ the_form f → (now : Cell) (c : Content) → ContentShows f now h frame.payload c → ItemShows P now frame (item n c)
-  item_shows f is now c shows = item_shows_at now c (content_at now h frame.payload c P.types n f is shows)
-
-  pub attachment_shows : form_at P.types n ≡ the_form attachment_form → (now : Cell) → ItemShows P now frame (item n (attached (attached_by h frame.payload)))
-  attachment_shows is now = item_shows attachment_form is now (attached (attached_by h frame.payload)) refl
-
-  pub opaque_shows : form_at P.types n ≡ the_form opaque_form → (now : Cell) → ItemShows P now frame (item n (opaque frame.payload))
-  opaque_shows is now = item_shows opaque_form is now (opaque frame.payload) refl
-
-  pub json_shows : (K : Kind) → form_at P.types n ≡ the_form (json_form K) → (now c : Cell) → TextShows K now frame.payload c → ItemShows P now frame (item n (value c))
-  json_shows K is now c shows = item_shows (json_form K) is now (value c) shows
-
-  pub container_shows : (content_type : List ℕ) (K : Kind) → form_at P.types n ≡ the_form (container_form content_type K) → (now c : Cell)
-      → TextShows (container_kind K) now frame.payload c → ItemShows P now frame (item n (value c))
-  container_shows content_type K is now c shows = item_shows (container_form content_type K) is now (value c) shows
-
-  -- an attachment and other bytes are never refused
-  pub attachment_stands : form_at P.types n ≡ the_form attachment_form → FrameStands P frame
-  attachment_stands is now = (item n (attached (attached_by h frame.payload)), attachment_shows is now)
-
-  pub opaque_stands : form_at P.types n ≡ the_form opaque_form → FrameStands P frame
-  opaque_stands is now = (item n (opaque frame.payload), opaque_shows is now)
-
-  module _ (owed : ProfileLaws P) (now : Cell) where
-    -- a payload that shows no content at one moment is refused
-    pub content_refused_at : ((c : Content) → ContentShowsAt P.types n now h frame.payload c → ⊥) → FrameIsRefused P frame
-    content_refused_at none = frame_refused P owed frame now (λ i shows.
-        let (c, shown) = header_shows P now frame h i read shows in
-        none c (subst (λ m. ContentShowsAt P.types m now h frame.payload c) place shown))
-
-    pub content_refused : (f : Form) → form_at P.types n ≡ the_form f → ((c : Content) → ContentShows f now h frame.payload c → ⊥) → FrameIsRefused P frame
-    content_refused f is none = content_refused_at (λ c shows. none c (content_by now h frame.payload c P.types n f is shows))
-
-    pub json_refused : (K : Kind) → form_at P.types n ≡ the_form (json_form K) → ((c : Cell) → TextShows K now frame.payload c → ⊥) → FrameIsRefused P frame
-    json_refused K is none = content_refused (json_form K) is (no_value (TextShows K now frame.payload) none)
-
-    pub container_refused : (content_type : List ℕ) (K : Kind) → form_at P.types n ≡ the_form (container_form content_type K)
-        → ((c : Cell) → TextShows (container_kind K) now frame.payload c → ⊥) → FrameIsRefused P frame
-    container_refused content_type K is none = content_refused (container_form content_type K) is (no_value (TextShows (container_kind K) now frame.payload) none)
 
 -- ---- faults of what remains
 

@@ -7,11 +7,12 @@ ghost use Rattle.sentry_records.specs.Monitors.{check_in_cell};
 ghost use Rattle.sentry_records.specs.Sessions.{groups_cell, session_cell};
 ghost use Rattle.sentry_records.specs.UserReports.{user_report_cell};
 ghost use Rattle.sentry_reports.specs.Reports.{report_cell};
+ghost use Rattle.sentry_framing.specs.declared.kind.ItemKind.{ItemKind};
 ghost use Rattle.sentry_framing.specs.declared.kind.ItemKind.TheVariants as kinds;
 ghost use Rattle.sentry_items.specs.Containers.{container_cell};
 ghost use Rattle.sentry_items.specs.declared.container.ItemContainer.TheVariants as containers;
-ghost use Rattle.sentry_items.specs.declared.item.EnvelopeItem.{EnvelopeItem};
-ghost use Rattle.sentry_envelope.specs.ItemAdded.{IsItemAdded, IsItemOf};
+ghost use Rattle.sentry_tables.specs.Cell.{Cell};
+ghost use Rattle.sentry_envelope.specs.ItemAdded.{IsValueAdded};
 
 use sentry_event::{Event, Transaction};
 use sentry_items::{EnvelopeItem, ItemContainer, Listed};
@@ -21,16 +22,22 @@ use std::alloc::AllocError;
 
 // A type of values that payloads of JSON hold.
 pub(crate) trait Payload: Sized + Drop {
-    // which items hold which values
-    ghost holds: { Self → EnvelopeItem → Type 0 };
+    // the type of the value's item
+    ghost item_kind: { ItemKind };
+
+    // what the item holds
+    ghost cell: { Self → Cell };
 
     // Appends the value as an item. `AllocError` if an allocation fails.
     fn push_to(self, items: &mut Vec<EnvelopeItem>) -> Result<(), AllocError>
-        ensures { OnOk result (IsItemAdded (Self.holds self) items.old.items items.new.items) };
+        ensures { OnOk result
+            (IsValueAdded item_kind (cell self) items.old.items items.new.items) };
 }
 
 impl Payload for Box<Event<'static>> {
-    ghost holds = { λ value. IsItemOf kinds.Event (event_cell value.value) };
+    ghost item_kind = { kinds.Event };
+
+    ghost cell = { λ value. event_cell value.value };
 
     fn push_to(self, items: &mut Vec<EnvelopeItem>) -> Result<(), AllocError> {
         items.push(EnvelopeItem::Event(self))?;
@@ -39,7 +46,9 @@ impl Payload for Box<Event<'static>> {
 }
 
 impl Payload for Box<Transaction<'static>> {
-    ghost holds = { λ value. IsItemOf kinds.Transaction (transaction_cell value.value) };
+    ghost item_kind = { kinds.Transaction };
+
+    ghost cell = { λ value. transaction_cell value.value };
 
     fn push_to(self, items: &mut Vec<EnvelopeItem>) -> Result<(), AllocError> {
         items.push(EnvelopeItem::Transaction(self))?;
@@ -48,7 +57,9 @@ impl Payload for Box<Transaction<'static>> {
 }
 
 impl Payload for SessionUpdate<'static> {
-    ghost holds = { λ value. IsItemOf kinds.SessionUpdate (session_cell value) };
+    ghost item_kind = { kinds.SessionUpdate };
+
+    ghost cell = { session_cell };
 
     fn push_to(self, items: &mut Vec<EnvelopeItem>) -> Result<(), AllocError> {
         items.push(EnvelopeItem::SessionUpdate(self))?;
@@ -57,7 +68,9 @@ impl Payload for SessionUpdate<'static> {
 }
 
 impl Payload for SessionAggregates<'static> {
-    ghost holds = { λ value. IsItemOf kinds.SessionAggregates (groups_cell value) };
+    ghost item_kind = { kinds.SessionAggregates };
+
+    ghost cell = { groups_cell };
 
     fn push_to(self, items: &mut Vec<EnvelopeItem>) -> Result<(), AllocError> {
         items.push(EnvelopeItem::SessionAggregates(self))?;
@@ -66,7 +79,9 @@ impl Payload for SessionAggregates<'static> {
 }
 
 impl Payload for MonitorCheckIn {
-    ghost holds = { λ value. IsItemOf kinds.MonitorCheckIn (check_in_cell value) };
+    ghost item_kind = { kinds.MonitorCheckIn };
+
+    ghost cell = { check_in_cell };
 
     fn push_to(self, items: &mut Vec<EnvelopeItem>) -> Result<(), AllocError> {
         items.push(EnvelopeItem::MonitorCheckIn(self))?;
@@ -75,7 +90,9 @@ impl Payload for MonitorCheckIn {
 }
 
 impl Payload for UserReport {
-    ghost holds = { λ value. IsItemOf kinds.UserReport (user_report_cell value) };
+    ghost item_kind = { kinds.UserReport };
+
+    ghost cell = { user_report_cell };
 
     fn push_to(self, items: &mut Vec<EnvelopeItem>) -> Result<(), AllocError> {
         items.push(EnvelopeItem::UserReport(self))?;
@@ -84,7 +101,9 @@ impl Payload for UserReport {
 }
 
 impl Payload for Listed<Log> {
-    ghost holds = { λ list. IsItemOf kinds.Logs (container_cell (containers.Logs list.items)) };
+    ghost item_kind = { kinds.Logs };
+
+    ghost cell = { λ list. container_cell (containers.Logs list.items) };
 
     fn push_to(self, items: &mut Vec<EnvelopeItem>) -> Result<(), AllocError> {
         items.push(EnvelopeItem::ItemContainer(ItemContainer::Logs(self.items)))?;
@@ -93,7 +112,9 @@ impl Payload for Listed<Log> {
 }
 
 impl Payload for Listed<Metric> {
-    ghost holds = { λ list. IsItemOf kinds.Metrics (container_cell (containers.Metrics list.items)) };
+    ghost item_kind = { kinds.Metrics };
+
+    ghost cell = { λ list. container_cell (containers.Metrics list.items) };
 
     fn push_to(self, items: &mut Vec<EnvelopeItem>) -> Result<(), AllocError> {
         items.push(EnvelopeItem::ItemContainer(ItemContainer::Metrics(self.items)))?;
@@ -102,7 +123,9 @@ impl Payload for Listed<Metric> {
 }
 
 impl Payload for ReportRows {
-    ghost holds = { λ value. IsItemOf kinds.ClientReport (report_cell value) };
+    ghost item_kind = { kinds.ClientReport };
+
+    ghost cell = { λ value. report_cell value };
 
     fn push_to(self, items: &mut Vec<EnvelopeItem>) -> Result<(), AllocError> {
         items.push(EnvelopeItem::ClientReport(self.report()))?;

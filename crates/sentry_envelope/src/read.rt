@@ -1,18 +1,18 @@
 //! Reading of envelope items.
 
-ghost use Rattle.std.specs.Prelude.{◌≡◌, ◌≢◌, ◌⊎◌, ◌∷◌, ◌++◌, IfOk, IfErr, OnOk, [], Some, map};
+ghost use Rattle.std.specs.Prelude.{◌≡◌, ◌≢◌, ◌∷◌, ◌++◌, IfOk, IfErr, OnOk, [], Some, map};
 ghost use Rattle.sentry_items.specs.View.{attachment_view};
-ghost use Rattle.sentry_tables.specs.Reading.{TextShown, TextRefused, TextShownAt, TextRefusedAt};
+ghost use Rattle.sentry_tables.specs.Cell.{Cell};
 ghost use Rattle.sentry_envelope.specs.Envelope.{attached_by, ItemsStand};
-ghost use Rattle.sentry_envelope.specs.EnvelopeFault.{BodyIsAtFault, FrameIsRefused};
+ghost use Rattle.sentry_envelope.specs.EnvelopeFault.{BodyIsAtFault};
 ghost use Rattle.sentry_envelope.specs.EnvelopeView.{item_view};
-ghost use Rattle.sentry_envelope.specs.ItemAdded.{IsAdded, IsValueAdded};
+ghost use Rattle.sentry_envelope.specs.ItemAdded.{IsAdded, IsJson, IsNotAdded, IsOfKind};
 ghost use Rattle.sentry_framing.specs.HeaderView.{header_view};
 ghost use Rattle.sentry_framing.specs.ItemHeader.{read_header};
 ghost use Rattle.sentry_framing.specs.ItemWords.{item_words};
 ghost use Rattle.sentry_framing.specs.declared.kind.ItemKind.TheVariants as kinds;
 ghost use Rattle.sentry_moments.specs.Moments.{moment_cell};
-ghost use Rattle.sentry_envelope.specs.SentryProfile.{profile};
+ghost use Rattle.sentry_envelope.specs.SentryProfile.{form_of, profile};
 ghost use Rattle.sentry_framing.specs.View.{frame_of};
 
 use crate::payload::Payload;
@@ -66,13 +66,12 @@ fn add_item<'a, R: Rng>(
     requires { read_header item_words (frame_of frame.now).header ≡ Some (header_view header.old) }
     ensures ok { OnOk result
         (IsAdded (moment_cell now) (frame_of frame.now) items.old.items items.new.items) }
-    ensures err { IfErr result (λ e. (e ≡ EnvelopeError.OutOfMemory)
-        ⊎ ((e ≡ EnvelopeError.InvalidItemPayload) × FrameIsRefused profile (frame_of frame.now))) }
+    ensures err { IfErr result (IsNotAdded (frame_of frame.now)) }
 {
     match header.kind {
         ItemKind::Attachment => add_attachment(lines.alloc(), frame.payload, header, items),
         ItemKind::ReplayRecording => add_recording(lines.alloc(), frame.payload, items),
-        _ => add_json_item(lines, frame, header, now, ids, items),
+        kind => add_json_item(lines, frame, kind, now, ids, items),
     }
 }
 
@@ -109,60 +108,56 @@ fn add_recording(
     Ok(())
 }
 
+#[tactic(auto, using(crate::specs::ItemAdded::alone, crate::specs::ItemAdded::listed))]
 #[inline(never)]
 fn add_json_item<'a, R: Rng>(
     lines: &mut LineReader<'_, 'a>,
     frame: &ItemFrame<'a>,
-    header: &ItemHeader,
+    kind: ItemKind,
     now: Moment,
     ids: &mut R,
     items: &mut Vec<EnvelopeItem>,
 ) -> Result<(), EnvelopeError>
-    requires read { read_header item_words (frame_of frame.now).header ≡
-        Some (header_view header.now) }
-    requires no_attachment { header.now.kind ≢ kinds.Attachment }
-    requires no_recording { header.now.kind ≢ kinds.ReplayRecording }
+    requires of_kind { IsOfKind (frame_of frame.now) kind }
+    requires no_attachment { kind ≢ kinds.Attachment }
+    requires no_recording { kind ≢ kinds.ReplayRecording }
     ensures ok { OnOk result
         (IsAdded (moment_cell now) (frame_of frame.now) items.old.items items.new.items) }
-    ensures err { IfErr result (λ e. (e ≡ EnvelopeError.OutOfMemory)
-        ⊎ ((e ≡ EnvelopeError.InvalidItemPayload) × FrameIsRefused profile (frame_of frame.now))) }
+    ensures err { IfErr result (IsNotAdded (frame_of frame.now)) }
 {
-    let payload = frame.payload;
-    match header.kind {
-        ItemKind::Event => {
-            add_value_at::<Box<Event<'static>>, R>(lines, payload, now, ids, items)
-        }
+    match kind {
+        ItemKind::Event => add_value_at::<Box<Event<'static>>, R>(lines, frame, now, ids, items),
         ItemKind::SessionUpdate => {
-            add_value_at::<SessionUpdate<'static>, R>(lines, payload, now, ids, items)
+            add_value_at::<SessionUpdate<'static>, R>(lines, frame, now, ids, items)
         }
-        ItemKind::SessionAggregates => {
-            add_value::<SessionAggregates<'static>>(lines, payload, items)
-        }
+        ItemKind::SessionAggregates => add_value::<SessionAggregates<'static>>(lines, frame, items),
         ItemKind::Transaction => {
-            add_value_at::<Box<Transaction<'static>>, R>(lines, payload, now, ids, items)
+            add_value_at::<Box<Transaction<'static>>, R>(lines, frame, now, ids, items)
         }
-        ItemKind::MonitorCheckIn => add_value::<MonitorCheckIn>(lines, payload, items),
-        ItemKind::UserReport => add_value::<UserReport>(lines, payload, items),
-        ItemKind::Logs => add_value::<Listed<Log>>(lines, payload, items),
-        ItemKind::Metrics => add_value::<Listed<Metric>>(lines, payload, items),
-        ItemKind::ClientReport => { add_value_at::<ReportRows, R>(lines, payload, now, ids, items) }
+        ItemKind::MonitorCheckIn => add_value::<MonitorCheckIn>(lines, frame, items),
+        ItemKind::UserReport => add_value::<UserReport>(lines, frame, items),
+        ItemKind::Logs => add_value::<Listed<Log>>(lines, frame, items),
+        ItemKind::Metrics => add_value::<Listed<Metric>>(lines, frame, items),
+        ItemKind::ClientReport => add_value_at::<ReportRows, R>(lines, frame, now, ids, items),
         ItemKind::Attachment | ItemKind::ReplayRecording => unreachable!(),
     }
 }
 
-// Appends the item of a value that a payload holds.
+// Appends the item of a frame whose payload is a value of the type.
 #[inline(never)]
 fn add_value<'a, T: FromTree + Payload>(
     lines: &mut LineReader<'_, 'a>,
-    payload: &'a [u8],
+    frame: &ItemFrame<'a>,
     items: &mut Vec<EnvelopeItem>,
 ) -> Result<(), EnvelopeError>
-    ensures ok { OnOk result (IsValueAdded (λ v. TextShown T.kind payload.now (T.cell_of v))
-        T.holds items.old.items items.new.items) }
-    ensures err { IfErr result (λ e. (e ≡ EnvelopeError.OutOfMemory)
-        ⊎ ((e ≡ EnvelopeError.InvalidItemPayload) × TextRefused T.kind payload.now)) }
+    requires of_kind { IsOfKind (frame_of frame.now) T.item_kind }
+    requires fits { IsJson (form_of T.item_kind) T.kind }
+    requires held { (v : T) → T.cell v ≡ T.cell_of v }
+    ensures ok { (now : Cell) →
+        OnOk result (IsAdded now (frame_of frame.now) items.old.items items.new.items) }
+    ensures err { IfErr result (IsNotAdded (frame_of frame.now)) }
 {
-    let value: T = match lines.read(payload) {
+    let value: T = match lines.read(frame.payload) {
         Ok(value) => value,
         Err(error) => return Err(payload_error(error)),
     };
@@ -174,19 +169,19 @@ fn add_value<'a, T: FromTree + Payload>(
 #[inline(never)]
 fn add_value_at<'a, T: FromTreeAt + Payload, R: Rng>(
     lines: &mut LineReader<'_, 'a>,
-    payload: &'a [u8],
+    frame: &ItemFrame<'a>,
     now: Moment,
     ids: &mut R,
     items: &mut Vec<EnvelopeItem>,
 ) -> Result<(), EnvelopeError>
-    ensures ok { OnOk result (IsValueAdded
-        (λ v. TextShownAt (moment_cell now) T.kind payload.now (T.cell_of v))
-        T.holds items.old.items items.new.items) }
-    ensures err { IfErr result (λ e. (e ≡ EnvelopeError.OutOfMemory)
-        ⊎ ((e ≡ EnvelopeError.InvalidItemPayload) ×
-        TextRefusedAt (moment_cell now) T.kind payload.now)) }
+    requires of_kind { IsOfKind (frame_of frame.now) T.item_kind }
+    requires fits { IsJson (form_of T.item_kind) T.kind }
+    requires held { (v : T) → T.cell v ≡ T.cell_of v }
+    ensures ok { OnOk result
+        (IsAdded (moment_cell now) (frame_of frame.now) items.old.items items.new.items) }
+    ensures err { IfErr result (IsNotAdded (frame_of frame.now)) }
 {
-    let value: T = match read_at(lines, payload, now, ids) {
+    let value: T = match read_at(lines, frame.payload, now, ids) {
         Ok(value) => value,
         Err(error) => return Err(payload_error(error)),
     };
