@@ -3,7 +3,7 @@
 use crate::asked::said_of;
 use crate::auths::said_auth;
 use crate::bytes::{decoded, of_bytes};
-use crate::dsns::said_dsn;
+use crate::dsns::{said_default_port, said_dsn};
 use crate::envelopes::of_reader;
 use crate::equal::of_two_trees;
 use crate::ledger::of_history;
@@ -58,6 +58,7 @@ fn of_string(alloc: Global, name: &str, given: &str) -> Result<Value, AllocError
         "Unit::Other" => of_other_unit(alloc, given),
         "new" => of_new(alloc, given),
         "Dsn" => said_of(alloc, Dsn::from_str(alloc, given), said_dsn),
+        "default port" => said_of(alloc, Dsn::from_str(alloc, given), said_default_port),
         "Auth" => said_of(alloc, Auth::from_str(alloc, given), said_auth),
         "Auth::from_querystring" => said_of(
             alloc,

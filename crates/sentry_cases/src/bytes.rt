@@ -2,7 +2,9 @@
 
 use crate::asked::said_of;
 use crate::built::{begun, of_built};
-use crate::envelopes::{of_frames, read, said_envelope, said_losses, said_raw, said_steady};
+use crate::envelopes::{
+    of_frames, read, said_containers, said_envelope, said_losses, said_raw, said_steady,
+};
 use crate::filters::{of_answers, of_filter};
 use crate::form::of_tape;
 use crate::ledger::of_recorded;
@@ -54,6 +56,7 @@ pub fn of_bytes(alloc: Global, name: &str, bytes: &[u8]) -> Result<Option<Value>
         "envelope" => said_of(alloc, read(alloc, bytes), said_steady)?,
         "rewritten" => said_of(alloc, read(alloc, bytes), said_envelope)?,
         "frames" => of_frames(alloc, bytes)?,
+        "containers" => said_of(alloc, read(alloc, bytes), said_containers)?,
         "losses" => said_of(alloc, read(alloc, bytes), said_losses)?,
         _ => return Ok(None),
     }))

@@ -74,3 +74,8 @@ pub fn said_dsn(alloc: Global, dsn: &Dsn) -> Result<Value, AllocError> {
         ],
     )
 }
+
+/// The port of the DSN's scheme.
+pub fn said_default_port(_alloc: Global, dsn: &Dsn) -> Result<Value, AllocError> {
+    as_tree(dsn.scheme().default_port())
+}

@@ -5,8 +5,8 @@ use crate::bytes::said_bytes;
 use crate::said::{as_tree, list, maybe, refused, text};
 use rand_pcg::Pcg32;
 use sentry_types::protocol::v7::{
-    CountedWriter, Envelope, EnvelopeError, EnvelopeReader, EnvelopeWriteError, Frames, ItemFrame,
-    ItemLoss, LossSource, Moment, Value,
+    CountedWriter, Envelope, EnvelopeError, EnvelopeItem, EnvelopeReader, EnvelopeWriteError,
+    Frames, ItemContainer, ItemFrame, ItemLoss, LossSource, Moment, Value,
 };
 use std::alloc::{AllocError, Global};
 
@@ -101,7 +101,28 @@ pub fn said_raw(alloc: Global, envelope: &Envelope) -> Result<Value, AllocError>
     list(alloc, fields)
 }
 
-/// The header and the payload of a frame, or why there is none.
+/// The word and the media type of a container, and how many values it has.
+fn said_container(alloc: Global, container: &ItemContainer) -> Result<Value, AllocError> {
+    let fields = [
+        text(alloc, container.ty()),
+        text(alloc, container.content_type()),
+        as_tree(container.len() as u64),
+    ];
+    list(alloc, fields)
+}
+
+/// The containers of an envelope.
+pub fn said_containers(alloc: Global, envelope: &Envelope) -> Result<Value, AllocError> {
+    let mut told = Vec::new(alloc);
+    for item in envelope.items() {
+        if let EnvelopeItem::ItemContainer(container) = item {
+            told.push(said_container(alloc, container)?)?;
+        }
+    }
+    Ok(Value::from(told))
+}
+
+// The header and the payload of a frame, or why there is none.
 fn said_frame(
     alloc: Global,
     frame: Result<ItemFrame<'_>, EnvelopeError>,

@@ -5,13 +5,13 @@ use crate::bytes::said_bytes;
 use crate::envelopes::said_losses;
 use crate::events::{said_event, said_fields};
 use crate::form::{ids, now, written};
-use crate::said::{as_tree, debug, list, refused, text, tree, unknown};
+use crate::said::{as_tree, debug, list, refused, shown, text, tree, unknown};
 use sentry_tables::text_of;
 use sentry_types::IndexedEnum;
 use sentry_types::protocol::v7::{
     Attachment, AttachmentType, Breadcrumb, Category, Context, Event, FromTree, GpuContext, Item,
     Log, LogAttribute, LogLevel, Map, Member, Metric, Moment, OsContext, Own, Reason, Report, Span,
-    TraceContext, Transaction, TreeError, Unit, User, Value,
+    SpanId, TraceContext, TraceId, Transaction, TreeError, Unit, User, Value,
 };
 use std::alloc::{AllocError, Global};
 use std::borrow::CowStr;
@@ -371,6 +371,31 @@ fn ended(alloc: Global, now: Moment) -> Transaction<'static> {
     transaction
 }
 
+// The same whose end is set to second 5.
+fn ended_early(alloc: Global, now: Moment) -> Transaction<'static> {
+    let mut transaction = ended(alloc, now);
+    if let Some(end) = Moment::new(5, 0) {
+        transaction.finish_with_timestamp(end);
+    }
+    transaction
+}
+
+// A span that began at a moment and has ended.
+fn ended_span(alloc: Global, now: Moment) -> Span {
+    let mut span = Span::new(alloc, now, &mut ids());
+    span.finish(now);
+    span
+}
+
+// The same whose end is set to second 5.
+fn span_ended_early(alloc: Global, now: Moment) -> Span {
+    let mut span = ended_span(alloc, now);
+    if let Some(end) = Moment::new(5, 0) {
+        span.finish_with_timestamp(end);
+    }
+    span
+}
+
 /// What a new value of a type writes, made at the moment of reading.
 pub fn of_new(alloc: Global, name: &str) -> Result<Value, AllocError> {
     let Ok(now) = now() else {
@@ -381,8 +406,13 @@ pub fn of_new(alloc: Global, name: &str) -> Result<Value, AllocError> {
         "Event" => said_of(alloc, new_event(alloc), tree),
         "Event, by its fields" => said_of(alloc, new_event(alloc), said_fields),
         "Span" => said_own(alloc, Span::new(alloc, now, &mut ids())),
+        "Span, ended" => said_own(alloc, ended_span(alloc, now)),
+        "Span, ended at second 5" => said_own(alloc, span_ended_early(alloc, now)),
+        "SpanId::random" => shown(alloc, &SpanId::random(&mut ids())),
+        "TraceId::random" => shown(alloc, &TraceId::random(&mut ids())),
         "TraceContext" => said_own(alloc, TraceContext::new(alloc, &mut ids())),
         "Transaction" => said_own(alloc, ended(alloc, now)),
+        "Transaction, ended at second 5" => said_own(alloc, ended_early(alloc, now)),
         _ => unknown(alloc),
     }
 }

@@ -66,6 +66,24 @@ fn grown(alloc: Global) -> Result<Values<u64>, AllocError> {
     Ok(list)
 }
 
+/// A list whose numbers are changed in place, and that then has one more.
+fn changed(alloc: Global) -> Result<Values<u64>, AllocError> {
+    let mut list = grown(alloc)?;
+    for number in list.iter_mut() {
+        *number = number.saturating_add(1);
+    }
+    if let Some(first) = list.as_mut_slice().first_mut() {
+        *first = 7;
+    }
+    list.as_vec_mut().push(9)?;
+    Ok(list)
+}
+
+#[test]
+fn changed_lists(rt: HostRuntime) -> Result<(), Fail> {
+    wanted(changed(rt.alloc())?.as_slice() == [7, 3, 4, 9].as_slice())
+}
+
 #[test]
 fn lists(rt: HostRuntime) -> Result<(), Fail> {
     let alloc = rt.alloc();
