@@ -7,10 +7,9 @@ use Rattle.sentry_envelope.specs.declared.envelope.Envelope.{Envelope}
 use Rattle.sentry_envelope.specs.declared.headers.EnvelopeHeaders.{EnvelopeHeaders}
 use Rattle.sentry_envelope.specs.declared.envelope.Contents.{Contents}
 use Rattle.sentry_envelope.specs.declared.envelope.Contents.TheVariants as variants
-use Rattle.sentry_envelope.specs.EnvelopeView.{item_view, header_of, held_in, structured_by, structured}
 use Rattle.sentry_envelope.specs.HeaderFields.{put_id, headers_cell}
 use Rattle.sentry_tables.specs.Cell.{Cell}
-use Rattle.sentry_envelope.specs.Filter.{Call, Ask, Hand, Run, id_of, asks, chosen, is_main, is_orphan, orphans, kept, Asks, Filters, FiltersEnvelope, first_id_of, structured_in, IsMadeOf, LeavesOf}
+use Rattle.sentry_envelope.specs.Filter.{Call, Ask, Hand, Run, id_of, asks, chosen, is_main, is_orphan, orphans, kept, Asks, Filters, FiltersEnvelope, first_id_of, IsMadeOf, LeavesOf}
 
 -- `Raw` gives no id, and is no orphan
 raw_orphans : orphans (item_variants.Raw ∷ []) ≡ []
@@ -20,16 +19,6 @@ raw_orphans = refl
 raw_kept : kept (item_variants.Raw ∷ []) ≡ item_variants.Raw ∷ []
 unfolding id_of is_orphan
 raw_kept = refl
-
-made_in : (contents : Contents) (items : List EnvelopeItem) (own header : Cell) → structured_in contents ≡ Some items → own ≡ header
-    → structured_by own (held_in contents) ≡ Some (record { header = header; items = map item_view items })
-made_in (variants.Items held) items own header same is = cc
-made_in (variants.Raw bytes) items own header same is = cc
-
--- what an envelope made of items shows
-pub made_is : (header : Cell) (items : List EnvelopeItem) (envelope : Envelope) → IsMadeOf header items envelope
-    → structured envelope ≡ Some (record { header = put_id (first_id_of items) header; items = map item_view items })
-made_is header items envelope made = made_in envelope.contents items (header_of envelope) (put_id (first_id_of items) header) made.items_are made.header_is
 
 -- an envelope that is made of some items is what is left of one with items
 made_leaves : (contents : Contents) (items : Vec EnvelopeItem Global) (header : Cell) (envelope : Envelope) (left : List EnvelopeItem) (made : Envelope)

@@ -21,7 +21,7 @@ use Rattle.sentry_framing.specs.declared.header.ItemHeader.{ItemHeader}
 use Rattle.sentry_framing.specs.declared.kind.ItemKind.{ItemKind}
 use Rattle.sentry_framing.specs.declared.kind.ItemKind.TheVariants as kinds
 use Rattle.sentry_envelope.specs.EnvelopeFault.{BodyIsAtFault, FrameIsRefused}
-use Rattle.sentry_envelope.specs.Envelope.{Content, item, attached, opaque, value, reads, attached_by, IsValue, ContentShowsAt, ItemShows, ItemsStand}
+use Rattle.sentry_envelope.specs.Envelope.{Content, item, attached, opaque, value, attached_by, IsValue, ContentShowsAt, ItemShows, ItemsStand}
 use Rattle.sentry_envelope.specs.EnvelopeView.{item_view, placed}
 use Rattle.sentry_envelope.specs.ItemAdded.{IsAdded, IsJson, IsOfKind, IsValueAdded}
 use Rattle.sentry_envelope.specs.SentryProfile.{form_of, item_types, profile}
@@ -80,11 +80,6 @@ module _ (frame : Frame) (k : ItemKind) (K : Kind) (kind : IsOfKind frame k) (fi
   pub value_refused : TextRefused K frame.payload → FrameIsRefused profile frame
   unfolding TextRefused TextRefusedAt
   value_refused none = value_refused_at absent (none absent)
-
--- a frame by the words of the items is one of the profile
-pub first_of_profile : (body : List ℕ) (frame : Frame) (rest : List ℕ) → IsFirstFrame (stated_length item_words) body frame rest → IsFirstFrame (reads profile) body frame rest
-unfolding profile
-first_of_profile body frame rest h = h
 
 -- ---- after items that stand
 

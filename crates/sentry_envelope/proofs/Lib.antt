@@ -26,7 +26,6 @@ pub mod EnvelopeForms
 pub mod EnvelopeLaws
 pub mod OneEnvelope
 pub mod RawEnvelopes
-pub mod EnvelopeWriting
 pub mod EnvelopeFill
 pub mod EnvelopeSample
 pub mod ConservationLemmas

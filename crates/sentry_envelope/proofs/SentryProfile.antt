@@ -4,11 +4,11 @@ use Rattle.std.specs.Prelude.{codes}
 use Rattle.std.proofs.lemmas.Option.{same_Some}
 use Rattle.sentry_tables.proofs.ByRows.{laws_by_rows}
 use Rattle.sentry_tables.proofs.Sound.{ascii_text}
-use Rattle.sentry_tables.specs.Cell.{Cell, absent}
+use Rattle.sentry_tables.specs.Cell.{absent}
 use Rattle.sentry_tables.specs.Fields.{rows_of}
 use Rattle.sentry_tables.specs.Kind.{ignored, Kind, has_key}
 use Rattle.sentry_tables.specs.Lawful.{IsLawful}
-use Rattle.sentry_framing.specs.ItemWords.{item_kinds, item_words, kind_place, kind_word}
+use Rattle.sentry_framing.specs.ItemWords.{item_kinds, kind_place, kind_word}
 use Rattle.sentry_framing.specs.declared.kind.ItemKind.{ItemKind}
 use Rattle.sentry_framing.specs.declared.kind.ItemKind.TheVariants as kinds
 use Rattle.sentry_keys.proofs.DsnTrees.{dsn_scalar_laws}
@@ -26,10 +26,6 @@ use Rattle.sentry_envelope.specs.SentryProfile.{held_at, form_of, gives_of, item
 use Rattle.sentry_envelope.proofs.EnvelopeIds.{none_given}
 use Rattle.sentry_envelope.proofs.EnvelopeTypes.{IsAt, first, later, or_false}
 use Rattle.sentry_envelope.proofs.ItemIds.{table_gives}
-
--- the words of item headers are those of the types, in order
-pub same_words : item_words ≡ words item_types
-same_words = refl
 
 pub header_lawful : IsLawful header_kind
 unfolding header_fields

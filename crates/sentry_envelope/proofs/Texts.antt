@@ -1,5 +1,5 @@
 -- Texts in parts: what is appended, counted and sent, part by part.
-use Rattle.std.proofs.Common.{◌≡◌, ◌+◌, ◌<◌, ◌≤◌, ℕ, suc, length, get_or, drop, drop-cons, add-one, List, [], ◌∷◌, ◌++◌, Option, sym, ap, ◌∙◌, subst, arith, append_assoc, append-nil, length-append}
+use Rattle.std.proofs.Common.{◌≡◌, ◌+◌, ◌<◌, ◌≤◌, ℕ, suc, length, get_or, drop, drop-cons, add-one, List, [], ◌∷◌, ◌++◌, Option, sym, ap, ◌∙◌, subst, append_assoc, append-nil}
 use Rattle.std.proofs.lemmas.List.{drop_all}
 use Rattle.std.specs.Io.KnownBytes.{Appends}
 use Rattle.sentry_json.specs.Line.{newline}
@@ -45,11 +45,6 @@ own_behind ps all p end taken rest more own none is =
 -- the next part, and those behind it
 next_part : (ps : List Part) (i : ℕ) (p : Part) → i < length ps → p ≡ get_or ps i p → drop i ps ≡ p ∷ drop (i + 1) ps
 next_part ps i p within is = rw add-one (drop-cons ps i p within ∙ ap (λ q. q ∷ drop (suc i) ps) (sym is))
-
-pub part_counted : (ps : List Part) (i : ℕ) (p : Part) (all len own lent : ℕ) → i < length ps → p ≡ get_or ps i p → all ≡ len + length (parts_bytes (drop i ps)) → own ≡ length p.own.items → lent ≡ length p.lent.now
-    → all ≡ (len + own) + lent + length (parts_bytes (drop (i + 1) ps))
-part_counted ps i p all len own lent within is so_far is_own is_lent =
-    omega (arith, so_far, is_own, is_lent, ap (λ qs. length (parts_bytes qs)) (next_part ps i p within is), length-append (p.own.items ++ p.lent.now) (parts_bytes (drop (i + 1) ps)), length-append p.own.items p.lent.now)
 
 -- a text of which the next part comes behind a front
 pub part_comes : (ps : List Part) (i : ℕ) (p : Part) (text front end : List ℕ) → i < length ps → p ≡ get_or ps i p → text ≡ front ++ (parts_bytes (drop i ps) ++ end)
