@@ -14,8 +14,9 @@ use Rattle.sentry_ledger.specs.LossSums.{no_sums, sum_at}
 use Rattle.sentry_ledger.proofs.SumLemmas.{sums_of_run}
 use Rattle.sentry_env.specs.Listed.{AnswersFor}
 use Rattle.sentry_env.specs.Losing.{AnswersByKind, AddsLosses}
-use Rattle.sentry_env.specs.Run.{IsDue, header_left, kept_text, left_text, left_outcome, model, outcome_of}
+use Rattle.sentry_env.specs.Run.{IsDue, dues, header_left, kept_due, left_due, model}
 use Rattle.sentry_env.specs.Table.{table_by, table_of}
+use Rattle.sentry_env.specs.declared.ending.Outcome.TheVariants.{Written}
 use Rattle.sentry_framing.specs.declared.kind.ItemKind.{ItemKind}
 use Rattle.sentry_env.specs.declared.loss_filter.LossFilter.{LossFilter}
 
@@ -48,27 +49,29 @@ asked_structured : (contents : Contents) (items : List EnvelopeItem) → structu
 asked_structured (Items all) items is = cc
 asked_structured (Raw bytes) items is = cc
 
-left_is : (contents : Contents) (items : List EnvelopeItem) (header : Cell) (envelope : Envelope) (kept_items : List EnvelopeItem) (left : Option Envelope) → structured_in contents ≡ Some items
-    → LeavesOf contents header envelope kept_items left → (left_text left ≡ kept_text header kept_items) × (left_outcome left ≡ outcome_of kept_items)
-left_is contents items header envelope [] left is leaves = rw leaves (refl, refl)
-left_is (Items all) items header envelope (item ∷ rest) None is leaves = absurd leaves
-left_is (Items all) items header envelope (item ∷ rest) (Some left) is leaves =
-    (ap (text_by (header_of left)) (held_structured left.contents (item ∷ rest) leaves.items_are) ∙ ap (λ (h : Cell). text_by h (held_items (map item_view (item ∷ rest)))) leaves.header_is, refl)
-left_is (Raw bytes) items header envelope (item ∷ rest) left is leaves = cc
+left_is : (contents : Contents) (items : List EnvelopeItem) (header : Cell) (envelope : Envelope) (kept_items : List EnvelopeItem) (left : Option Envelope) (table : List ℕ) → structured_in contents ≡ Some items
+    → LeavesOf contents header envelope kept_items left → left_due left table ≡ kept_due header kept_items table
+left_is contents items header envelope [] left table is leaves = rw leaves refl
+left_is (Items all) items header envelope (item ∷ rest) None table is leaves = absurd leaves
+left_is (Items all) items header envelope (item ∷ rest) (Some left) table is leaves =
+    ap (λ (text : List ℕ). dues text table Written)
+    (ap (text_by (header_of left)) (held_structured left.contents (item ∷ rest) leaves.items_are) ∙ ap (λ (h : Cell). text_by h (held_items (map item_view (item ∷ rest)))) leaves.header_is)
+left_is (Raw bytes) items header envelope (item ∷ rest) left table is leaves = cc
 
 pub rest_is_due : (kinds : List ItemKind) (keep : Bool) (envelope : Envelope) (items : List EnvelopeItem) (first last : LossFilter) (left : Option Envelope) (table : List ℕ) → (length kinds == 0) ≡ false
     → structured_in envelope.contents ≡ Some items → first.kinds.now ≡ kinds → first.sums.row ≡ no_sums → FiltersEnvelope (header_left keep (header_of envelope)) AnswersByKind AddsLosses envelope first last left
-    → table ≡ table_by (sum_at last.sums) → IsDue kinds keep (header_of envelope) items (left_text left) table (left_outcome left)
+    → table ≡ table_by (sum_at last.sums) → IsDue kinds keep (header_of envelope) items (left_due left table)
 rest_is_due [] keep envelope items first last left table some has is none filtered shown = absurd (let e : true ≡ false = some in cc)
 rest_is_due (kind ∷ kinds) keep envelope items first last left table some has is none filtered shown =
+    let header = header_left keep (header_of envelope) in
     let filters = rw (asked_structured envelope.contents items has) at filtered.filters in
-    let leaves = left_is envelope.contents items (header_left keep (header_of envelope)) envelope filtered.left left has filtered.leaves in
     record {
       answers = filters.answers;
       by_kind = answers_by_kind (kind ∷ kinds) items filters.answers (map Hand (orphans (chosen items filters.answers))) first last filters.complete is filters.run;
-      out_is = leaves.0 ∙ ap (kept_text (header_left keep (header_of envelope))) filters.left_is;
-      table_is = shown ∙ table_of_run items filters.answers first last none filters.run;
-      outcome_is = leaves.1 ∙ ap outcome_of filters.left_is;
+      due_is =
+          left_is envelope.contents items header envelope filtered.left left table has filtered.leaves
+          ∙ ap (kept_due header filtered.left) (shown ∙ table_of_run items filters.answers first last none filters.run)
+          ∙ ap (λ (is : List EnvelopeItem). kept_due header is (table_of (losses_of_items (handed items filters.answers)))) filters.left_is;
     }
 
 -- ---- what was read

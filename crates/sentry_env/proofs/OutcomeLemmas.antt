@@ -21,9 +21,9 @@ use Rattle.sentry_envelope.proofs.ConservationLemmas.{handed_of_hands}
 use Rattle.sentry_envelope.proofs.OneEnvelope.{one_envelope}
 use Rattle.sentry_envelope.proofs.SentryProfile.{profile_lawful}
 use Rattle.sentry_env.specs.Listed.{AnswersFor, IsOfKinds, kind_of_item}
-use Rattle.sentry_env.specs.Run.{DueIsSettled, IsDue, IsOneDue, header_left, kept_text, model, outcome_of}
+use Rattle.sentry_env.specs.Run.{Due, DueIsSettled, IsDue, dues, header_left, kept_due, model}
 use Rattle.sentry_env.specs.Table.{table_of}
-use Rattle.sentry_env.specs.declared.ending.Outcome.{Outcome}
+use Rattle.sentry_env.specs.declared.ending.Outcome.TheVariants.{Written}
 use Rattle.sentry_framing.specs.declared.kind.ItemKind.{ItemKind}
 
 -- ---- items that show the same hold the same
@@ -189,40 +189,32 @@ answers_alike kinds (i ∷ items) (j ∷ others) (a ∷ answers) (b ∷ also) sa
 
 -- ---- what is due
 
-kept_text_alike : (header : Cell) (items others : List EnvelopeItem) → Alike items others → kept_text header items ≡ kept_text header others
-kept_text_alike header [] [] same = refl
-kept_text_alike header [] (j ∷ others) same = cc
-kept_text_alike header (i ∷ items) [] same = cc
-kept_text_alike header (i ∷ items) (j ∷ others) same =
+due_alike : (header : Cell) (items others : List EnvelopeItem) (table : List ℕ) → Alike items others → kept_due header items table ≡ kept_due header others table
+due_alike header [] [] table same = refl
+due_alike header [] (j ∷ others) table same = cc
+due_alike header (i ∷ items) [] table same = cc
+due_alike header (i ∷ items) (j ∷ others) table same =
     let id = first_id_alike (i ∷ items) (j ∷ others) same in
-    ap (λ (h : Cell). envelope_text profile (record { header = h; items = map item_view (i ∷ items) })) (ap (λ d. put_id d header) id)
-    ∙ ap (λ (is : List Item). envelope_text profile (record { header = put_id (first_id_of (j ∷ others)) header; items = is })) same
+    ap (λ (h : Cell). dues (envelope_text profile (record { header = h; items = map item_view (i ∷ items) })) table Written) (ap (λ d. put_id d header) id)
+    ∙ ap (λ (is : List Item). dues (envelope_text profile (record { header = put_id (first_id_of (j ∷ others)) header; items = is })) table Written) same
 
-outcome_alike : (items others : List EnvelopeItem) → Alike items others → outcome_of items ≡ outcome_of others
-outcome_alike [] [] same = refl
-outcome_alike [] (j ∷ others) same = cc
-outcome_alike (i ∷ items) [] same = cc
-outcome_alike (i ∷ items) (j ∷ others) same = refl
+same_due : (kinds : List ItemKind) (keep : Bool) (header : Cell) (items others : List EnvelopeItem) (due due' : Due) → Alike items others → IsDue kinds keep header items due → IsDue kinds keep header others due' → due ≡ due'
+same_due [] keep header items others due due' same is is' =
+    is ∙ ap (λ (views : List Item). dues (envelope_text profile (record { header = header; items = views })) [] Written) same ∙ sym is'
+same_due (kind ∷ kinds) keep header items others due due' same is is' =
+    let answers = answers_alike (kind ∷ kinds) items others is.answers is'.answers same is.by_kind is'.by_kind in
+    let left = kept_alike _ _ (chosen_alike items others is'.answers same) in
+    let gone = handed_alike items others is'.answers same in
+    is.due_is ∙ rw answers (ap (kept_due (header_left keep header) _) (ap table_of (losses_alike _ _ gone)) ∙ due_alike (header_left keep header) _ _ _ left) ∙ sym is'.due_is
 
-due_alike : (kinds : List ItemKind) (keep : Bool) (header : Cell) (items others : List EnvelopeItem) (out out' table table' : List ℕ) (outcome outcome' : Outcome) → Alike items others
-    → IsDue kinds keep header items out table outcome → IsDue kinds keep header others out' table' outcome' → (out ≡ out') × (table ≡ table') × (outcome ≡ outcome')
-due_alike [] keep header items others out out' table table' outcome outcome' same due due' =
-    (due.0 ∙ ap (λ (is : List Item). envelope_text profile (record { header = header; items = is })) same ∙ sym due'.0, due.1 ∙ sym due'.1, due.2 ∙ sym due'.2)
-due_alike (kind ∷ kinds) keep header items others out out' table table' outcome outcome' same due due' =
-    let answers = answers_alike (kind ∷ kinds) items others due.answers due'.answers same due.by_kind due'.by_kind in
-    let left = kept_alike _ _ (chosen_alike items others due'.answers same) in
-    let gone = handed_alike items others due'.answers same in (
-      due.out_is ∙ rw answers (kept_text_alike (header_left keep header) _ _ left) ∙ sym due'.out_is,
-      due.table_is ∙ rw answers (ap table_of (losses_alike _ _ gone)) ∙ sym due'.table_is,
-      due.outcome_is ∙ rw answers (outcome_alike _ _ left) ∙ sym due'.outcome_is,
-    )
-
-one_due : (kinds : List ItemKind) (keep : Bool) (header header' : Cell) (items others : List EnvelopeItem) → model header items ≡ model header' others → IsOneDue kinds keep header header' items others
-one_due kinds keep header header' items others same out out' table table' outcome outcome' due due' =
+one_due : (kinds : List ItemKind) (keep : Bool) (header header' : Cell) (items others : List EnvelopeItem) (due due' : Due) → model header items ≡ model header' others
+    → IsDue kinds keep header items due → IsDue kinds keep header' others due' → due ≡ due'
+one_due kinds keep header header' items others due due' same is is' =
     let header_is : header ≡ header' = ap (λ (m : Model). m.header) same in
     let items_are : map item_view items ≡ map item_view others = ap (λ (m : Model). m.items) same in
-    due_alike kinds keep header items others out out' table table' outcome outcome' items_are due (rw header_is due')
+    same_due kinds keep header items others due due' items_are is (rw header_is is')
 
 pub due_is_settled : DueIsSettled
-due_is_settled bytes now kinds keep header header' items others drawn spelled spelled' =
-    one_due kinds keep header header' items others (one_envelope profile profile_lawful bytes now (model header items) (model header' others) drawn spelled spelled')
+due_is_settled set bytes due due' drawn is is' =
+    one_due set.kinds set.keep is.header is'.header is.items is'.items due due'
+    (one_envelope profile profile_lawful bytes set.now (model is.header is.items) (model is'.header is'.items) drawn is.spells is'.spells) is.is_due is'.is_due

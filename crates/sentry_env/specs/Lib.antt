@@ -4,4 +4,5 @@ pub mod Listed
 pub mod Losing
 pub mod Reading
 pub mod Run
+pub mod Streams
 pub mod Table

@@ -1,9 +1,9 @@
 //! Reading all of the input.
 
-ghost use Rattle.std.specs.Prelude.{◌≡◌, ◌+◌, ◌-◌, ◌^◌, ◌<◌, IfOk, IfErr, OnOk};
-ghost use Rattle.std.specs.Io.KnownBytes.{Consumes, IsAtEnd};
-ghost use Rattle.sentry_items.specs.Counted.{reader_inside, reader_failures};
+ghost use Rattle.std.specs.Prelude.{◌≡◌, ◌+◌, ◌-◌, ◌^◌, ◌<◌, IfOk, IfErr};
+ghost use Rattle.sentry_items.specs.Counted.{reader_failures};
 ghost use Rattle.sentry_env.specs.Reading.{failed_reads};
+ghost use Rattle.sentry_env.specs.Streams.{GivesAll, reader_stream};
 
 use sentry_types::protocol::v7::CountedReader;
 use std::alloc::Global;
@@ -29,11 +29,8 @@ const CHUNK: usize = 8192;
 /// - `Memory` if an allocation fails.
 pub fn read_all<R: Read>(alloc: Global, reader: &mut CountedReader<R>) -> Result<Vec<u8>, ReadError>
     requires { reader_failures reader.old < 2 ^ 64 - 1 }
-    ensures all { IfOk result (λ bytes.
-        Consumes (R.remaining (reader_inside reader.old))
-        (R.remaining (reader_inside reader.new)) bytes.items) }
-    ensures end { OnOk result (IsAtEnd (R.remaining (reader_inside reader.new))) }
-    ensures no_failure { OnOk result (reader_failures reader.new ≡ reader_failures reader.old) }
+    ensures all { IfOk result (λ bytes. GivesAll (reader_stream R.remaining reader.old)
+        (reader_stream R.remaining reader.new) bytes.items) }
     ensures failure { IfErr result (λ error.
         reader_failures reader.new ≡ reader_failures reader.old + failed_reads error) }
 {

@@ -1,14 +1,15 @@
 //! A run: reading, filtering and writing.
 
-ghost use Rattle.std.specs.Prelude.{◌≡◌, ◌+◌, ◌-◌, ◌^◌, ◌<◌, List, Some, IfErr, IfOk, IsSomeAnd, string_bytes};
-ghost use Rattle.sentry_items.specs.Counted.{reader_inside, reader_failures, writer_inside, writer_failures};
+ghost use Rattle.std.specs.Prelude.{◌≡◌, ◌-◌, ◌^◌, ◌<◌, List, Some, IfErr, IfOk, IsSomeAnd, string_bytes};
+ghost use Rattle.sentry_items.specs.Counted.{reader_failures, writer_failures};
 ghost use Rattle.sentry_items.specs.declared.item.EnvelopeItem.{EnvelopeItem};
 ghost use Rattle.sentry_envelope.specs.Envelope.{IsEnvelopePlain};
 ghost use Rattle.sentry_envelope.specs.EnvelopeView.{header_of, structured};
 ghost use Rattle.sentry_envelope.specs.Filter.{FiltersEnvelope, structured_in};
 ghost use Rattle.sentry_envelope.specs.SentryProfile.{profile};
 ghost use Rattle.sentry_moments.specs.Moments.{moment_cell};
-ghost use Rattle.sentry_env.specs.Run.{IsDue, IsWritable, Runs, Sends, header_left, left_outcome, left_text, reads_failed, stream};
+ghost use Rattle.sentry_env.specs.Run.{IsDue, IsWritable, Runs, Sends, header_left, left_due, left_outcome, left_text, settings};
+ghost use Rattle.sentry_env.specs.Streams.{streams, writer_stream};
 
 use crate::Kind;
 use crate::ending::{Outcome, RunError};
@@ -58,8 +59,8 @@ fn rewrite(
     requires { IsSomeAnd (structured envelope) (IsEnvelopePlain profile) }
     ensures due { IfOk result (λ rewritten. (items : List EnvelopeItem) →
         structured_in envelope.contents ≡ Some items
-        → IsDue kinds.now keep (header_of envelope) items (left_text rewritten.left)
-        (string_bytes rewritten.losses) (left_outcome rewritten.left)) }
+        → IsDue kinds.now keep (header_of envelope) items
+        (left_due rewritten.left (string_bytes rewritten.losses))) }
     ensures writable { IfOk result (λ rewritten. IsWritable rewritten.left) }
 {
     if kinds.is_empty() {
@@ -92,8 +93,7 @@ fn write_left<W: Write>(
 ) -> Result<(), RunError>
     requires counts { writer_failures out.old < 2 ^ 64 - 1 }
     requires writable { IsWritable left.now }
-    ensures { Sends (stream (W.contents (writer_inside out.old)) (writer_failures out.old))
-        (stream (W.contents (writer_inside out.new)) (writer_failures out.new))
+    ensures { Sends (writer_stream W.contents out.old) (writer_stream W.contents out.new)
         (left_text left.now) result }
 {
     let Some(envelope) = left else {
@@ -134,15 +134,9 @@ pub fn run<R: Read, W: Write, T: Write, G: Rng>(
     requires reader_counts { reader_failures reader.old < 2 ^ 64 - 1 }
     requires out_counts { writer_failures out.old < 2 ^ 64 - 1 }
     requires table_counts { writer_failures table.old < 2 ^ 64 - 1 }
-    ensures runs { Runs kinds.now keep (moment_cell now)
-        (R.remaining (reader_inside reader.old)) (R.remaining (reader_inside reader.new))
-        (stream (W.contents (writer_inside out.old)) (writer_failures out.old))
-        (stream (W.contents (writer_inside out.new)) (writer_failures out.new))
-        (stream (T.contents (writer_inside table.old)) (writer_failures table.old))
-        (stream (T.contents (writer_inside table.new)) (writer_failures table.new)) result }
-
-    // The reader's count rises with `Read`, and with no other answer.
-    ensures reads { reader_failures reader.new ≡ reader_failures reader.old + reads_failed result }
+    ensures { Runs (settings kinds.now keep (moment_cell now))
+        (streams R.remaining W.contents T.contents reader.old out.old table.old)
+        (streams R.remaining W.contents T.contents reader.new out.new table.new) result }
 {
     let bytes = read_all(alloc, reader)?;
     let envelope = Envelope::from_slice(alloc, &bytes, now, ids)?;
