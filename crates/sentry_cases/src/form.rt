@@ -2,7 +2,7 @@
 
 use crate::said::{debug, list, refused, text};
 use rand_pcg::Pcg32;
-use sentry_json::{Line, LineError, scratch};
+use sentry_json::{Node, Tape};
 use sentry_tables::read_tree;
 use sentry_types::protocol::v7::value::Writer;
 use sentry_types::protocol::v7::{
@@ -102,12 +102,10 @@ fn beside_tape<F: ReadCodec<T>, T: Drop>(
     line: &[u8],
     told: Value,
 ) -> Result<Value, AllocError> {
-    let mut scratch = scratch(alloc);
-    let by_tape = match Line::parse(line, &mut scratch, Vec::new(alloc)) {
-        Ok(read) => F::from_node(alloc, &read.root()),
-        Err(LineError::Misfit) => Err(TreeError::Misfit),
-        Err(LineError::Memory) => Err(TreeError::Memory),
-        Err(LineError::Unfit) => return Ok(told),
+    let mut tape = Tape::new(alloc);
+    let by_tape = match tape.parse(line) {
+        Some(root) => F::from_node(alloc, &root),
+        None => return Ok(told),
     };
     agreed(alloc, told, answered::<F, T>(alloc, &by_tape))
 }
@@ -182,12 +180,10 @@ fn beside_tape_at<F: ReadCodecAt<T>, T: Drop>(
         drop(told);
         return text(alloc, "no moment");
     };
-    let mut scratch = scratch(alloc);
-    let by_tape = match Line::parse(line, &mut scratch, Vec::new(alloc)) {
-        Ok(read) => F::from_node(alloc, &read.root(), now, &mut ids()),
-        Err(LineError::Misfit) => Err(TreeError::Misfit),
-        Err(LineError::Memory) => Err(TreeError::Memory),
-        Err(LineError::Unfit) => return Ok(told),
+    let mut tape = Tape::new(alloc);
+    let by_tape = match tape.parse(line) {
+        Some(root) => F::from_node(alloc, &root, now, &mut ids()),
+        None => return Ok(told),
     };
     agreed(alloc, told, answered::<F, T>(alloc, &by_tape))
 }
@@ -281,11 +277,18 @@ pub fn debugged<T: Debug + Drop>(
     }
 }
 
-/// Whether a line has a tape, or why it has none.
+/// Whether a line has a tape, with the tree that a reader of trees reads; else who reads it: that
+/// reader alone, or neither.
 pub fn of_tape(alloc: Global, line: &[u8]) -> Result<Value, AllocError> {
-    let mut scratch = scratch(alloc);
-    match Line::parse(line, &mut scratch, Vec::new(alloc)) {
-        Ok(_) => Ok(Value::from(true)),
-        Err(error) => Ok(Value::from(format!(in alloc; "!{error:?}")?)),
+    let mut tape = Tape::new(alloc);
+    let Some(root) = tape.parse(line) else {
+        return match read_tree(alloc, line) {
+            Ok(_) => text(alloc, "by tree"),
+            Err(error) => Ok(Value::from(format!(in alloc; "!{error:?}")?)),
+        };
+    };
+    match read_tree(alloc, line) {
+        Ok(tree) if are_alike(alloc, &tree, &root.to_value(alloc)?) => Ok(Value::from(true)),
+        _ => text(alloc, "two answers"),
     }
 }

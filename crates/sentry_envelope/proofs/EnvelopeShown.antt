@@ -54,12 +54,6 @@ line_sorted K lawful line = elim ((has_laws K lawful).text_decided line absent) 
   | inr none ↦ inr (λ now c shows. let (x, shown) = (has_laws K lawful).text_timeless line now absent c shows in none x shown)
 ]
 
-pub line_stands : (K : Kind) → IsLawful K → (line : List ℕ) (now c : Cell) → TextShows K now line c → LineStands K line
-line_stands K lawful line now c shows later = (has_laws K lawful).text_timeless line now later c shows
-
-pub line_refused : (K : Kind) → IsLawful K → (line : List ℕ) (now : Cell) → ((c : Cell) → TextShows K now line c → ⊥) → LineIsRefused K line
-line_refused K lawful line now none later c shows = let (x, shown) = (has_laws K lawful).text_timeless line later now c shows in none x shown
-
 -- ---- contents
 
 value_sorted : (K : Kind) → IsLawful K → (payload : List ℕ)

@@ -1,20 +1,20 @@
 //! Envelopes.
 use crate::error::EnvelopeWriteError;
 use crate::file::read_file;
-use crate::filtering::{first_event, gives_id};
-use crate::headers::EnvelopeHeaders;
+use crate::filtering::{first_event, first_id, gives_id};
+use crate::headers::{EnvelopeHeaders, read_header_line};
 use crate::items::{EnvelopeItemIter, IntoItems};
 use crate::plain::items_are_plain;
-use crate::reader::read_with;
+use crate::read::read_items;
 use crate::text::Text;
 use crate::write::write_envelope;
 use rand_core::Rng;
 use sentry_event::Event;
-use sentry_framing::EnvelopeError;
+use sentry_framing::{EnvelopeError, Frames};
 use sentry_items::EnvelopeItem;
 use sentry_items::counted::CountedWriter;
 use sentry_moments::Moment;
-use sentry_tables::{LazyScratch, Member};
+use sentry_tables::{LineReader, Member};
 use std::alloc::{AllocError, AllocFailed, Global};
 use std::io::Write;
 use std::rt::Files;
@@ -147,7 +147,16 @@ impl Envelope {
         ensures fault { IfErr result (λ x. x ≢ EnvelopeError.OutOfMemory →
             Fault profile bytes.now x) }
     {
-        read_with(alloc, bytes, now, ids, &mut LazyScratch::new(alloc))
+        let mut lines = LineReader::new(alloc);
+        let mut frames = Frames::new(bytes);
+        let mut headers = EnvelopeHeaders::new();
+        read_header_line(&mut lines, frames.header_line(), &mut headers)?;
+        let items = read_items(&mut lines, &mut frames, now, ids)?;
+        headers.fill(first_id(&items));
+        Ok(Envelope {
+            headers,
+            contents: Contents::Items(items),
+        })
     }
 
     /// Reads a file, and parses the envelope in the file as [`Envelope::from_slice`] does.

@@ -232,7 +232,7 @@ impl CopyTable for EnvelopeHeaders {
 // Reads the header line into `headers`, where they stay: they are too large to hand on by value.
 #[inline(never)]
 pub(crate) fn read_header_line<'a>(
-    lines: &mut LineReader<'_, 'a>,
+    lines: &mut LineReader<'a>,
     line: &'a [u8],
     headers: &mut EnvelopeHeaders,
 ) -> Result<(), EnvelopeError>
@@ -248,7 +248,7 @@ pub(crate) fn read_header_line<'a>(
 }
 
 fn fill_headers<'a>(
-    lines: &mut LineReader<'_, 'a>,
+    lines: &mut LineReader<'a>,
     line: &'a [u8],
     headers: &mut EnvelopeHeaders,
 ) -> Result<(), TreeError>
@@ -286,7 +286,7 @@ fn fill_from_root<'t, 'a>(
 #[cold]
 #[inline(never)]
 fn fill_from_line<'a>(
-    lines: &mut LineReader<'_, 'a>,
+    lines: &mut LineReader<'a>,
     line: &'a [u8],
     headers: &mut EnvelopeHeaders,
 ) -> Result<(), TreeError>

@@ -30,7 +30,7 @@ use sentry_tables::{FromTree, LineReader, TreeError};
 use std::alloc::{AllocError, Global};
 
 pub(crate) fn read_items<'a, R: Rng>(
-    lines: &mut LineReader<'_, 'a>,
+    lines: &mut LineReader<'a>,
     frames: &mut Frames<'a>,
     now: Moment,
     ids: &mut R,
@@ -56,7 +56,7 @@ pub(crate) fn read_items<'a, R: Rng>(
 // type of payload is therefore read, and its item appended, by a function of its own, and a small
 // item doesn't pay for the slots of the others.
 fn add_item<'a, R: Rng>(
-    lines: &mut LineReader<'_, 'a>,
+    lines: &mut LineReader<'a>,
     frame: &ItemFrame<'a>,
     header: &mut ItemHeader,
     now: Moment,
@@ -111,7 +111,7 @@ fn add_recording(
 #[tactic(auto, using(crate::specs::ItemAdded::alone, crate::specs::ItemAdded::listed))]
 #[inline(never)]
 fn add_json_item<'a, R: Rng>(
-    lines: &mut LineReader<'_, 'a>,
+    lines: &mut LineReader<'a>,
     frame: &ItemFrame<'a>,
     kind: ItemKind,
     now: Moment,
@@ -146,7 +146,7 @@ fn add_json_item<'a, R: Rng>(
 // Appends the item of a frame whose payload is a value of the type.
 #[inline(never)]
 fn add_value<'a, T: FromTree + Payload>(
-    lines: &mut LineReader<'_, 'a>,
+    lines: &mut LineReader<'a>,
     frame: &ItemFrame<'a>,
     items: &mut Vec<EnvelopeItem>,
 ) -> Result<(), EnvelopeError>
@@ -168,7 +168,7 @@ fn add_value<'a, T: FromTree + Payload>(
 // The same of a payload whose absent moments and ids are filled.
 #[inline(never)]
 fn add_value_at<'a, T: FromTreeAt + Payload, R: Rng>(
-    lines: &mut LineReader<'_, 'a>,
+    lines: &mut LineReader<'a>,
     frame: &ItemFrame<'a>,
     now: Moment,
     ids: &mut R,

@@ -7,7 +7,7 @@ use rand_core::Rng;
 use sentry_json::Node;
 use sentry_moments::Moment;
 use sentry_rows::FromTreeAt;
-use sentry_tables::{LazyScratch, LineReader, ReadsNode, TreeError};
+use sentry_tables::{LineReader, ReadsNode, TreeError};
 use std::alloc::Global;
 
 // Reads a node with the current time and a generator of ids.
@@ -36,7 +36,7 @@ impl<'r, T: FromTreeAt, R: Rng> ReadsNode<T> for AtMoment<'r, R> {
 // - `Memory` if an allocation fails.
 #[tactic(auto, using(sentry_tables::proofs::Texts::text_read_by_at))]
 pub(crate) fn read_at<'a, T: FromTreeAt, R: Rng>(
-    lines: &mut LineReader<'_, 'a>,
+    lines: &mut LineReader<'a>,
     line: &'a [u8],
     now: Moment,
     ids: &mut R,
@@ -61,6 +61,5 @@ pub fn read_line_at<T: FromTreeAt, R: Rng>(
 ) -> Result<T, TreeError>
     ensures { ReadsTextAt (moment_cell now) T.kind T.cell_of line.now result }
 {
-    let mut scratch = LazyScratch::new(alloc);
-    read_at(&mut LineReader::new(alloc, &mut scratch), line, now, ids)
+    read_at(&mut LineReader::new(alloc), line, now, ids)
 }

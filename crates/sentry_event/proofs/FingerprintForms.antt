@@ -27,10 +27,6 @@ and_false : (b : Bool) → false ≡ b && false
 and_false true = refl
 and_false false = refl
 
-and_true : (b : Bool) → b ≡ b && true
-and_true true = refl
-and_true false = refl
-
 pub not_one : (ts : List (CowStr Global)) (x : CowStr Global) (xs : List (CowStr Global)) (t : List ℕ) (b : Bool) → ts ≡ x ∷ xs → b ≡ (length xs == 0) → b ≡ false → b ≡ same_cell (fingerprint_cell ts) (one_text t)
 not_one ts x [] t b is e f = absurd (true≢false (sym e ∙ f))
 not_one ts x (y ∷ ys) t b is e f = f ∙ rw is (and_false _)

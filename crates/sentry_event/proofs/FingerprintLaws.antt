@@ -2,7 +2,7 @@
 use Rattle.std.proofs.Common.{◌≡◌, codes, Bool, true, false, cond, refl, sym, ap, ◌∙◌}
 use Rattle.sentry_tables.specs.Cell.{Cell, sequence, Cells, no_cells, cell, same_cell}
 use Rattle.sentry_tables.specs.Kind.{Kind, list, default}
-use Rattle.sentry_tables.specs.Lawful.{IsLawful, RuleLaws, RefusesNull}
+use Rattle.sentry_tables.specs.Lawful.{IsLawful, RuleLaws}
 use Rattle.sentry_tables.specs.Meets.{IsStored, IsPlain, IsReadable}
 use Rattle.sentry_tables.specs.Norm.{norm, each_cell}
 use Rattle.sentry_tables.specs.Written.{tree, is_null}
@@ -68,7 +68,3 @@ fingerprint_lawful = written_as_laws texts fingerprint_form (has_laws texts text
 pub fingerprint_default : RuleLaws (default usual_fingerprint) fingerprint_kind
 unfolding fingerprint_kind
 fingerprint_default = (written_as_refuses_null texts fingerprint_form (list_refuses_null text_kind), (usual_stored, (tt, tt), (tt, tt), refl))
-
-pub fingerprint_refuses_null : RefusesNull fingerprint_kind
-unfolding fingerprint_kind
-fingerprint_refuses_null = written_as_refuses_null texts fingerprint_form (list_refuses_null text_kind)

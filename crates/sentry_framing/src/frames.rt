@@ -10,7 +10,7 @@ use crate::error::EnvelopeError;
 use crate::header::{ItemHeader, read_fields};
 use crate::lines::{end_line, skip_space, split_line};
 use crate::piece::piece_len;
-use sentry_tables::{LazyScratch, LineReader};
+use sentry_tables::LineReader;
 use std::alloc::Global;
 use std::marker::Model;
 
@@ -130,8 +130,7 @@ impl<'a> Frames<'a> {
         ensures memory { result ≡ Some (Err EnvelopeError.OutOfMemory) → self.new ≡ self.old }
     {
         let mut header = ItemHeader::new();
-        let mut scratch = LazyScratch::new(alloc);
-        match next_item_into(self, &mut LineReader::new(alloc, &mut scratch), &mut header) {
+        match next_item_into(self, &mut LineReader::new(alloc), &mut header) {
             None => None,
             Some(Ok(frame)) => Some(Ok((frame, header))),
             Some(Err(error)) => Some(Err(error)),
@@ -148,7 +147,7 @@ impl<'a> Frames<'a> {
 /// may be set.
 pub fn next_item_into<'a>(
     frames: &mut Frames<'a>,
-    lines: &mut LineReader<'_, 'a>,
+    lines: &mut LineReader<'a>,
     header: &mut ItemHeader,
 ) -> Option<Result<ItemFrame<'a>, EnvelopeError>>
     ensures header_line { frames.new.header_line ≡ frames.old.header_line }
@@ -211,7 +210,7 @@ fn split_header(body: &[u8]) -> Result<(&[u8], &[u8]), EnvelopeError>
 
 // Returns the first frame and the bytes after the frame, and parses the item header into `fields`.
 fn first_item<'a>(
-    lines: &mut LineReader<'_, 'a>,
+    lines: &mut LineReader<'a>,
     body: &'a [u8],
     fields: &mut ItemHeader,
 ) -> Result<(ItemFrame<'a>, &'a [u8]), EnvelopeError>

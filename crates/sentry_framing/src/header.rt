@@ -1,7 +1,6 @@
 //! Item headers.
 ghost use Rattle.std.specs.Prelude.{◌≡◌, [], ◌∷◌, ◌⊎◌, Some, None, IfOk, IfErr, OnOk, option_map, string_bytes};
 ghost use Rattle.serde_json.specs.Find.{as_str};
-ghost use Rattle.sentry_json.specs.Tree.{data_at};
 ghost use Rattle.sentry_framing.specs.ItemHeader.{header_of, kind_of, read_header, optional, whole_number};
 ghost use Rattle.sentry_framing.specs.ItemWords.{item_words, kind_place};
 ghost use Rattle.sentry_framing.specs.declared.kind.ItemKind.TheVariants as kinds;
@@ -10,8 +9,8 @@ ghost use Rattle.sentry_json.specs.TapeView.{node_data};
 
 use crate::error::EnvelopeError;
 use crate::kind::ItemKind;
-use sentry_json::{Branch, Line, LineError, Node, TapeNode};
-use sentry_tables::{LazyScratch, LineReader, TreeError, read_tree};
+use sentry_json::{Node, TapeNode};
+use sentry_tables::{LineReader, TreeError, read_tree};
 use std::alloc::Global;
 
 /// The fields of an item header.
@@ -128,20 +127,6 @@ fn fill_header<N: Node>(
     Ok(())
 }
 
-fn fill_from_branch<'t, 'a>(
-    alloc: Global,
-    root: &Branch<'t, 'a>,
-    fields: &mut ItemHeader,
-) -> Result<(), TreeError>
-    ensures ok { OnOk result (header_of item_words (data_at root.now.at) ≡
-        Some (header_view fields.new)) }
-    ensures misfit { result ≡ Err TreeError.Misfit →
-        header_of item_words (data_at root.now.at) ≡ None }
-{
-    let mut places: [Option<Branch<'t, 'a>>; 5] = [None, None, None, None, None];
-    fill_header(alloc, root, &mut places, fields)
-}
-
 fn fill_from_tape<'t, 'a>(
     alloc: Global,
     root: &TapeNode<'t, 'a>,
@@ -156,30 +141,7 @@ fn fill_from_tape<'t, 'a>(
     fill_header(alloc, root, &mut places, fields)
 }
 
-// Reads any line: by the tape of a `Line`, and by a tree of values if a tape can't hold it.
-#[cold]
-#[inline(never)]
-#[tactic(auto, unfolding(crate::specs::ItemHeader::read_header))]
-fn fill_from_line(
-    lines: &mut LineReader<'_, '_>,
-    line: &[u8],
-    fields: &mut ItemHeader,
-) -> Result<(), TreeError>
-    ensures ok { OnOk result (read_header item_words line.now ≡ Some (header_view fields.new)) }
-    ensures misfit { result ≡ Err TreeError.Misfit → read_header item_words line.now ≡ None }
-{
-    let alloc = lines.alloc();
-    match Line::parse(line, lines.scratch()?, Vec::new(alloc)) {
-        Ok(read) => {
-            let root = read.root();
-            fill_from_branch(alloc, &root, fields)
-        }
-        Err(LineError::Misfit) => Err(TreeError::Misfit),
-        Err(LineError::Memory) => Err(TreeError::Memory),
-        Err(LineError::Unfit) => fill_from_tree(alloc, line, fields),
-    }
-}
-
+// Reads any line, as a tree of values.
 #[cold]
 #[inline(never)]
 #[tactic(auto, unfolding(crate::specs::ItemHeader::read_header))]
@@ -207,19 +169,14 @@ pub fn read_item_header(alloc: Global, header: &[u8]) -> Result<ItemHeader, Enve
         ⊎ ((e ≡ EnvelopeError.InvalidItemHeader) × (read_header item_words header.now ≡ None))) }
 {
     let mut fields = ItemHeader::new();
-    let mut scratch = LazyScratch::new(alloc);
-    read_fields(
-        &mut LineReader::new(alloc, &mut scratch),
-        header,
-        &mut fields,
-    )?;
+    read_fields(&mut LineReader::new(alloc), header, &mut fields)?;
     Ok(fields)
 }
 
 // Parses an item header into `fields`; some may be set after an error.
 #[tactic(auto, unfolding(crate::specs::ItemHeader::read_header))]
 pub(crate) fn read_fields<'a>(
-    lines: &mut LineReader<'_, 'a>,
+    lines: &mut LineReader<'a>,
     header: &'a [u8],
     fields: &mut ItemHeader,
 ) -> Result<(), EnvelopeError>
@@ -230,7 +187,7 @@ pub(crate) fn read_fields<'a>(
     let alloc = lines.alloc();
     let filled = match lines.root(header) {
         Some(root) => fill_from_tape(alloc, &root, fields),
-        None => fill_from_line(lines, header, fields),
+        None => fill_from_tree(alloc, header, fields),
     };
     match filled {
         Ok(()) => Ok(()),

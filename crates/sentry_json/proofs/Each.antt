@@ -3,8 +3,8 @@ use Rattle.std.proofs.Common.{◌≡◌, ℕ, zero, suc, ◌+◌, ◌<◌, List,
 use Rattle.std.proofs.lemmas.Bool.{and_parts, or_parts, not-true}
 use Rattle.std.proofs.lemmas.List.{length-map, map-set}
 use Rattle.std.proofs.lemmas.Slice.Eq.{bytes_eq-Decides}
-use Rattle.serde_json.specs.Data.{Data, null, boolean, number, string, array, object, Members, put}
-use Rattle.serde_json.specs.Find.{get, get_member, as_object}
+use Rattle.serde_json.specs.Data.{Data, Members, put}
+use Rattle.serde_json.specs.Find.{get_member}
 use Rattle.serde_json.proofs.Views.{get_member-put, get_member-put_other}
 use Rattle.sentry_json.specs.Keys.{is_among, are_distinct, StandsAt}
 use Rattle.sentry_json.proofs.Beside.{among, stands_within}
@@ -51,23 +51,6 @@ pub place_within : {A C : Type 0} (f : A → C) (g : Bor (List ℕ) → C) (keys
 place_within f g keys places k i h at = rw (same_length f g places keys h, ← length-map keys (λ key. key.now)) (stands_within k i (names_of keys) at)
 
 -- ---- what stands at the keys of a tree
-
-pub without_object : (keys : List (Bor (List ℕ))) (d : Data) → None ≡ as_object d → map (λ key. None) keys ≡ map (λ key. get key.now d) keys
-without_object keys null h = refl
-without_object keys (boolean b) h = refl
-without_object keys (number n) h = refl
-without_object keys (string s) h = refl
-without_object keys (array ds) h = refl
-without_object keys (object ms) h = absurd cc
-
-pub in_object : (keys : List (Bor (List ℕ))) (d : Data) (ms : Members) → as_object d ≡ Some ms → values_at keys ms ≡ map (λ key. get key.now d) keys
-in_object keys null ms h = absurd cc
-in_object keys (boolean b) ms h = absurd cc
-in_object keys (number n) ms h = absurd cc
-in_object keys (string s) ms h = absurd cc
-in_object keys (array ds) ms h = absurd cc
-in_object keys (object ns) ms h = let same : ns ≡ ms = cc in ap (values_at keys) (sym same)
-
 -- ---- keys that are looked up one after the other
 
 -- what g gives for the first n keys, and none for those after them

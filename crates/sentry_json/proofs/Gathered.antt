@@ -1,18 +1,16 @@
 -- Nodes in lists and under keys, gathered one by one.
-use Rattle.std.proofs.Common.{◌≡◌, ℕ, ℤ, pos, negsuc, IfSome, zero, suc, ◌+◌, ◌<◌, arith, sym, false, true, true≢false, bytes_eq, subst, ◌≤◌, ◌-◌, Option, Some, None, option_and_then, List, [], ◌∷◌, ◌++◌, length, get_or, take, string_bytes, string_cmp, refl, ap, ◌∙◌}
+use Rattle.std.proofs.Common.{◌≡◌, ℕ, zero, suc, ◌+◌, ◌<◌, arith, sym, false, true, true≢false, bytes_eq, subst, ◌≤◌, ◌-◌, Some, List, [], ◌∷◌, ◌++◌, length, get_or, take, string_bytes, string_cmp, refl, ap, ◌∙◌}
 use Rattle.std.proofs.lemmas.List.{take_more}
-use Rattle.std.proofs.lemmas.Option.{same_Some}
 use Rattle.std.specs.List.Sorted.{IsStrictlySortedBy}
 use Rattle.std.specs.Map.{keys_of}
-use Rattle.serde_json.specs.Data.{Num, unsigned, negative, float, Data, null, boolean, number, string, array, object, Items, no_items, item, Members, no_members, put}
-use Rattle.serde_json.specs.Find.{get_member, as_array, as_object, as_str, as_bool, as_number, as_u64, as_i64, of_integer}
-use Rattle.serde_json.specs.Written.{has_float}
+use Rattle.serde_json.specs.Data.{Data, Items, no_items, item, Members, no_members, put}
+use Rattle.serde_json.specs.Find.{get_member}
 use Rattle.serde_json.specs.View.{view, items_view, members_view}
 use Rattle.serde_json.specs.declared.value.Value.{Value}
 use Rattle.serde_json.proofs.Views.{Entry, put_last, get_member-put, get_member-put_other}
 use Rattle.std.proofs.lemmas.Slice.Eq.{bytes_eq-Decides}
 use Rattle.sentry_json.proofs.Beside.{beside_named, beside_put}
-use Rattle.sentry_json.specs.Sound.{IsOrdered, IsRanged}
+use Rattle.sentry_json.specs.Sound.{IsOrdered}
 use Rattle.sentry_json.proofs.Regular.{put_ordered}
 use Rattle.sentry_json.specs.Keys.{is_among, beside}
 use Rattle.sentry_json.specs.Nodes.{items_by, named_after, named_by}
@@ -104,40 +102,3 @@ items_viewed [] = refl
 items_viewed (v ∷ vs) = ap (item (view v)) (items_viewed vs)
 
 -- ---- whole numbers
-
-number_is : (d : Data) (n : Num) → as_number d ≡ Some n → number n ≡ d
-number_is null n e = absurd cc
-number_is (boolean b) n e = absurd cc
-number_is (number m) n e = let same : m ≡ n = same_Some _ _ e in ap number (sym same)
-number_is (string s) n e = absurd cc
-number_is (array ds) n e = absurd cc
-number_is (object ms) n e = absurd cc
-
-unsigned_of : (o : Option Num) (n : ℕ) → option_and_then as_u64 o ≡ Some n → o ≡ Some (unsigned n)
-unsigned_of None n e = absurd cc
-unsigned_of (Some (unsigned m)) n e = let same : m ≡ n = same_Some _ _ e in ap (λ k. Some (unsigned k)) same
-unsigned_of (Some (negative z)) n e = absurd cc
-unsigned_of (Some (float x)) n e = absurd cc
-
-signed_of : (o : Option Num) (z : ℤ) → None ≡ option_and_then as_u64 o → option_and_then as_i64 o ≡ Some z → IfSome o IsRanged → o ≡ Some (of_integer z)
-signed_of None z h e ranged = absurd cc
-signed_of (Some (unsigned m)) z h e ranged = absurd cc
-signed_of (Some (negative (pos n))) z h e ranged = absurd ranged
-signed_of (Some (negative (negsuc n))) z h e ranged = let same : negsuc n ≡ z = same_Some _ _ e in ap (λ y. Some (of_integer y)) same
-signed_of (Some (float x)) z h e ranged = absurd cc
-
-pub is_unsigned : (d : Data) (n : ℕ) → option_and_then as_u64 (as_number d) ≡ Some n → number (unsigned n) ≡ d
-is_unsigned d n e = number_is d (unsigned n) (unsigned_of (as_number d) n e)
-
-pub is_signed : (d : Data) (z : ℤ) → None ≡ option_and_then as_u64 (as_number d) → option_and_then as_i64 (as_number d) ≡ Some z → IfSome (as_number d) IsRanged → number (of_integer z) ≡ d
-is_signed d z h e ranged = number_is d (of_integer z) (signed_of (as_number d) z h e ranged)
-
-pub only_null : (d : Data) → as_array d ≡ None → as_object d ≡ None → None ≡ as_str d → None ≡ as_bool d → None ≡ option_and_then as_u64 (as_number d) → None ≡ option_and_then as_i64 (as_number d) → has_float d ≡ false → null ≡ d
-only_null null a b c e f g h = refl
-only_null (boolean x) a b c e f g h = absurd cc
-only_null (number (unsigned n)) a b c e f g h = absurd cc
-only_null (number (negative z)) a b c e f g h = absurd cc
-only_null (number (float x)) a b c e f g h = absurd (true≢false h)
-only_null (string s) a b c e f g h = absurd cc
-only_null (array ds) a b c e f g h = absurd cc
-only_null (object ms) a b c e f g h = absurd cc

@@ -8,15 +8,10 @@ pub mod Puts
 pub mod Regular
 pub mod Sound
 pub mod Lines
-pub mod Deeper
 pub mod Gathered
 pub mod Latest
-pub mod Trees
-pub mod Numbers
-pub mod Tokens
 pub mod Beside
 pub mod Each
-pub mod Digits
 pub mod TokenLists
 pub mod PlainTexts
 pub mod CharacterEnds

@@ -182,10 +182,6 @@ set_back all old done place t u is at = ap₂ (λ ts n. slice_set ts n u) is at 
 pub counted : (all old done : List Token) (len place : ℕ) (t : Token) → all ≡ old ++ t ∷ done → len ≡ length all → place ≡ length old → len - place - 1 ≡ length done
 counted all old done len place t is long at = omega (arith, long, at, ap length is, length-append old (t ∷ done))
 
--- room for deeper nesting does no harm
-pub within : (text rest : List ℕ) (first : Token) (inside : List Token) (most : ℕ) → Spells text rest first inside 0 → Spells text rest first inside most
-within text rest first inside most s = record { json = s.json; lexed = s.lexed; meant = s.meant; closed = s.closed; shallow = omega (arith, s.shallow) }
-
 -- ---- white space before what was read, and behind it
 
 pub skipped : (of due : Bool) (text left next : List ℕ) (done : List Token) (most : ℕ) → IsSpaced left next → Before of due text left done most → Before of due text next done most

@@ -1,11 +1,11 @@
 -- What lists of tokens mean, one token after the other: any number that is at least the count of the tokens gives the same.
-use Rattle.std.proofs.Common.{◌+◌, ◌-◌, min, Bool, take_all, ◌≡◌, ℕ, zero, suc, pos, negsuc, ◌<◌, ◌≤◌, List, [], ◌∷◌, length, take, drop, length-take, length-drop, Option, Some, None, refl, sym, ap, ◌∙◌, slice_get, is_some, true, false, ◌||◌, arith}
+use Rattle.std.proofs.Common.{Ordering, Less, Equal, Greater, true≢false, ◌+◌, ◌-◌, min, Bool, take_all, ◌≡◌, ℕ, zero, suc, pos, negsuc, ◌<◌, ◌≤◌, List, [], ◌∷◌, length, take, drop, length-take, length-drop, Option, Some, None, refl, sym, ap, ◌∙◌, slice_get, is_some, true, false, ◌||◌, arith}
 use Rattle.std.proofs.lemmas.List.{take_min, drop_min}
 use Rattle.std.proofs.lemmas.Option.{same_Some}
-use Rattle.serde_json.specs.Data.{Data, array, object, Items, no_items, item, Members, no_members, put}
+use Rattle.std.specs.Ordering.{match_ordering}
+use Rattle.serde_json.specs.Data.{Data, array, object, Items, no_items, item, Members, no_members, member, put}
 use Rattle.serde_json.specs.Find.{as_array, as_object}
 use Rattle.serde_json.specs.Written.{has_float, items_have_float, members_have_float}
-use Rattle.sentry_json.proofs.Trees.{put_no_float}
 use Rattle.sentry_json.specs.Tokens.{Meaning, width, text_of, value_with, items_by, member_step, members_by, value_at, value_of, items_of, members_of, tokens_value}
 use Rattle.sentry_json.specs.declared.tape.token.Token.{Token}
 use Rattle.sentry_json.specs.declared.tape.token.Token.TheVariants as token
@@ -198,6 +198,22 @@ unfolding items_by
 items_no_float f zero ts h = refl
 items_no_float f (suc n) [] h = refl
 items_no_float f (suc n) (t ∷ ts) h = no_or _ _ (h t (take (width t) ts)) (items_no_float f n (drop (width t) ts) h)
+
+-- a member without a float put among members without any
+or_parts : (a b : Bool) → (a || b) ≡ false → (a ≡ false) × (b ≡ false)
+or_parts true b e = absurd (true≢false e)
+or_parts false b e = (refl, e)
+
+by_ordering : (o : Ordering) (a b c : Members) → members_have_float a ≡ false → members_have_float b ≡ false → members_have_float c ≡ false → members_have_float (match_ordering o a b c) ≡ false
+by_ordering Less a b c x y z = x
+by_ordering Equal a b c x y z = y
+by_ordering Greater a b c x y z = z
+
+pub put_no_float : (k : List ℕ) (d : Data) (ms : Members) → has_float d ≡ false → members_have_float ms ≡ false → members_have_float (put k d ms) ≡ false
+put_no_float k d no_members h m = no_or _ _ h refl
+put_no_float k d (member l e ms) h m =
+    let p = or_parts _ _ m in
+    by_ordering _ (member k d (member l e ms)) (member l d ms) (member l e (put k d ms)) (no_or _ _ h m) (no_or _ _ h p.1) (no_or _ _ p.0 (put_no_float k d ms h p.1))
 
 step_no_float : (o : Option (List ℕ)) (d : Data) (more : Members → Members) (before : Members) → has_float d ≡ false → members_have_float before ≡ false → ((ms : Members) → members_have_float ms ≡ false → members_have_float (more ms) ≡ false) → members_have_float (member_step o d more before) ≡ false
 step_no_float None d more before x b h = b

@@ -1,8 +1,7 @@
 -- How scalars are spelled.
-use Rattle.std.proofs.Common.{◌≡◌, ℕ, zero, suc, ℤ, pos, negsuc, neg_ℤ, ◌^◌, ◌<◌, ◌≤◌, true, false, cond, List, [], ◌∷◌, ◌++◌, length, get_or, take, Some, option_map, decimal, refl, sym, ap, ap₂, ◌∙◌, arith}
+use Rattle.std.proofs.Common.{◌≡◌, ℕ, zero, suc, ℤ, pos, negsuc, neg_ℤ, ◌^◌, ◌<◌, ◌≤◌, true, false, cond, List, [], ◌∷◌, ◌++◌, length, get_or, take, Some, option_map, decimal, refl, sym, ap, ap₂, subst, ◌∙◌, arith}
 use Rattle.std.proofs.lemmas.Fmt.{decimal-digits_value}
 use Rattle.std.proofs.lemmas.Str.Parse.{numerals_by_value, tells_digits}
-use Rattle.std.proofs.lemmas.Int.Digits.{digits_value-lt}
 use Rattle.std.proofs.lemmas.List.{length-take-le, get_or-take}
 use Rattle.std.specs.Str.Parse.{IsNumeral, digits_value}
 use Rattle.json.specs.Token as json_token
@@ -17,24 +16,18 @@ use Rattle.sentry_json.specs.declared.tape.token.Token.{Token}
 use Rattle.sentry_json.specs.declared.tape.token.Token.TheVariants as variants
 use Rattle.sentry_json.specs.Spelled.{Spells, SpellsString, IsQuoted}
 use Rattle.sentry_json.specs.Tokens.{width, text_of, value_of, value_at}
-use Rattle.sentry_json.proofs.Integers.{power_below}
 
 -- ---- integers
 
--- digits in the way that the number is written
-record IsWritten (ds : List ℕ) (n : ℕ) : Type 0 where
-  same : ds ≡ decimal n
-  fits : n < 2 ^ 64
-
-written : (text : List ℕ) (n len : ℕ) → IsNumeral 10 (take len text) → n ≡ digits_value 10 (take len text) → len ≤ length text → len ≤ 19 → (get_or text 0 0 ≡ 48 → len ≡ 1) → IsWritten (take len text) n
-written text n len numeral is le few lead =
+-- digits stand as the number is written
+written : (text : List ℕ) (n len : ℕ) → IsNumeral 10 (take len text) → n ≡ digits_value 10 (take len text) → len ≤ length text → n < 2 ^ 64 → (get_or text 0 0 ≡ 48 → len ≡ 1) → take len text ≡ decimal n
+written text n len numeral is le fits lead =
     let ds = take len text in
     let size : length ds ≡ len = length-take-le len text le in
     let some : 0 < len = omega (arith, numeral.0, size) in
-    let fits : digits_value 10 ds < 2 ^ 64 = omega (arith, size, power_below (length ds) 19 (omega arith), digits_value-lt 10 ds numeral.1) in
     let first : get_or ds 0 0 ≡ get_or text 0 0 = get_or-take len text 0 0 some in
     let one : get_or ds 0 0 ≡ 48 → length ds ≡ 1 = λ e. size ∙ lead (sym first ∙ e) in
-    record { same = sym (ap decimal is ∙ decimal-digits_value (numerals_by_value _ tells_digits) ds numeral.1 numeral.0 one fits); fits = rw is fits }
+    sym (ap decimal is ∙ decimal-digits_value (numerals_by_value _ tells_digits) ds numeral.1 numeral.0 one (subst (λ m. m < 2 ^ 64) is fits))
 
 -- with a minus
 minus_spelled : (n : ℕ) (whole rest : List ℕ) (z : ℤ) → whole ≡ 45 ∷ (decimal n ++ rest) → 0 < n → n < 2 ^ 63 → z ≡ neg_ℤ (pos n) → Spells whole rest (variants.Negative z) [] 0
@@ -50,14 +43,13 @@ minus_spelled (suc k) whole rest z is some low same =
     }
 
 -- the digits that the code counts
-module _ (text rest : List ℕ) (n len : ℕ) (parts : text ≡ take len text ++ rest) (numeral : IsNumeral 10 (take len text)) (is : n ≡ digits_value 10 (take len text)) (le : len ≤ length text) (few : len ≤ 19) (lead : get_or text 0 0 ≡ 48 → len ≡ 1) where
+module _ (text rest : List ℕ) (n len : ℕ) (parts : text ≡ take len text ++ rest) (numeral : IsNumeral 10 (take len text)) (is : n ≡ digits_value 10 (take len text)) (le : len ≤ length text) (fits : n < 2 ^ 64) (lead : get_or text 0 0 ≡ 48 → len ≡ 1) where
   by_decimal : text ≡ decimal n ++ rest
-  by_decimal = parts ∙ ap (λ ds. ds ++ rest) (written text n len numeral is le few lead).same
+  by_decimal = parts ∙ ap (λ ds. ds ++ rest) (written text n len numeral is le fits lead)
 
   pub whole_spelled : Spells text rest (variants.Whole n) [] 0
   unfolding value_at
   whole_spelled =
-      let fits = (written text n len numeral is le few lead).fits in
       record {
         json = json.number (decimal n);
         lexed = λ ended. ap (lex between) by_decimal ∙ lex-number (decimal n) rest (IsNumber-decimal n fits) ended;

@@ -2,9 +2,7 @@ pub mod Balanced
 pub mod Line
 pub mod Sound
 pub mod Keys
-pub mod Unfit
 pub mod Nodes
-pub mod Tree
 pub mod Escaped
 pub mod PlainTexts
 pub mod Spelled

@@ -3,18 +3,13 @@
 //! `specs/` defines the tree of a line, sound trees and balanced texts; [`laws`] states their laws.
 #![tactic(auto)]
 
-pub mod branch;
 pub mod keys;
 pub mod laws;
-pub mod line;
 pub mod node;
-pub mod number;
 pub mod object;
 mod tape;
 
-pub use branch::Branch;
 pub use keys::is_among;
-pub use line::{Line, LineError, scratch};
 pub use node::Node;
 pub use object::{Named, Object};
 pub use tape::{Tape, TapeNode};

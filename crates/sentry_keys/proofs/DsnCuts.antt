@@ -15,9 +15,6 @@ pub cut_done : (text : List ℕ) → ((rest : List ℕ) → text ≢ 47 ∷ rest
 cut_done [] h = refl
 cut_done (c ∷ cs) h = cut_other (eqb c 47) c cs refl (λ e. h cs (ap (λ (k : ℕ). k ∷ cs) e))
 
-pub cut_end_slash : (text front : List ℕ) → text ≡ front ++ 47 ∷ [] → cut_end text ≡ cut_end front
-cut_end_slash text front e = ap (λ (t : List ℕ). reverse (cut_front t)) (ap reverse e ∙ reverse-append front (47 ∷ []))
-
 pub cut_end_done : (text : List ℕ) → ((front : List ℕ) → text ≢ front ++ 47 ∷ []) → cut_end text ≡ text
 cut_end_done text h =
     ap reverse (cut_done (reverse text) (λ rest e. h (reverse rest) (sym (reverse-reverse text) ∙ ap reverse e ∙ reverse-append (47 ∷ []) rest))) ∙ reverse-reverse text

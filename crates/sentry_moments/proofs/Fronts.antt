@@ -1,10 +1,10 @@
 -- The digits that a text begins with.
-use Rattle.std.proofs.Common.{◌≡◌, ℕ, suc, ◌+◌, ◌<◌, ◌≤◌, Bool, true, false, cond, List, [], ◌∷◌, ◌++◌, length, take, refl, sym, ap, ◌∙◌, arith}
+use Rattle.std.proofs.Common.{◌≡◌, ℕ, suc, ◌+◌, ◌<◌, Bool, true, false, cond, List, [], ◌∷◌, ◌++◌, length, take, refl, sym, ap, ◌∙◌, arith}
 use Rattle.std.specs.Char.{is_ascii_digit, digit_value}
 use Rattle.std.specs.List.{prefix_len}
 use Rattle.std.specs.Str.Parse.{AllDigits}
 use Rattle.std.proofs.lemmas.Bool.Decides.{nat_tests}
-use Rattle.std.proofs.lemmas.List.{take-append-drop, take_at, drop_at, length-take-le}
+use Rattle.std.proofs.lemmas.List.{take-append-drop, take_at, drop_at}
 use Rattle.std.proofs.lemmas.Str.Parse.{digit_from_value}
 use Rattle.sentry_moments.specs.Digits.{front_digits, after_digits}
 use Rattle.sentry_moments.proofs.Choices.{if_true}
@@ -26,17 +26,6 @@ front_step false c n cs h rest = tt
 pub front_digits_are : (text : List ℕ) → AllDigits 10 (front_digits text)
 front_digits_are [] = tt
 front_digits_are (c ∷ cs) = front_step (is_ascii_digit c) c (prefix_len is_ascii_digit cs) cs (digit_means c) (front_digits_are cs)
-
-shorter : (b : Bool) (n m : ℕ) → n ≤ m → cond b (1 + n) 0 ≤ suc m
-shorter true n m h = omega arith
-shorter false n m h = omega arith
-
-pub front_len-le : (cs : List ℕ) → prefix_len is_ascii_digit cs ≤ length cs
-front_len-le [] = omega arith
-front_len-le (c ∷ cs) = shorter (is_ascii_digit c) (prefix_len is_ascii_digit cs) (length cs) (front_len-le cs)
-
-pub front_len : (cs : List ℕ) → length (front_digits cs) ≡ prefix_len is_ascii_digit cs
-front_len cs = length-take-le (prefix_len is_ascii_digit cs) cs (front_len-le cs)
 
 pub front_and_rest : (cs : List ℕ) → cs ≡ front_digits cs ++ after_digits cs
 front_and_rest cs = sym (take-append-drop (prefix_len is_ascii_digit cs) cs)

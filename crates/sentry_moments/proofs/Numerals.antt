@@ -1,20 +1,16 @@
 -- Numbers from their digits.
-use Rattle.std.proofs.Common.{add-one, ◌≡◌, ℕ, ◌+◌, ◌-◌, ◌*◌, ◌^◌, ◌<◌, ◌≤◌, List, ◌++◌, length, get_or, take, replicate, refl, ◌∙◌, arith, length-append}
+use Rattle.std.proofs.Common.{add-one, ◌≡◌, ℕ, ◌+◌, ◌-◌, ◌*◌, ◌^◌, ◌<◌, ◌≤◌, List, ◌++◌, length, get_or, take, replicate, arith, length-append}
 use Rattle.std.specs.Char.{digit_value, IsAsciiDigit}
 use Rattle.std.specs.Str.Parse.{digits_value, AllDigits}
 use Rattle.std.proofs.lemmas.Bool.Decides.{nat_tests}
 use Rattle.std.proofs.lemmas.Int.Digits.{digits_value_more}
 use Rattle.std.proofs.lemmas.Str.Parse.{digit_at}
-use Rattle.std.proofs.lemmas.List.{get_or_append_left, get_or-append_right, get_or-replicate}
+use Rattle.std.proofs.lemmas.List.{get_or_append_left}
 use Rattle.std.proofs.Math.Nat.{pow-suc, pow-le-pow_right}
 
 -- a place of digits followed by zeros
 pub padded_inside : (ds : List ℕ) (i : ℕ) → i < length ds → get_or (ds ++ replicate 9 48) i 0 ≡ get_or ds i 0
 padded_inside ds i h = get_or_append_left ds (replicate 9 48) 0 i h
-
-pub padded_past : (ds : List ℕ) (i : ℕ) → length ds ≤ i → i < 9 → get_or (ds ++ replicate 9 48) i 0 ≡ 48
-padded_past ds i h k =
-    get_or-append_right ds (replicate 9 48) (length ds) i 0 refl h ∙ get_or-replicate 9 (i - length ds) 48 0 (omega arith)
 
 pub value_of_digit : (c : ℕ) → IsAsciiDigit c → digit_value c ≡ c - 48
 value_of_digit c h = grind (arith, nat_tests)

@@ -64,10 +64,6 @@ cut w n true e rest =
 cut w n false e rest =
     subst (IsCut (suc w) n) (sym (cut_other w n e)) (record { zeros = 0; whole = sym (append-nil (digits (suc w) n)); digits_are = are_digits (suc w) n; count = omega (arith, length-digits (suc w) n) })
 
-nothing_cut : IsCut 0 0 (digits_without_closing_zeros 0 0)
-unfolding digits_without_closing_zeros digits
-nothing_cut = record { zeros = 0; whole = refl; digits_are = tt; count = refl }
-
 pub is_cut : (w n : ℕ) → IsCut w n (digits_without_closing_zeros w n)
 unfolding digits_without_closing_zeros digits
 is_cut zero n = record { zeros = 0; whole = refl; digits_are = tt; count = refl }

@@ -140,10 +140,6 @@ all_long : (items : List Item) → length (all_sums items) ≡ SUMS
 unfolding all_sums
 all_long items = refl
 
--- that row has each sum in its place, and no other row has
-pub keeps_all : (items : List Item) → KeepsSums (all_sums items) items
-keeps_all items = record { long = all_long items; each = all_at items }
-
 pub whole_row : (sums : List ℕ) (items : List Item) → KeepsSums sums items → sums ≡ all_sums items
 whole_row sums items keeps = ext_get_or 0 sums (all_sums items) (keeps.long ∙ sym (all_long items)) each
   where

@@ -1,20 +1,18 @@
 -- From the case that was read to the value.
-use Rattle.std.proofs.Common.{◌≡◌, ◌≤◌, ℕ, zero, suc, List, [], ◌∷◌, Bool, true, false, Some, None, length, refl, sym, ap, ◌∙◌, true≢false, arith}
-use Rattle.std.specs.Prelude.{◌&&◌, is_some, not}
+use Rattle.std.proofs.Common.{◌≡◌, ◌≤◌, ℕ, zero, suc, List, ◌∷◌, Bool, true, false, Some, None, length, refl, sym, ap, ◌∙◌, true≢false, arith}
+use Rattle.std.specs.Prelude.{◌&&◌, not}
 use Rattle.std.proofs.lemmas.Option.{same_Some}
-use Rattle.serde_json.specs.Data.{Data, Members, object}
-use Rattle.serde_json.specs.Find.{as_object}
+use Rattle.serde_json.specs.Data.{Data}
 use Rattle.sentry_json.specs.Keys.{is_among, are_distinct, StandsAt}
 use Rattle.sentry_json.proofs.Beside.{among}
-use Rattle.sentry_tables.specs.Cell.{Cell, choice, fields, no_cells}
-use Rattle.sentry_tables.specs.Kind.{table, tagged, no_rows, Cases, no_cases, case, words, tag, without}
-use Rattle.sentry_tables.specs.Shows.{Shows, CaseShows, is_object, IsChoice, word_of, members_in}
+use Rattle.sentry_tables.specs.Cell.{Cell, choice}
+use Rattle.sentry_tables.specs.Kind.{tagged, Cases, no_cases, case, words}
+use Rattle.sentry_tables.specs.Shows.{Shows, CaseShows, is_object, IsChoice, word_of}
 use Rattle.sentry_tables.specs.Reading.{Shown, Refused, ShownAt, RefusedAt, Only}
 use Rattle.sentry_tables.specs.declared.error.TreeError.{TreeError}
 use Rattle.sentry_tables.specs.declared.error.TreeError.TheVariants.{Misfit, Memory}
-use Rattle.sentry_rows.proofs.Answering.{shows_table}
 use Rattle.sentry_writing.proofs.Others.{is_key}
-use Rattle.sentry_rows.specs.Cased.{but_tag, case_kind, CaseShown, CaseRefused, CaseShownAt, CaseRefusedAt}
+use Rattle.sentry_rows.specs.Cased.{case_kind, CaseShown, CaseRefused, CaseShownAt, CaseRefusedAt}
 use Rattle.sentry_rows.proofs.TagsShown.{other_words, choice_refused, another_word, another_word_at}
 
 -- ---- by the number of a word
@@ -83,9 +81,6 @@ case_fails cases word n d Memory is at once h = tt
 
 pub unknown_word : (cases : Cases) (word : List ℕ) (d : Data) → word_of None d ≡ Some word → is_among word (words cases) ≡ false → Refused (tagged cases) d
 unknown_word cases word d is none = another_word cases word d is (sym (is_key word (words cases)) ∙ none)
-
-pub rest_shown : (d : Data) (all ms : Members) → object all ≡ d → ms ≡ without (tag ∷ []) all → Shown (table no_rows but_tag) d (fields no_cells ms)
-rest_shown d all ms is rest = shows_table no_rows but_tag d no_cells ms (ap (λ t. is_some (as_object t)) (sym is)) (rest ∙ ap (λ t. without (tag ∷ []) (members_in t)) is) tt
 
 -- ---- at a moment
 

@@ -6,11 +6,9 @@ use Rattle.std.proofs.lemmas.Slice.Eq.{bytes_eq-Decides}
 use Rattle.serde_json.specs.Data.{Data}
 use Rattle.serde_json.specs.Find.{get, as_str}
 use Rattle.sentry_tables.specs.Cell.{Cell, choice}
-use Rattle.sentry_tables.specs.Kind.{table, tagged, Rows, Other, Cases, no_cases, case, keys, others, words, has_key, tag}
+use Rattle.sentry_tables.specs.Kind.{tagged, Rows, Other, Cases, no_cases, case, keys, others, words, has_key, tag}
 use Rattle.sentry_tables.specs.Shows.{RowsShow, CaseShows, AreFields, IsChoice, members_in, word_of}
-use Rattle.sentry_tables.specs.Reading.{Shown, Refused, ShownAt, RefusedAt, Only}
-use Rattle.sentry_tables.specs.declared.error.TreeError.{TreeError}
-use Rattle.sentry_tables.specs.declared.error.TreeError.TheVariants.{Misfit, Memory}
+use Rattle.sentry_tables.specs.Reading.{Refused, RefusedAt}
 
 pub word_there : (d e : Data) → get tag d ≡ Some e → as_str e ≡ word_of None d
 word_there d e is = rw is refl
@@ -122,16 +120,6 @@ no_case_shows (case w rows o cases) d now zero c s = absurd cc
 no_case_shows (case w rows o cases) d now (suc n) c s = no_case_shows cases d now n c s
 
 -- ---- at every moment
-
-pub tag_shown : (cases : Cases) (word : List ℕ) (n : ℕ) (rows : Rows) (o : Other) (d : Data) (c : Cell) → word_of None d ≡ Some word → case_at word cases ≡ at_case n rows o → Shown (table rows o) d c → Shown (tagged cases) d (choice n c)
-unfolding Shown
-tag_shown cases word n rows o d c is at h now = ((h now).0, rw is (case_shows now word d cases n rows o c at (h now).1))
-
-pub tag_fails : (cases : Cases) (word : List ℕ) (n : ℕ) (rows : Rows) (o : Other) (d : Data) (e : TreeError) → word_of None d ≡ Some word → case_at word cases ≡ at_case n rows o → stands_once word cases ≡ true → Only e (Refused (table rows o) d) → Only e (Refused (tagged cases) d)
-unfolding Refused
-tag_fails cases word n rows o d Misfit is at once refused = λ now c s. choice_refused _ c (λ m x t. case_refused now word d cases n rows o m x once at (λ y h. refused now y (s.0, h)) (rw is at t)) s.1
-tag_fails cases word n rows o d Memory is at once refused = tt
-
 pub another_word : (cases : Cases) (word : List ℕ) (d : Data) → word_of None d ≡ Some word → has_key word (words cases) ≡ false → Refused (tagged cases) d
 unfolding Refused
 another_word cases word d is none now c s = choice_refused _ c (λ m x t. other_words now word d cases m x none (rw is at t)) s.1
@@ -141,16 +129,6 @@ unfolding Refused
 no_word cases d is now c s = choice_refused _ c (λ n x t. no_case_shows cases d now n x (rw is at t)) s.1
 
 -- ---- at a moment
-
-pub tag_shown_at : (now : Cell) (cases : Cases) (word : List ℕ) (n : ℕ) (rows : Rows) (o : Other) (d : Data) (c : Cell) → word_of None d ≡ Some word → case_at word cases ≡ at_case n rows o → ShownAt now (table rows o) d c → ShownAt now (tagged cases) d (choice n c)
-unfolding ShownAt
-tag_shown_at now cases word n rows o d c is at h = (h.0, rw is (case_shows now word d cases n rows o c at h.1))
-
-pub tag_fails_at : (now : Cell) (cases : Cases) (word : List ℕ) (n : ℕ) (rows : Rows) (o : Other) (d : Data) (e : TreeError) → word_of None d ≡ Some word → case_at word cases ≡ at_case n rows o → stands_once word cases ≡ true → Only e (RefusedAt now (table rows o) d) → Only e (RefusedAt now (tagged cases) d)
-unfolding RefusedAt
-tag_fails_at now cases word n rows o d Misfit is at once refused = λ c s. choice_refused _ c (λ m x t. case_refused now word d cases n rows o m x once at (λ y h. refused y (s.0, h)) (rw is at t)) s.1
-tag_fails_at now cases word n rows o d Memory is at once refused = tt
-
 pub another_word_at : (now : Cell) (cases : Cases) (word : List ℕ) (d : Data) → word_of None d ≡ Some word → has_key word (words cases) ≡ false → RefusedAt now (tagged cases) d
 unfolding RefusedAt
 another_word_at now cases word d is none c s = choice_refused _ c (λ m x t. other_words now word d cases m x none (rw is at t)) s.1

@@ -222,9 +222,6 @@ pair_laws =
       shown = pair_shown;
     })
 
-pub pair_refuses_null : RefusesNull (scalar pair_scalar)
-pair_refuses_null = reader_refuses_null reads_pair pair_tree IsPair refl
-
 -- ---- trees
 
 -- a stored cell is a tree

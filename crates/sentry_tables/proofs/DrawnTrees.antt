@@ -4,7 +4,7 @@ use Rattle.serde_json.specs.Data.{Data, Items, no_items, item, Members, no_membe
 use Rattle.serde_json.specs.Find.{get, as_array, as_object}
 use Rattle.sentry_tables.specs.Kind.{Rule, must, may, may_null, may_strict, default, always, draw, at_once, Kind, scalar, list, map, values, table, tagged, tagged_map, Rows, no_rows, row, Cases, no_cases, case, words}
 use Rattle.sentry_tables.specs.Shows.{values_in, unless_null, word_at, word_of}
-use Rattle.sentry_tables.specs.Drawn.{IfGiven, EachItem, EachMember, InArray, InObject, RowHolds, NothingDrawn, RowsDrawNothing, CasesDrawNothing, NothingDrawnInText, IsNoDraw, NeverDraws, RowsNeverDraw, CasesNeverDraw}
+use Rattle.sentry_tables.specs.Drawn.{IfGiven, EachItem, EachMember, InArray, InObject, RowHolds, NothingDrawn, RowsDrawNothing, CasesDrawNothing, IsNoDraw, NeverDraws, RowsNeverDraw, CasesNeverDraw}
 
 -- ---- one level: what holds of each tree
 
@@ -62,6 +62,3 @@ mutual
   cases_never : (cases : Cases) → CasesNeverDraw cases → (word : Option (List ℕ)) (d : Data) → CasesDrawNothing cases word d
   cases_never no_cases n word d = tt
   cases_never (case w rows o cases) n word d = (λ e. rows_never rows n.0 d, cases_never cases n.1 word d)
-
-pub never_drawn_in_text : (K : Kind) → NeverDraws K → (line : List ℕ) → NothingDrawnInText K line
-never_drawn_in_text K n line d e = never_drawn K n d

@@ -1,6 +1,5 @@
 pub mod Members
 pub mod Proper
-pub mod Refused
 pub mod Basic
 pub mod Nulls
 pub mod Normal

@@ -1,9 +1,9 @@
 -- Null: what is written as null, and which kinds refuse it.
-use Rattle.std.proofs.Common.{◌≡◌, ℕ, List, true, refl}
+use Rattle.std.proofs.Common.{◌≡◌, true, refl}
 use Rattle.std.proofs.lemmas.Bool.{false≢true}
 use Rattle.serde_json.specs.Data.{Data}
 use Rattle.sentry_tables.specs.Cell.{Cell}
-use Rattle.sentry_tables.specs.Kind.{Other, Kind, scalar, list, map, values, table, tagged, tagged_map, Rows, Cases}
+use Rattle.sentry_tables.specs.Kind.{Other, Kind, scalar, list, map, values, table, tagged, tagged_map, Rows}
 use Rattle.sentry_tables.specs.Shows.{Shows}
 use Rattle.sentry_tables.specs.Norm.{norm, is_null_of}
 use Rattle.sentry_tables.specs.Written.{is_null, tree}
@@ -15,20 +15,8 @@ use Rattle.sentry_tables.specs.Lawful.{RefusesNull, IsLawful}
 pub list_refuses_null : (K : Kind) → RefusesNull (list K)
 list_refuses_null K now c h = h
 
-pub map_refuses_null : (K : Kind) → RefusesNull (map K)
-map_refuses_null K now c h = h
-
-pub values_refuses_null : (K : Kind) → RefusesNull (values K)
-values_refuses_null K now c h = h
-
 pub table_refuses_null : (rows : Rows) (o : Other) → RefusesNull (table rows o)
 table_refuses_null rows o now c h = false≢true h.0
-
-pub tagged_refuses_null : (cases : Cases) → RefusesNull (tagged cases)
-tagged_refuses_null cases now c h = false≢true h.0
-
-pub tagged_map_refuses_null : (cases : Cases) (fallback : List ℕ) → RefusesNull (tagged_map cases fallback)
-tagged_map_refuses_null cases fallback now c h = h
 
 -- ---- values that are null
 

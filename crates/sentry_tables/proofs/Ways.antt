@@ -5,7 +5,7 @@ use Rattle.serde_json.specs.Data.{Data, null, boolean, number, string, array, ob
 use Rattle.serde_json.specs.Find.{as_null}
 use Rattle.sentry_tables.specs.Written.{is_null}
 use Rattle.sentry_tables.specs.Cell.{Cell, Cells, no_cells, cell, Entries, no_entries, entry, sequence, mapping, present, absent}
-use Rattle.sentry_tables.specs.Kind.{Kind, list, map, may, may_null, may_strict}
+use Rattle.sentry_tables.specs.Kind.{Kind, list, map, may, may_strict}
 use Rattle.sentry_tables.specs.Norm.{norm, each_cell, each_entry, is_null_of}
 use Rattle.sentry_tables.specs.Cells.{cells, entries, list_cell, map_cell}
 use Rattle.sentry_tables.specs.Made.{made, row_made, is_normal}
@@ -66,11 +66,6 @@ pub absent_made : (way : Way) (K : Kind) → absent ≡ row_made way may K absen
 unfolding row_made
 absent_made Same K = refl
 absent_made (Normal alloc) K = refl
-
-pub null_or_made : (way : Way) (K : Kind) (c d : Cell) → d ≡ row_made way may K c → d ≡ row_made way may_null K c
-unfolding row_made
-null_or_made Same K c d is = is
-null_or_made (Normal alloc) K c d is = is
 
 pub strict_made : (way : Way) (K : Kind) (c d : Cell) → d ≡ made way K c → present d ≡ row_made way may_strict K (present c)
 unfolding row_made made

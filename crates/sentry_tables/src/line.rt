@@ -10,13 +10,11 @@ ghost use Rattle.sentry_json.specs.TapeView.{node_data};
 ghost use Rattle.sentry_tables.specs.Reading.{Only, LineShows, LineRefused, ReadsText, Shown, Refused};
 
 use crate::error::TreeError;
-use crate::lazy_scratch::LazyScratch;
 use crate::read::FromTree;
 use crate::tree::has_float;
-use json::Scratch;
-use sentry_json::{Line, LineError, Node, Tape, TapeNode};
+use sentry_json::{Node, Tape, TapeNode};
 use serde_json::Value;
-use std::alloc::{AllocError, Global};
+use std::alloc::Global;
 
 /// Returns whether no number in a tree, at any depth, is a float.
 pub fn whole(tree: &Value) -> bool
@@ -68,23 +66,20 @@ pub trait ReadsNode<T>: Drop {
 
 /// A reader of lines of JSON, which keeps its working memory from line to line.
 ///
-/// A line as clients write it is read in one pass onto a tape of its own ([`Tape::parse`]); any
-/// other, such as one with a number of 20 digits, goes the general way, onto the tape of a [`Line`]
-/// or, if a tape doesn't serve ([`LineError::Unfit`]), into a tree.
+/// A line as clients write it is read in one pass onto a tape ([`Tape::parse`]); any other, such as
+/// one with white space between brackets that hold nothing, or damaged, into a tree ([`read_tree`]).
 #[derive(Drop)]
-pub struct LineReader<'s, 'a> {
+pub struct LineReader<'a> {
     alloc: Global,
     tape: Tape<'a>,
-    scratch: &'s mut LazyScratch,
 }
 
-impl<'s, 'a> LineReader<'s, 'a> {
-    /// Creates a reader with the caller's working memory for lines that go the general way.
-    pub fn new(alloc: Global, scratch: &'s mut LazyScratch) -> LineReader<'s, 'a> {
+impl<'a> LineReader<'a> {
+    /// Creates a reader, without allocating yet.
+    pub fn new(alloc: Global) -> LineReader<'a> {
         LineReader {
             alloc,
             tape: Tape::new(alloc),
-            scratch,
         }
     }
 
@@ -94,18 +89,12 @@ impl<'s, 'a> LineReader<'s, 'a> {
         self.alloc
     }
 
-    /// Returns the root node of a line as clients write it; `None` if another way has to serve.
+    /// Returns the root node of a line as clients write it; `None` if it has to be read as a tree.
     #[inline]
     pub fn root(&mut self, line: &'a [u8]) -> Option<TapeNode<'_, 'a>>
         ensures { IfSome result (λ root. tree_of line.now ≡ Some (node_data root)) }
     {
         self.tape.parse(line)
-    }
-
-    /// Returns working memory for lines that go the general way. `AllocError` if it isn't made yet
-    /// and an allocation fails.
-    pub fn scratch(&mut self) -> Result<&mut Scratch, AllocError> {
-        self.scratch.get()
     }
 
     /// Reads a value from a line with `reader`.
@@ -121,7 +110,7 @@ impl<'s, 'a> LineReader<'s, 'a> {
     {
         match self.tape.parse(line) {
             Some(root) => reader.read(self.alloc, &root),
-            None => read_any(self.alloc, line, self.scratch, reader),
+            None => read_as_tree(self.alloc, line, reader),
         }
     }
 
@@ -138,31 +127,7 @@ impl<'s, 'a> LineReader<'s, 'a> {
     }
 }
 
-// Reads any line: onto the tape of a `Line`, or as a tree if a tape doesn't serve. Not inlined: few
-// lines come here.
-#[cold]
-#[inline(never)]
-#[tactic(auto, using(crate::proofs::Texts::line_shows, crate::proofs::Texts::line_refused, crate::proofs::Texts::no_line))]
-fn read_any<T, R: ReadsNode<T>>(
-    alloc: Global,
-    line: &[u8],
-    scratch: &mut LazyScratch,
-    reader: R,
-) -> Result<T, TreeError>
-    ensures ok { IfOk result (λ value. LineShows (λ d. R.shown reader d value) line.now) }
-    ensures err { IfErr result (λ e. Only e (LineRefused (λ d. R.refused reader d) line.now)) }
-{
-    match Line::parse(line, scratch.get()?, Vec::new(alloc)) {
-        Ok(read) => {
-            let root = read.root();
-            reader.read(alloc, &root)
-        }
-        Err(LineError::Misfit) => Err(TreeError::Misfit),
-        Err(LineError::Memory) => Err(TreeError::Memory),
-        Err(LineError::Unfit) => read_as_tree(alloc, line, reader),
-    }
-}
-
+// Reads any line, as a tree. Not inlined: few lines come here.
 #[cold]
 #[inline(never)]
 #[tactic(auto, using(crate::proofs::Texts::line_shows, crate::proofs::Texts::line_refused, crate::proofs::Texts::no_line))]
@@ -200,5 +165,5 @@ impl<T: FromTree> ReadsNode<T> for Plainly {
 pub fn read_line<T: FromTree>(alloc: Global, line: &[u8]) -> Result<T, TreeError>
     ensures { ReadsText T.kind T.cell_of line.now result }
 {
-    LineReader::new(alloc, &mut LazyScratch::new(alloc)).read(line)
+    LineReader::new(alloc).read(line)
 }

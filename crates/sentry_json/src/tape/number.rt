@@ -1,6 +1,7 @@
 //! Integers at the front of a text.
 
-ghost use Rattle.std.specs.Prelude.{◌≡◌, ◌<◌, ◌≤◌, [], IfSome, take, length, get_or};
+ghost use Rattle.std.specs.Prelude.{◌≡◌, ◌+◌, ◌-◌, ◌*◌, ◌^◌, ◌<◌, ◌≤◌, [], IfSome, take, length, get_or};
+ghost use Rattle.std.specs.Char.{IsAsciiDigit};
 ghost use Rattle.std.specs.Str.Parse.{digits_value, IsNumeral};
 ghost use Rattle.sentry_json.specs.Spelled.{Spells};
 
@@ -8,24 +9,38 @@ use crate::tape::rest::Rest;
 use crate::tape::token::Token;
 
 // As many digits always fit 64 bits.
-const MOST: usize = 19;
+const ALWAYS: usize = 19;
 
-// Counts the digits at the front, at most one more than `MOST`, and gives their number. They are at
-// least one, and no zero leads.
+// Puts a digit behind the `len` digits of a number; `None` if 64 bits don't hold the new one.
+#[inline(always)]
+fn with_digit(number: u64, len: usize, digit: u8) -> Option<u64>
+    requires digit { IsAsciiDigit digit }
+    requires below { number < 10 ^ len }
+    ensures value { IfSome result (λ n. n ≡ number * 10 + (digit - 48)) }
+    ensures fits { IfSome result (λ n. n < 2 ^ 64) }
+{
+    let digit = u64::from(digit - b'0');
+    if len < ALWAYS {
+        Some(number * 10 + digit)
+    } else {
+        number.checked_mul(10)?.checked_add(digit)
+    }
+}
+
+// Counts the digits at the front, and gives their number, which fits 64 bits. They are at least one,
+// and no zero leads.
 #[inline(always)]
 fn digits(bytes: &[u8]) -> Option<(u64, usize)>
     ensures numeral { IfSome result (λ x. IsNumeral 10 (take x.1 bytes.now)) }
     ensures value { IfSome result (λ x. x.0 ≡ digits_value 10 (take x.1 bytes.now)) }
-    ensures len { IfSome result (λ x. (x.1 ≤ length bytes.now) × (x.1 ≤ 19)) }
+    ensures fits { IfSome result (λ x. x.0 < 2 ^ 64) }
+    ensures len { IfSome result (λ x. x.1 ≤ length bytes.now) }
     ensures lead { IfSome result (λ x. get_or bytes.now 0 0 ≡ 48 → x.1 ≡ 1) }
 {
     let mut number = 0;
     let mut len = 0;
     while len < bytes.len() && bytes[len].is_ascii_digit() {
-        if len == MOST {
-            return None;
-        }
-        number = number * 10 + u64::from(bytes[len] - b'0');
+        number = with_digit(number, len, bytes[len])?;
         len += 1;
     }
     if len == 0 || (len > 1 && bytes[0] == b'0') {

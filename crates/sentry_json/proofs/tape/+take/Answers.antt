@@ -1,5 +1,4 @@
 use Rattle.std.proofs.Common.{rules, refl, ◌≡◌, ◌++◌, ◌∷◌, [], length, slice_set, if◌then◌else◌, ap, ◌∙◌, arith, append_assoc}
-use Rattle.std.proofs.lemmas.Option.{IfSome_then}
 use Rattle.sentry_json.proofs.SoFar.{bracket, empty, begins, next_key, next_value, ends, set_back, counted, skipped, value_before, string_before}
 use Rattle.sentry_json.proofs.WordsAndTexts.{string_spelled, text_spelled}
 use Rattle.sentry_json.specs.declared.tape.token.Token.TheVariants as token

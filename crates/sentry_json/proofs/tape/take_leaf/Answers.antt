@@ -1,4 +1,3 @@
-use Rattle.std.proofs.Common.{[]}
 use Rattle.std.proofs.lemmas.Option.{IfSome_then}
 use Rattle.sentry_json.proofs.WordsAndTexts.{string_spelled, text_spelled}
 use Rattle.sentry_json.proofs.tape.take_leaf.Goals as goal

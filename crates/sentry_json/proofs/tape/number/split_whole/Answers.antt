@@ -8,5 +8,5 @@ returns-clause-spelled c =
     let d = c.in_ok-number in
     let r = c.in_ok-rest in
     let parts = r.ensures.parts ∙ ap (λ f. f ++ r.rest.text.now) r.ensures.front in
-    let few = rw same at d.ensures.len in
-    whole_spelled c.args.text.text.now r.rest.text.now d.number d.len parts (rw same at d.ensures.numeral) (rw same at d.ensures.value) few.0 few.1 (rw same at d.ensures.lead)
+    let within = rw same at d.ensures.len in
+    whole_spelled c.args.text.text.now r.rest.text.now d.number d.len parts (rw same at d.ensures.numeral) (rw same at d.ensures.value) within d.ensures.fits (rw same at d.ensures.lead)

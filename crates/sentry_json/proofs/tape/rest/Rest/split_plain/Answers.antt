@@ -1,4 +1,3 @@
-use Rattle.std.proofs.Common.{refl}
 use Rattle.sentry_json.proofs.PlainTexts.{plain_quoted}
 use Rattle.sentry_json.proofs.tape.rest.Rest.split_plain.Goals as goal
 

@@ -5,7 +5,7 @@ use Rattle.sentry_envelope.specs.HeaderFields.{headers_cell}
 use Rattle.sentry_moments.specs.Moments.{moment_cell}
 use Rattle.sentry_envelope.specs.SentryProfile.{profile}
 use Rattle.sentry_envelope.proofs.WholeReads.{line_at_fault, body_at_fault, whole_spelled, spelled_stored, spelled_rewritten}
-use Rattle.sentry_envelope.proofs.reader.read_with.Goals as goal
+use Rattle.sentry_envelope.proofs.envelope.Envelope.from_slice.Goals as goal
 
 pub returns-in_err-read_header_line-clause-fault : goal.returns-in_err-read_header_line-clause-fault
 returns-in_err-read_header_line-clause-fault g c =
