@@ -74,15 +74,15 @@ module _ {N : Type 0} (data_of : N → Data) where
   module _ {A : Type 0} (read : Result A TreeError) (v : A) (a b : Reader N) where
     pub kept_value : read ≡ Ok v → Keeps read v a a
     unfolding Keeps
-    kept_value is = (refl, λ none. (none, is), λ e failed. inl failed)
+    kept_value is = (refl, λ none. (none, is), λ e failed. inl failed, λ e first. first)
 
     pub kept_failure : (e : TreeError) → read ≡ Err e → a.failed ≡ None → b.object ≡ a.object → b.failed ≡ Some e → Keeps read v a b
     unfolding Keeps
-    kept_failure e is none tree failed = (tree, λ none. absurd cc, λ x at. inr cc)
+    kept_failure e is none tree failed = (tree, λ none. absurd cc, λ x at. inr cc, λ x first. absurd cc)
 
     pub kept_earlier : (x : TreeError) → a.failed ≡ Some x → Keeps read v a a
     unfolding Keeps
-    kept_earlier x failed = (refl, λ none. absurd cc, λ e at. inl at)
+    kept_earlier x failed = (refl, λ none. absurd cc, λ e at. inl at, λ e first. first)
 
   -- ---- with members of other keys
 

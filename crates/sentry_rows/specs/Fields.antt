@@ -15,10 +15,10 @@ use Rattle.sentry_rows.specs.declared.reader.Reader.{Reader}
 abbrev pub read_of : {N : Type 0} → (N → Data) → Reader N → Data
 read_of data_of r = tree_of data_of r.object
 
--- what was read stands, or its failure is remembered, but for an earlier one
+-- what was read stands, or its failure is remembered; the first failure stays
 unfoldable pub Keeps : {A N : Type 0} → Result A TreeError → A → Reader N → Reader N → Type 0
 Keeps read v a b =
-    (b.object ≡ a.object) × (b.failed ≡ None → (a.failed ≡ None) × (read ≡ Ok v)) × ((e : TreeError) → b.failed ≡ Some e → (a.failed ≡ Some e) ⊎ (read ≡ Err e))
+    (b.object ≡ a.object) × (b.failed ≡ None → (a.failed ≡ None) × (read ≡ Ok v)) × ((e : TreeError) → b.failed ≡ Some e → (a.failed ≡ Some e) ⊎ (read ≡ Err e)) × ((e : TreeError) → a.failed ≡ Some e → b.failed ≡ Some e)
 
 -- the value is answered where nothing has failed, and else what has
 abbrev pub Ends : {A N : Type 0} → Reader N → A → Result A TreeError → Type 0
