@@ -129,8 +129,6 @@ impl Envelope {
     /// - `InvalidItemPayload` if a payload isn't read as its item type.
     ///
     /// `OutOfMemory` if an allocation fails.
-    ///
-    /// To read many envelopes, create one [`crate::EnvelopeReader`].
     #[inline(never)]
     pub fn from_slice<R: Rng>(
         alloc: Global,

@@ -51,8 +51,8 @@ impl<'a> Tape<'a> {
     }
 
     /// Reads a line, in place of the one before, and returns its root node. Its numbers are integers
-    /// of at most 19 digits, and no white space stands between brackets that hold nothing; `None` if
-    /// it isn't such a line, or if an allocation fails.
+    /// of 64 bits above -2^63, and no white space stands between brackets that hold nothing; `None`
+    /// if it isn't such a line, or if an allocation fails.
     pub fn parse(&mut self, line: &'a [u8]) -> Option<TapeNode<'_, 'a>>
         ensures { IfSome result (λ root. tree_of line.now ≡ Some (node_data root)) }
     {

@@ -1,4 +1,4 @@
-use Rattle.std.proofs.Common.{◌<◌, arith}
+use Rattle.std.proofs.Common.{arith}
 use Rattle.sentry_json.proofs.Integers.{room}
 use Rattle.sentry_json.proofs.tape.number.with_digit.Goals as goal
 
