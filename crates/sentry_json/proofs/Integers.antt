@@ -45,12 +45,12 @@ room i n lt below = omega (arith, power_below i 18 (omega arith), below)
 zero_minus : (n : ℕ) → pos 0 -ℤ pos n ≡ neg_ℤ (pos n)
 zero_minus n = omega (arith, ints)
 
-negative_fits : (n : ℕ) → n < 2 ^ 63 → SFits w64 (neg_ℤ (pos n))
-negative_fits zero lt = record { sfits = lt }
-negative_fits (suc n) lt = record { sfits = omega arith }
+pub negative_fits : (n : ℕ) → n ≤ 2 ^ 63 → SFits w64 (neg_ℤ (pos n))
+negative_fits zero le = record { sfits = omega arith }
+negative_fits (suc n) le = record { sfits = omega arith }
 
 pub minus_is : (n : ℕ) → n < 2 ^ 63 → pos 0 -ℤ to_z w64 n ≡ neg_ℤ (pos n)
 minus_is n lt = ap (λ z. pos 0 -ℤ z) (to_z_pos w64 n lt) ∙ zero_minus n
 
 pub minus_fits : (n : ℕ) → n < 2 ^ 63 → SFits w64 (pos 0 -ℤ to_z w64 n)
-minus_fits n lt = subst (SFits w64) (sym (minus_is n lt)) (negative_fits n lt)
+minus_fits n lt = subst (SFits w64) (sym (minus_is n lt)) (negative_fits n (omega arith))

@@ -30,7 +30,7 @@ written text n len numeral is le fits lead =
     sym (ap decimal is ∙ decimal-digits_value (numerals_by_value _ tells_digits) ds numeral.1 numeral.0 one (subst (λ m. m < 2 ^ 64) is fits))
 
 -- with a minus
-minus_spelled : (n : ℕ) (whole rest : List ℕ) (z : ℤ) → whole ≡ 45 ∷ (decimal n ++ rest) → 0 < n → n < 2 ^ 63 → z ≡ neg_ℤ (pos n) → Spells whole rest (variants.Negative z) [] 0
+minus_spelled : (n : ℕ) (whole rest : List ℕ) (z : ℤ) → whole ≡ 45 ∷ (decimal n ++ rest) → 0 < n → n ≤ 2 ^ 63 → z ≡ neg_ℤ (pos n) → Spells whole rest (variants.Negative z) [] 0
 unfolding value_at
 minus_spelled zero whole rest z is some low same = absurd (omega arith)
 minus_spelled (suc k) whole rest z is some low same =
@@ -58,7 +58,7 @@ module _ (text rest : List ℕ) (n len : ℕ) (parts : text ≡ take len text ++
         shallow = omega arith;
       }
 
-  pub negative_spelled : (whole : List ℕ) (z : ℤ) → whole ≡ 45 ∷ text → 0 < n → n < 2 ^ 63 → z ≡ neg_ℤ (pos n) → Spells whole rest (variants.Negative z) [] 0
+  pub negative_spelled : (whole : List ℕ) (z : ℤ) → whole ≡ 45 ∷ text → 0 < n → n ≤ 2 ^ 63 → z ≡ neg_ℤ (pos n) → Spells whole rest (variants.Negative z) [] 0
   negative_spelled whole z front some low same = minus_spelled n whole rest z (front ∙ ap (λ s. 45 ∷ s) by_decimal) some low same
 
 -- ---- strings

@@ -50,9 +50,8 @@ impl<'a> Tape<'a> {
         }
     }
 
-    /// Reads a line, in place of the one before, and returns its root node. Its numbers are integers
-    /// of 64 bits above -2^63, and no white space stands between brackets that hold nothing; `None`
-    /// if it isn't such a line, or if an allocation fails.
+    /// Reads a line, in place of the one before, and returns its root node; `None` if it isn't a line
+    /// of JSON whose numbers are integers of 64 bits, or if an allocation fails.
     pub fn parse(&mut self, line: &'a [u8]) -> Option<TapeNode<'_, 'a>>
         ensures { IfSome result (λ root. tree_of line.now ≡ Some (node_data root)) }
     {
@@ -185,10 +184,11 @@ fn take_inside<'a>(
     let place = tokens.len();
     tokens.push(bracket(object, 0)).ok()?;
     let close = closing(object);
-    if let Some(rest) = text.after(close) {
+    let front = text.skip_space();
+    if let Some(rest) = front.after(close) {
         return Some(rest);
     }
-    let mut left = text;
+    let mut left = front;
     let mut key = object;
     loop {
         if let Some(next) = left.after_space() {

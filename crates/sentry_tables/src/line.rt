@@ -66,8 +66,8 @@ pub trait ReadsNode<T>: Drop {
 
 /// A reader of lines of JSON, which keeps its working memory from line to line.
 ///
-/// A line as clients write it is read in one pass onto a tape ([`Tape::parse`]); any other, such as
-/// one with white space between brackets that hold nothing, or damaged, into a tree ([`read_tree`]).
+/// A line is read in one pass onto a tape ([`Tape::parse`]). One that the tape doesn't take, such as
+/// a damaged one, is read into a tree ([`read_tree`]), which tells what is wrong.
 #[derive(Drop)]
 pub struct LineReader<'a> {
     alloc: Global,
@@ -89,7 +89,7 @@ impl<'a> LineReader<'a> {
         self.alloc
     }
 
-    /// Returns the root node of a line as clients write it; `None` if it has to be read as a tree.
+    /// Returns the root node of a line; `None` if it has to be read as a tree.
     #[inline]
     pub fn root(&mut self, line: &'a [u8]) -> Option<TapeNode<'_, 'a>>
         ensures { IfSome result (λ root. tree_of line.now ≡ Some (node_data root)) }

@@ -1,6 +1,6 @@
 //! Integers at the front of a text.
 
-ghost use Rattle.std.specs.Prelude.{◌≡◌, ◌+◌, ◌-◌, ◌*◌, ◌^◌, ◌<◌, ◌≤◌, [], IfSome, take, length, get_or};
+ghost use Rattle.std.specs.Prelude.{◌≡◌, ◌+◌, ◌-◌, ◌*◌, ◌^◌, ◌<◌, ◌≤◌, [], IfSome, neg_ℤ, pos, take, length, get_or};
 ghost use Rattle.std.specs.Char.{IsAsciiDigit};
 ghost use Rattle.std.specs.Str.Parse.{digits_value, IsNumeral};
 ghost use Rattle.sentry_json.specs.Spelled.{Spells};
@@ -60,6 +60,20 @@ pub(crate) fn split_whole<'a>(text: Rest<'a>) -> Option<(Token<'a>, Rest<'a>)>
     Some((Token::Whole(number), rest))
 }
 
+// Puts a minus before a size; `None` for zero, and if 64 bits don't hold the number.
+fn negative(size: u64) -> Option<i64>
+    ensures value { IfSome result (λ z. z ≡ neg_ℤ (pos size)) }
+    ensures sized { IfSome result (λ z. (0 < size) × (size ≤ 2 ^ 63)) }
+{
+    if size == 0 || size > 1 << 63 {
+        return None;
+    }
+    if size == 1 << 63 {
+        return Some(i64::MIN);
+    }
+    Some(-(size as i64))
+}
+
 // Splits off an integer with a minus; not zero, which is a float.
 #[cold]
 #[inline(never)]
@@ -69,9 +83,7 @@ pub(crate) fn split_negative<'a>(text: Rest<'a>) -> Option<(Token<'a>, Rest<'a>)
 {
     let behind = text.after(b'-')?;
     let (size, len) = digits(behind.bytes())?;
-    if size == 0 || size >= 1 << 63 {
-        return None;
-    }
+    let number = negative(size)?;
     let (_, rest) = behind.split(len)?;
-    Some((Token::Negative(-(size as i64)), rest))
+    Some((Token::Negative(number), rest))
 }

@@ -8,12 +8,14 @@ pub take_inside-returns-in-Some-clause-spelled : goal.take_inside-returns-in-Som
 take_inside-returns-in-Some-clause-spelled t c =
     let pushed : c.push.new.self.items ≡ c.args.tokens.now.items ++ bracket c.args.object 0 ∷ [] = search rules in
     let close = c.in-Some.ensures ∙ ap (λ b. b ∷ c.in-Some.rest.text.now) c.closing-close.ensures in
-    (bracket c.args.object 0, [], pushed, empty c.args.object c.args.text.text.now c.in-Some.rest.text.now c.args.depth close (omega (arith, c.in_ok-depth.ensures)))
+    (bracket c.args.object 0, [], pushed, empty c.args.object c.args.text.text.now c.skip_space-front.result.text.now c.in-Some.rest.text.now c.args.depth c.skip_space-front.ensures.spaced close (omega (arith, c.in_ok-depth.ensures)))
 
 pub take_inside-loop-next-init : goal.take_inside-loop-next-init
 take_inside-loop-next-init t c =
     let pushed : c.push.new.self.items ≡ c.args.tokens.now.items ++ bracket c.args.object 0 ∷ [] = search rules in
-    ([], pushed, begins c.args.object c.args.text.text.now c.in_ok-depth.depth, omega arith)
+    let text = c.args.text.text.now in
+    let front = c.skip_space-front.result.text.now in
+    ([], pushed, skipped c.args.object c.args.object text text front [] c.in_ok-depth.depth c.skip_space-front.ensures.spaced (begins c.args.object text c.in_ok-depth.depth), omega (arith, c.skip_space-front.ensures.within))
 
 pub take_inside-loop-next-preserved-in-Some-after_space : goal.take_inside-loop-next-preserved-in-Some-after_space
 take_inside-loop-next-preserved-in-Some-after_space t c =

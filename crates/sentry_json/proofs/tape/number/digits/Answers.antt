@@ -1,4 +1,4 @@
-use Rattle.std.proofs.Common.{◌<◌, ◌-◌, ◌^◌, subst}
+use Rattle.std.proofs.Common.{◌<◌, ◌^◌, subst}
 use Rattle.sentry_json.proofs.Integers.{one_first}
 use Rattle.sentry_json.proofs.tape.number.digits.Goals as goal
 
