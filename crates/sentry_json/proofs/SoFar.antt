@@ -164,12 +164,12 @@ ends of true text left rest after done first inside most deep not_due so s is ro
 ends of false text left rest after done first inside most deep not_due so s is room =
     closed of text rest after (done ++ (first ∷ inside)) most deep (behind of text left rest done first inside most so s (ap ends_word is ∙ closes_word of after)) is room
 
-pub empty : (of : Bool) (text front after : List ℕ) (deep : ℕ) → IsSpaced text front → front ≡ closes of ∷ after → 0 < deep → Spells (opens of ∷ text) after (bracket of 0) [] deep
+pub empty : (of : Bool) (text front after : List ℕ) (deep : ℕ) → lex between text ≡ lex between front → front ≡ closes of ∷ after → 0 < deep → Spells (opens of ∷ text) after (bracket of 0) [] deep
 unfolding lex items_by members_by
 empty false text front after deep space is room =
-    record { json = array no_items; lexed = λ ended. ap (λ l. token json_token.begin_array ∷ l) (space.lexed ∙ ap (lex between) is); meant = ap Some (sym (value_array 0 [])); closed = refl; shallow = omega (arith, room) }
+    record { json = array no_items; lexed = λ ended. ap (λ l. token json_token.begin_array ∷ l) (space ∙ ap (lex between) is); meant = ap Some (sym (value_array 0 [])); closed = refl; shallow = omega (arith, room) }
 empty true text front after deep space is room =
-    record { json = object no_members; lexed = λ ended. ap (λ l. token json_token.begin_object ∷ l) (space.lexed ∙ ap (lex between) is); meant = ap Some (sym (value_object 0 [])); closed = refl; shallow = omega (arith, room) }
+    record { json = object no_members; lexed = λ ended. ap (λ l. token json_token.begin_object ∷ l) (space ∙ ap (lex between) is); meant = ap Some (sym (value_object 0 [])); closed = refl; shallow = omega (arith, room) }
 
 -- ---- the tokens
 

@@ -3,7 +3,7 @@ use Rattle.std.proofs.Common.{◌≡◌, ℕ, zero, suc, ℤ, pos, negsuc, neg_�
 use Rattle.std.proofs.lemmas.Fmt.{decimal-digits_value}
 use Rattle.std.proofs.lemmas.Str.Parse.{numerals_by_value, tells_digits}
 use Rattle.std.proofs.lemmas.List.{length-take-le, get_or-take}
-use Rattle.std.specs.Str.Parse.{IsNumeral, digits_value}
+use Rattle.sentry_json.specs.Digits.{AreInteger}
 use Rattle.json.specs.Token as json_token
 use Rattle.json.specs.Json as json
 use Rattle.json.specs.Lex.{token, lex, in_word, between, string_token}
@@ -20,14 +20,13 @@ use Rattle.sentry_json.specs.Tokens.{width, text_of, value_of, value_at}
 -- ---- integers
 
 -- digits stand as the number is written
-written : (text : List ℕ) (n len : ℕ) → IsNumeral 10 (take len text) → n ≡ digits_value 10 (take len text) → len ≤ length text → n < 2 ^ 64 → (get_or text 0 0 ≡ 48 → len ≡ 1) → take len text ≡ decimal n
-written text n len numeral is le fits lead =
+written : (text : List ℕ) (n len : ℕ) → AreInteger text n len → take len text ≡ decimal n
+written text n len h =
     let ds = take len text in
-    let size : length ds ≡ len = length-take-le len text le in
-    let some : 0 < len = omega (arith, numeral.0, size) in
-    let first : get_or ds 0 0 ≡ get_or text 0 0 = get_or-take len text 0 0 some in
-    let one : get_or ds 0 0 ≡ 48 → length ds ≡ 1 = λ e. size ∙ lead (sym first ∙ e) in
-    sym (ap decimal is ∙ decimal-digits_value (numerals_by_value _ tells_digits) ds numeral.1 numeral.0 one (subst (λ m. m < 2 ^ 64) is fits))
+    let size : length ds ≡ len = length-take-le len text h.first.within in
+    let first : get_or ds 0 0 ≡ get_or text 0 0 = get_or-take len text 0 0 h.some in
+    let one : get_or ds 0 0 ≡ 48 → length ds ≡ 1 = λ e. size ∙ h.lead (sym first ∙ e) in
+    sym (ap decimal h.first.value ∙ decimal-digits_value (numerals_by_value _ tells_digits) ds h.first.digits (omega (arith, size, h.some)) one (subst (λ m. m < 2 ^ 64) h.first.value h.first.fits))
 
 -- with a minus
 minus_spelled : (n : ℕ) (whole rest : List ℕ) (z : ℤ) → whole ≡ 45 ∷ (decimal n ++ rest) → 0 < n → n ≤ 2 ^ 63 → z ≡ neg_ℤ (pos n) → Spells whole rest (variants.Negative z) [] 0
@@ -43,17 +42,17 @@ minus_spelled (suc k) whole rest z is some low same =
     }
 
 -- the digits that the code counts
-module _ (text rest : List ℕ) (n len : ℕ) (parts : text ≡ take len text ++ rest) (numeral : IsNumeral 10 (take len text)) (is : n ≡ digits_value 10 (take len text)) (le : len ≤ length text) (fits : n < 2 ^ 64) (lead : get_or text 0 0 ≡ 48 → len ≡ 1) where
+module _ (text rest : List ℕ) (n len : ℕ) (parts : text ≡ take len text ++ rest) (h : AreInteger text n len) where
   by_decimal : text ≡ decimal n ++ rest
-  by_decimal = parts ∙ ap (λ ds. ds ++ rest) (written text n len numeral is le fits lead)
+  by_decimal = parts ∙ ap (λ ds. ds ++ rest) (written text n len h)
 
   pub whole_spelled : Spells text rest (variants.Whole n) [] 0
   unfolding value_at
   whole_spelled =
       record {
         json = json.number (decimal n);
-        lexed = λ ended. ap (lex between) by_decimal ∙ lex-number (decimal n) rest (IsNumber-decimal n fits) ended;
-        meant = ap (option_map number) (number_of-decimal n fits);
+        lexed = λ ended. ap (lex between) by_decimal ∙ lex-number (decimal n) rest (IsNumber-decimal n h.first.fits) ended;
+        meant = ap (option_map number) (number_of-decimal n h.first.fits);
         closed = refl;
         shallow = omega arith;
       }

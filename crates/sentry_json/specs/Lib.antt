@@ -3,6 +3,7 @@ pub mod Line
 pub mod Sound
 pub mod Keys
 pub mod Nodes
+pub mod Digits
 pub mod Escaped
 pub mod PlainTexts
 pub mod Spelled

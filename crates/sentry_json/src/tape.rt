@@ -184,11 +184,15 @@ fn take_inside<'a>(
     let place = tokens.len();
     tokens.push(bracket(object, 0)).ok()?;
     let close = closing(object);
-    let front = text.skip_space();
-    if let Some(rest) = front.after(close) {
+    if let Some(rest) = text.after(close) {
         return Some(rest);
     }
-    let mut left = front;
+    if let Some(spaced) = text.after_space() {
+        if let Some(rest) = spaced.skip_space().after(close) {
+            return Some(rest);
+        }
+    }
+    let mut left = text;
     let mut key = object;
     loop {
         if let Some(next) = left.after_space() {

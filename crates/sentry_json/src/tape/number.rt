@@ -1,8 +1,7 @@
 //! Integers at the front of a text.
 
-ghost use Rattle.std.specs.Prelude.{◌≡◌, ◌+◌, ◌-◌, ◌*◌, ◌^◌, ◌<◌, ◌≤◌, [], IfSome, neg_ℤ, pos, take, length, get_or};
-ghost use Rattle.std.specs.Char.{IsAsciiDigit};
-ghost use Rattle.std.specs.Str.Parse.{digits_value, IsNumeral};
+ghost use Rattle.std.specs.Prelude.{◌≡◌, ◌^◌, ◌<◌, ◌≤◌, [], IfSome, neg_ℤ, pos, length};
+ghost use Rattle.sentry_json.specs.Digits.{AreFirst, AreInteger};
 ghost use Rattle.sentry_json.specs.Spelled.{Spells};
 
 use crate::tape::rest::Rest;
@@ -11,42 +10,50 @@ use crate::tape::token::Token;
 // As many digits always fit 64 bits.
 const ALWAYS: usize = 19;
 
-// Puts a digit behind the `len` digits of a number; `None` if 64 bits don't hold the new one.
+// Gives the number of the first digits, which are at least one; no zero leads.
 #[inline(always)]
-fn with_digit(number: u64, len: usize, digit: u8) -> Option<u64>
-    requires digit { IsAsciiDigit digit }
-    requires below { number < 10 ^ len }
-    ensures value { IfSome result (λ n. n ≡ number * 10 + (digit - 48)) }
-    ensures fits { IfSome result (λ n. n < 2 ^ 64) }
+fn integer(bytes: &[u8], number: u64, len: usize) -> Option<(u64, usize)>
+    requires { AreFirst bytes.now number len }
+    ensures { IfSome result (λ x. AreInteger bytes.now x.0 x.1) }
 {
-    let digit = u64::from(digit - b'0');
-    if len < ALWAYS {
-        Some(number * 10 + digit)
-    } else {
-        number.checked_mul(10)?.checked_add(digit)
-    }
-}
-
-// Counts the digits at the front, and gives their number, which fits 64 bits. They are at least one,
-// and no zero leads.
-#[inline(always)]
-fn digits(bytes: &[u8]) -> Option<(u64, usize)>
-    ensures numeral { IfSome result (λ x. IsNumeral 10 (take x.1 bytes.now)) }
-    ensures value { IfSome result (λ x. x.0 ≡ digits_value 10 (take x.1 bytes.now)) }
-    ensures fits { IfSome result (λ x. x.0 < 2 ^ 64) }
-    ensures len { IfSome result (λ x. x.1 ≤ length bytes.now) }
-    ensures lead { IfSome result (λ x. get_or bytes.now 0 0 ≡ 48 → x.1 ≡ 1) }
-{
-    let mut number = 0;
-    let mut len = 0;
-    while len < bytes.len() && bytes[len].is_ascii_digit() {
-        number = with_digit(number, len, bytes[len])?;
-        len += 1;
-    }
     if len == 0 || (len > 1 && bytes[0] == b'0') {
         return None;
     }
     Some((number, len))
+}
+
+// Counts the digits at the front, and gives their number.
+#[inline(always)]
+fn digits(bytes: &[u8]) -> Option<(u64, usize)>
+    ensures { IfSome result (λ x. AreInteger bytes.now x.0 x.1) }
+{
+    let mut number = 0;
+    let mut len = 0;
+    while len < bytes.len() && bytes[len].is_ascii_digit() {
+        if len == ALWAYS {
+            return many_digits(bytes);
+        }
+        number = number * 10 + u64::from(bytes[len] - b'0');
+        len += 1;
+    }
+    integer(bytes, number, len)
+}
+
+// The same of more digits: the number is asked at each whether 64 bits hold it.
+#[cold]
+#[inline(never)]
+fn many_digits(bytes: &[u8]) -> Option<(u64, usize)>
+    ensures { IfSome result (λ x. AreInteger bytes.now x.0 x.1) }
+{
+    let mut number = 0_u64;
+    let mut len = 0;
+    while len < bytes.len() && bytes[len].is_ascii_digit() {
+        number = number
+            .checked_mul(10)?
+            .checked_add(u64::from(bytes[len] - b'0'))?;
+        len += 1;
+    }
+    integer(bytes, number, len)
 }
 
 // Splits off an integer without a sign.

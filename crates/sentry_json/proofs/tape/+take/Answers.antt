@@ -7,21 +7,27 @@ use Rattle.sentry_json.proofs.tape.+take.Goals as goal
 pub take_inside-returns-in-Some-clause-spelled : goal.take_inside-returns-in-Some-clause-spelled
 take_inside-returns-in-Some-clause-spelled t c =
     let pushed : c.push.new.self.items ≡ c.args.tokens.now.items ++ bracket c.args.object 0 ∷ [] = search rules in
+    let text = c.args.text.text.now in
     let close = c.in-Some.ensures ∙ ap (λ b. b ∷ c.in-Some.rest.text.now) c.closing-close.ensures in
-    (bracket c.args.object 0, [], pushed, empty c.args.object c.args.text.text.now c.skip_space-front.result.text.now c.in-Some.rest.text.now c.args.depth c.skip_space-front.ensures.spaced close (omega (arith, c.in_ok-depth.ensures)))
+    (bracket c.args.object 0, [], pushed, empty c.args.object text text c.in-Some.rest.text.now c.args.depth refl close (omega (arith, c.in_ok-depth.ensures)))
+
+pub take_inside-returns-in-Some-after-clause-spelled : goal.take_inside-returns-in-Some-after-clause-spelled
+take_inside-returns-in-Some-after-clause-spelled t c =
+    let pushed : c.push.new.self.items ≡ c.args.tokens.now.items ++ bracket c.args.object 0 ∷ [] = search rules in
+    let space = c.in-Some-after_space.ensures.spaced.lexed ∙ c.skip_space.ensures.spaced.lexed in
+    let close = c.in-Some-after.ensures ∙ ap (λ b. b ∷ c.in-Some-after.rest.text.now) c.closing-close.ensures in
+    (bracket c.args.object 0, [], pushed, empty c.args.object c.args.text.text.now c.skip_space.result.text.now c.in-Some-after.rest.text.now c.args.depth space close (omega (arith, c.in_ok-depth.ensures)))
 
 pub take_inside-loop-next-init : goal.take_inside-loop-next-init
 take_inside-loop-next-init t c =
     let pushed : c.push.new.self.items ≡ c.args.tokens.now.items ++ bracket c.args.object 0 ∷ [] = search rules in
-    let text = c.args.text.text.now in
-    let front = c.skip_space-front.result.text.now in
-    ([], pushed, skipped c.args.object c.args.object text text front [] c.in_ok-depth.depth c.skip_space-front.ensures.spaced (begins c.args.object text c.in_ok-depth.depth), omega (arith, c.skip_space-front.ensures.within))
+    ([], pushed, begins c.args.object c.args.text.text.now c.in_ok-depth.depth, omega arith)
 
-pub take_inside-loop-next-preserved-in-Some-after_space : goal.take_inside-loop-next-preserved-in-Some-after_space
-take_inside-loop-next-preserved-in-Some-after_space t c =
+pub take_inside-loop-next-preserved-in-Some-after_space-2 : goal.take_inside-loop-next-preserved-in-Some-after_space-2
+take_inside-loop-next-preserved-in-Some-after_space-2 t c =
     let l = c.loop-next in
     let i = l.invariant in
-    let space = c.in-Some-after_space in
+    let space = c.in-Some-after_space-2 in
     let next = space.next.text.now in
     let front = c.skip_space-left.result.text.now in (
       i.0,

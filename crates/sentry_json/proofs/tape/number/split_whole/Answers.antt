@@ -4,9 +4,7 @@ use Rattle.sentry_json.proofs.tape.number.split_whole.Goals as goal
 
 pub returns-clause-spelled : goal.returns-clause-spelled
 returns-clause-spelled c =
-    let same = c.bytes.ensures in
     let d = c.in_ok-number in
     let r = c.in_ok-rest in
     let parts = r.ensures.parts ∙ ap (λ f. f ++ r.rest.text.now) r.ensures.front in
-    let within = rw same at d.ensures.len in
-    whole_spelled c.args.text.text.now r.rest.text.now d.number d.len parts (rw same at d.ensures.numeral) (rw same at d.ensures.value) within d.ensures.fits (rw same at d.ensures.lead)
+    whole_spelled c.args.text.text.now r.rest.text.now d.number d.len parts (rw c.bytes.ensures at d.ensures)
