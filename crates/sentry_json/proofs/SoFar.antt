@@ -1,5 +1,5 @@
 -- The items of an array and the members of an object, one after the other: whatever the rest has, the whole has those so far and then these.
-use Rattle.std.proofs.Common.{◌≡◌, ◌≤◌, ◌<◌, ◌-◌, ℕ, List, [], ◌∷◌, ◌++◌, length, slice_set, if◌then◌else◌, true, false, true≢false, Bool, subst, Some, option_map, option_and_then, refl, sym, ap, ap₂, ◌∙◌, arith, append_assoc, append-nil, length-append, drop, take_at}
+use Rattle.std.proofs.Common.{◌≡◌, ◌≤◌, ◌<◌, ◌+◌, ◌-◌, ℕ, List, [], ◌∷◌, ◌++◌, length, slice_set, if◌then◌else◌, true, false, true≢false, Bool, subst, Some, option_map, option_and_then, refl, sym, ap, ap₂, ◌∙◌, arith, append_assoc, append-nil, length-append, drop, take_at}
 use Rattle.std.proofs.lemmas.List.{drop_at}
 use Rattle.json.specs.Token as json_token
 use Rattle.json.specs.Json.{Json, array, object, Items, no_items, item, Members, no_members, member}
@@ -183,6 +183,14 @@ set_back all old done place t u is at = ap₂ (λ ts n. slice_set ts n u) is at 
 
 pub counted : (all old done : List Token) (len place : ℕ) (t : Token) → all ≡ old ++ t ∷ done → len ≡ length all → place ≡ length old → len - place - 1 ≡ length done
 counted all old done len place t is long at = omega (arith, long, at, ap length is, length-append old (t ∷ done))
+
+pub some_done : (done : List Token) (t : Token) (ts : List Token) → length (done ++ t ∷ ts) ≡ 0 → ⊥
+some_done [] t ts e = absurd cc
+some_done (d ∷ ds) t ts e = absurd cc
+
+pub nothing_done : (all old done : List Token) (len place : ℕ) (t : Token) → all ≡ old ++ t ∷ done → len ≡ length all → place ≡ length old → len ≡ place + 1 → done ≡ []
+nothing_done all old [] len place t is long at one = refl
+nothing_done all old (d ∷ ds) len place t is long at one = absurd (omega (arith, long, at, one, ap length is, length-append old (t ∷ d ∷ ds)))
 
 -- ---- white space before what was read, and behind it
 

@@ -87,7 +87,7 @@ fn take_escaped<'a>(
     Some(rest)
 }
 
-// The same of a word or an integer with a minus.
+// The same of a word, an integer with a minus or one of many digits.
 #[inline(always)]
 fn take_scalar<'a>(text: Rest<'a>, tokens: &mut Vec<Token<'a>>) -> Option<Rest<'a>>
     ensures spelled { IfSome result (λ rest. (token : Token)
@@ -187,16 +187,16 @@ fn take_inside<'a>(
     if let Some(rest) = text.after(close) {
         return Some(rest);
     }
-    if let Some(spaced) = text.after_space() {
-        if let Some(rest) = spaced.skip_space().after(close) {
-            return Some(rest);
-        }
-    }
     let mut left = text;
     let mut key = object;
     loop {
         if let Some(next) = left.after_space() {
             left = next.skip_space();
+            if tokens.len() == place + 1 {
+                if let Some(rest) = left.after(close) {
+                    return Some(rest);
+                }
+            }
             continue;
         }
         let rest = take_value(alloc, left, key, depth, tokens)?;

@@ -22,7 +22,7 @@ fn integer(bytes: &[u8], number: u64, len: usize) -> Option<(u64, usize)>
     Some((number, len))
 }
 
-// Counts the digits at the front, and gives their number.
+// Counts the digits at the front, at most `ALWAYS`, and gives their number.
 #[inline(always)]
 fn digits(bytes: &[u8]) -> Option<(u64, usize)>
     ensures { IfSome result (λ x. AreInteger bytes.now x.0 x.1) }
@@ -31,7 +31,7 @@ fn digits(bytes: &[u8]) -> Option<(u64, usize)>
     let mut len = 0;
     while len < bytes.len() && bytes[len].is_ascii_digit() {
         if len == ALWAYS {
-            return many_digits(bytes);
+            return None;
         }
         number = number * 10 + u64::from(bytes[len] - b'0');
         len += 1;
@@ -39,9 +39,7 @@ fn digits(bytes: &[u8]) -> Option<(u64, usize)>
     integer(bytes, number, len)
 }
 
-// The same of more digits: the number is asked at each whether 64 bits hold it.
-#[cold]
-#[inline(never)]
+// The same of any number of digits: at each it is asked whether 64 bits hold the number.
 fn many_digits(bytes: &[u8]) -> Option<(u64, usize)>
     ensures { IfSome result (λ x. AreInteger bytes.now x.0 x.1) }
 {
@@ -56,13 +54,25 @@ fn many_digits(bytes: &[u8]) -> Option<(u64, usize)>
     integer(bytes, number, len)
 }
 
-// Splits off an integer without a sign.
+// Splits off an integer without a sign, of at most `ALWAYS` digits.
 #[inline(always)]
 pub(crate) fn split_whole<'a>(text: Rest<'a>) -> Option<(Token<'a>, Rest<'a>)>
     ensures spelled { IfSome result (λ x. Spells text.entry.text.now x.1.text.now x.0 [] 0) }
     ensures shorter { IfSome result (λ x. length x.1.text.now < length text.entry.text.now) }
 {
     let (number, len) = digits(text.bytes())?;
+    let (_, rest) = text.split(len)?;
+    Some((Token::Whole(number), rest))
+}
+
+// The same of any number of digits: few have more.
+#[cold]
+#[inline(never)]
+pub(crate) fn split_many<'a>(text: Rest<'a>) -> Option<(Token<'a>, Rest<'a>)>
+    ensures spelled { IfSome result (λ x. Spells text.entry.text.now x.1.text.now x.0 [] 0) }
+    ensures shorter { IfSome result (λ x. length x.1.text.now < length text.entry.text.now) }
+{
+    let (number, len) = many_digits(text.bytes())?;
     let (_, rest) = text.split(len)?;
     Some((Token::Whole(number), rest))
 }
@@ -89,7 +99,7 @@ pub(crate) fn split_negative<'a>(text: Rest<'a>) -> Option<(Token<'a>, Rest<'a>)
     ensures shorter { IfSome result (λ x. length x.1.text.now < length text.entry.text.now) }
 {
     let behind = text.after(b'-')?;
-    let (size, len) = digits(behind.bytes())?;
+    let (size, len) = many_digits(behind.bytes())?;
     let number = negative(size)?;
     let (_, rest) = behind.split(len)?;
     Some((Token::Negative(number), rest))

@@ -1,13 +1,13 @@
-//! Words and integers with a minus, at the front of a text.
+//! Words and rarer integers, at the front of a text.
 
 ghost use Rattle.std.specs.Prelude.{◌<◌, [], IfSome, length};
 ghost use Rattle.sentry_json.specs.Spelled.{Spells};
 
-use crate::tape::number::split_negative;
+use crate::tape::number::{split_many, split_negative};
 use crate::tape::rest::Rest;
 use crate::tape::token::Token;
 
-// Splits off a word or an integer with a minus.
+// Splits off a word, an integer with a minus or one of many digits.
 #[inline(always)]
 pub(crate) fn split_scalar<'a>(text: Rest<'a>) -> Option<(Token<'a>, Rest<'a>)>
     ensures spelled { IfSome result (λ x. Spells text.entry.text.now x.1.text.now x.0 [] 0) }
@@ -18,6 +18,6 @@ pub(crate) fn split_scalar<'a>(text: Rest<'a>) -> Option<(Token<'a>, Rest<'a>)>
         b't' => Some((Token::Bool(true), text.after_word("true")?)),
         b'f' => Some((Token::Bool(false), text.after_word("false")?)),
         b'-' => split_negative(text),
-        _ => None,
+        _ => split_many(text),
     }
 }
