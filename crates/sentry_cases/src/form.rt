@@ -126,7 +126,7 @@ fn by_tree_as<F: ReadCodec<T>, T: Drop>(alloc: Global, line: &[u8]) -> Result<T,
 }
 
 /// What the value that a line shows in a form writes. The line is read as a tree of values and,
-/// where it has one, as a tape, and both have to give the same answer.
+/// where the tape takes it, onto a tape; both have to give the same answer.
 pub fn form<F: ReadCodec<T>, T: Drop>(alloc: Global, line: &[u8]) -> Result<Value, AllocError> {
     let told = answered::<F, T>(alloc, &by_tree_as::<F, T>(alloc, line))?;
     beside_tape::<F, T>(alloc, line, told)
@@ -277,8 +277,8 @@ pub fn debugged<T: Debug + Drop>(
     }
 }
 
-/// Whether a line has a tape, with the tree that a reader of trees reads; else who reads it: that
-/// reader alone, or neither.
+/// `true` if the tape takes a line and has the tree that `read_tree` gives, `two answers` if it has
+/// another; `by tree` if `read_tree` alone takes the line, else its error behind `!`.
 pub fn of_tape(alloc: Global, line: &[u8]) -> Result<Value, AllocError> {
     let mut tape = Tape::new(alloc);
     let Some(root) = tape.parse(line) else {
