@@ -1,5 +1,5 @@
 -- What holds of each piece of a compact text, and of two texts one after another, holds of the whole.
-use Rattle.std.proofs.Common.{ℕ, suc, ◌<◌, ◌≤◌, pos, negsuc, List, [], ◌∷◌, ◌++◌, length, get_or, Bool, true, false, arith, IsUtf8}
+use Rattle.std.proofs.Common.{ℕ, ◌<◌, ◌≤◌, pos, negsuc, List, [], ◌∷◌, ◌++◌, Bool, true, false, arith, IsUtf8}
 use Rattle.std.proofs.lemmas.Fmt.{IsAscii-decimal, IsAscii-signed}
 use Rattle.std.proofs.lemmas.Str.{IsUtf8-append, IsUtf8-nil, IsUtf8-from_ascii}
 use Rattle.json.specs.Token.{Token}
@@ -26,10 +26,6 @@ module _ (P : List ℕ → Type 0) (o : OfPieces P) where
   comma : (b : Bool) → P (comma_if b)
   comma true = o.mark 44 (omega arith) (omega arith)
   comma false = o.nothing
-
-  letters : (xs : List ℕ) → ((i : ℕ) → i < length xs → (44 ≤ get_or xs i 0) × (get_or xs i 0 < 128)) → P xs
-  letters [] h = o.nothing
-  letters (x ∷ xs) h = let first = h 0 (omega arith) in then_mark x first.0 first.1 xs (letters xs (λ i l. h (suc i) (omega arith)))
 
   word : (b : Bool) → P (token_text (Token.boolean b))
   word true = then_mark 116 (omega arith) (omega arith) _ (then_mark 114 (omega arith) (omega arith) _ (then_mark 117 (omega arith) (omega arith) _ (o.mark 101 (omega arith) (omega arith))))

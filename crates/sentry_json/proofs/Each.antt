@@ -50,7 +50,6 @@ pub place_within : {A C : Type 0} (f : A → C) (g : Bor (List ℕ) → C) (keys
     → map f places ≡ map g keys → StandsAt k i (names_of keys) → i < length places
 place_within f g keys places k i h at = rw (same_length f g places keys h, ← length-map keys (λ key. key.now)) (stands_within k i (names_of keys) at)
 
--- ---- what stands at the keys of a tree
 -- ---- keys that are looked up one after the other
 
 -- what g gives for the first n keys, and none for those after them

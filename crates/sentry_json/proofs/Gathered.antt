@@ -100,5 +100,3 @@ named_sorted f ms new m done e more sorted made named seen h = ap (named_by f) m
 pub items_viewed : (vs : List Value) → items_before view vs no_items ≡ items_view vs
 items_viewed [] = refl
 items_viewed (v ∷ vs) = ap (item (view v)) (items_viewed vs)
-
--- ---- whole numbers

@@ -10,12 +10,12 @@ use Rattle.std.specs.Str.Parse.{digits_value}
 use Rattle.sentry_json.specs.Digits.{AreFirst}
 use Rattle.std.proofs.lemmas.List.{length-take-le}
 
-digit_is : (c : ℕ) → IsAsciiDigit c → digit_value c ≡ c - 48
-digit_is c h = grind (arith, nat_tests)
+pub value_of_digit : (c : ℕ) → IsAsciiDigit c → digit_value c ≡ c - 48
+value_of_digit c h = grind (arith, nat_tests)
 
 pub one_first : (bytes : List ℕ) (i n : ℕ) → i < length bytes → IsAsciiDigit (get_or bytes i 0) → n * 10 + (get_or bytes i 0 - 48) < 2 ^ 64 → AreFirst bytes n i → AreFirst bytes (n * 10 + (get_or bytes i 0 - 48)) (i + 1)
 one_first bytes i n lt digit fits h =
-    let value = digit_is (get_or bytes i 0) digit in
+    let value = value_of_digit (get_or bytes i 0) digit in
     record {
       digits = digits_more 10 bytes i lt h.digits (omega (arith, value, digit));
       value = ap (λ m. m * 10 + (get_or bytes i 0 - 48)) h.value ∙ ap (λ d. digits_value 10 (take i bytes) * 10 + d) (sym value) ∙ sym (digits_value_more 10 bytes i lt);
@@ -23,7 +23,7 @@ one_first bytes i n lt digit fits h =
       within = omega arith;
     }
 
-power_below : (i j : ℕ) → i ≤ j → 10 ^ i ≤ 10 ^ j
+pub power_below : (i j : ℕ) → i ≤ j → 10 ^ i ≤ 10 ^ j
 power_below i j h = pow-le-pow_right {n = 10} (omega arith) h
 
 -- up to 19 digits, one more fits 64 bits
