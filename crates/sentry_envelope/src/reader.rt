@@ -15,8 +15,8 @@ use std::alloc::Global;
 
 /// A reader of one envelope after the other, each as [`Envelope::from_slice`] reads it.
 ///
-/// It keeps the allocator alone: the working memory of an envelope borrows the envelope's bytes, and
-/// is given back with them.
+/// It keeps the allocator alone: the working memory of a call borrows the envelope's bytes, and is
+/// given back when the call ends.
 #[derive(Drop)]
 pub struct EnvelopeReader {
     alloc: Global,

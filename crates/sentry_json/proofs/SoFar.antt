@@ -1,5 +1,5 @@
 -- The items of an array and the members of an object, one after the other: whatever the rest has, the whole has those so far and then these.
-use Rattle.std.proofs.Common.{◌≡◌, ◌≤◌, ◌<◌, ◌+◌, ◌-◌, ℕ, List, [], ◌∷◌, ◌++◌, length, slice_set, if◌then◌else◌, true, false, true≢false, Bool, subst, Some, option_map, option_and_then, refl, sym, ap, ap₂, ◌∙◌, arith, append_assoc, append-nil, length-append, drop, take_at}
+use Rattle.std.proofs.Common.{◌≡◌, ◌≤◌, ◌<◌, ◌-◌, ℕ, List, [], ◌∷◌, ◌++◌, length, slice_set, if◌then◌else◌, true, false, true≢false, Bool, subst, Some, option_map, option_and_then, refl, sym, ap, ap₂, ◌∙◌, arith, append_assoc, append-nil, length-append, drop, take_at}
 use Rattle.std.proofs.lemmas.List.{drop_at}
 use Rattle.json.specs.Token as json_token
 use Rattle.json.specs.Json.{Json, array, object, Items, no_items, item, Members, no_members, member}
@@ -164,12 +164,12 @@ ends of true text left rest after done first inside most deep not_due so s is ro
 ends of false text left rest after done first inside most deep not_due so s is room =
     closed of text rest after (done ++ (first ∷ inside)) most deep (behind of text left rest done first inside most so s (ap ends_word is ∙ closes_word of after)) is room
 
-pub empty : (of : Bool) (text front after : List ℕ) (deep : ℕ) → lex between text ≡ lex between front → front ≡ closes of ∷ after → 0 < deep → Spells (opens of ∷ text) after (bracket of 0) [] deep
+pub empty : (of : Bool) (text after : List ℕ) (deep : ℕ) → text ≡ closes of ∷ after → 0 < deep → Spells (opens of ∷ text) after (bracket of 0) [] deep
 unfolding lex items_by members_by
-empty false text front after deep space is room =
-    record { json = array no_items; lexed = λ ended. ap (λ l. token json_token.begin_array ∷ l) (space ∙ ap (lex between) is); meant = ap Some (sym (value_array 0 [])); closed = refl; shallow = omega (arith, room) }
-empty true text front after deep space is room =
-    record { json = object no_members; lexed = λ ended. ap (λ l. token json_token.begin_object ∷ l) (space ∙ ap (lex between) is); meant = ap Some (sym (value_object 0 [])); closed = refl; shallow = omega (arith, room) }
+empty false text after deep is room =
+    record { json = array no_items; lexed = λ ended. ap (λ t. token json_token.begin_array ∷ lex between t) is; meant = ap Some (sym (value_array 0 [])); closed = refl; shallow = omega (arith, room) }
+empty true text after deep is room =
+    record { json = object no_members; lexed = λ ended. ap (λ t. token json_token.begin_object ∷ lex between t) is; meant = ap Some (sym (value_object 0 [])); closed = refl; shallow = omega (arith, room) }
 
 -- ---- the tokens
 
@@ -183,14 +183,6 @@ set_back all old done place t u is at = ap₂ (λ ts n. slice_set ts n u) is at 
 
 pub counted : (all old done : List Token) (len place : ℕ) (t : Token) → all ≡ old ++ t ∷ done → len ≡ length all → place ≡ length old → len - place - 1 ≡ length done
 counted all old done len place t is long at = omega (arith, long, at, ap length is, length-append old (t ∷ done))
-
-pub some_done : (done : List Token) (t : Token) (ts : List Token) → length (done ++ t ∷ ts) ≡ 0 → ⊥
-some_done [] t ts e = absurd cc
-some_done (d ∷ ds) t ts e = absurd cc
-
-pub nothing_done : (all old done : List Token) (len place : ℕ) (t : Token) → all ≡ old ++ t ∷ done → len ≡ length all → place ≡ length old → len ≡ place + 1 → done ≡ []
-nothing_done all old [] len place t is long at one = refl
-nothing_done all old (d ∷ ds) len place t is long at one = absurd (omega (arith, long, at, one, ap length is, length-append old (t ∷ d ∷ ds)))
 
 -- ---- white space before what was read, and behind it
 

@@ -12,7 +12,7 @@ use crate::object::Named;
 use serde_json::{Number, Value};
 use std::alloc::{AllocError, Global};
 
-/// A node of a JSON tree, which a [`Value`] or the tape of a [`Line`](crate::Line) holds.
+/// A node of a JSON tree, which a [`Value`] or a [`Tape`](crate::Tape) holds.
 pub trait Node: Sized + Drop {
     // the tree at the node
     ghost data_of: { Self → Data };

@@ -1,5 +1,4 @@
-//! A tape of our own for lines of JSON: one pass over the text, a token for each value and each
-//! key.
+//! A tape of a line of JSON: one pass over the text, a token for each value and each key.
 
 mod escape;
 mod node;
@@ -50,8 +49,11 @@ impl<'a> Tape<'a> {
         }
     }
 
-    /// Reads a line, in place of the one before, and returns its root node; `None` if it isn't a line
-    /// of JSON whose numbers are integers of 64 bits, or if an allocation fails.
+    /// Reads a line, in place of the one before, and returns its root node.
+    ///
+    /// The line is JSON by RFC 8259, nested at most 127 deep. Its numbers are integers of 64 bits, in
+    /// digits alone and other than `-0`; no white space stands between brackets that hold nothing.
+    /// `None` if it isn't such a line, or if an allocation fails.
     pub fn parse(&mut self, line: &'a [u8]) -> Option<TapeNode<'_, 'a>>
         ensures { IfSome result (λ root. tree_of line.now ≡ Some (node_data root)) }
     {
@@ -192,11 +194,6 @@ fn take_inside<'a>(
     loop {
         if let Some(next) = left.after_space() {
             left = next.skip_space();
-            if tokens.len() == place + 1 {
-                if let Some(rest) = left.after(close) {
-                    return Some(rest);
-                }
-            }
             continue;
         }
         let rest = take_value(alloc, left, key, depth, tokens)?;

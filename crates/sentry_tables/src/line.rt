@@ -67,7 +67,7 @@ pub trait ReadsNode<T>: Drop {
 /// A reader of lines of JSON, which keeps its working memory from line to line.
 ///
 /// A line is read in one pass onto a tape ([`Tape::parse`]). One that the tape doesn't take, such as
-/// a damaged one, is read into a tree ([`read_tree`]), which tells what is wrong.
+/// a damaged one, is read into a tree, and [`read_tree`] decides whether it is taken.
 #[derive(Drop)]
 pub struct LineReader<'a> {
     alloc: Global,

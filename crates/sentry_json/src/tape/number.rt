@@ -7,10 +7,11 @@ ghost use Rattle.sentry_json.specs.Spelled.{Spells};
 use crate::tape::rest::Rest;
 use crate::tape::token::Token;
 
-// As many digits always fit 64 bits.
+// The number of so many digits always fits 64 bits.
 const ALWAYS: usize = 19;
 
-// Gives the number of the first digits, which are at least one; no zero leads.
+// Returns the number of the first digits and their count; `None` if there are none, or if a zero
+// leads.
 #[inline(always)]
 fn integer(bytes: &[u8], number: u64, len: usize) -> Option<(u64, usize)>
     requires { AreFirst bytes.now number len }
@@ -22,7 +23,8 @@ fn integer(bytes: &[u8], number: u64, len: usize) -> Option<(u64, usize)>
     Some((number, len))
 }
 
-// Counts the digits at the front, at most `ALWAYS`, and gives their number.
+// Returns the number of the digits at the front and their count; `None` if they are more than
+// `ALWAYS`.
 #[inline(always)]
 fn digits(bytes: &[u8]) -> Option<(u64, usize)>
     ensures { IfSome result (λ x. AreInteger bytes.now x.0 x.1) }
@@ -39,7 +41,7 @@ fn digits(bytes: &[u8]) -> Option<(u64, usize)>
     integer(bytes, number, len)
 }
 
-// The same of any number of digits: at each it is asked whether 64 bits hold the number.
+// The same of more digits, as long as 64 bits hold their number, which is asked at each.
 fn many_digits(bytes: &[u8]) -> Option<(u64, usize)>
     ensures { IfSome result (λ x. AreInteger bytes.now x.0 x.1) }
 {
@@ -54,6 +56,17 @@ fn many_digits(bytes: &[u8]) -> Option<(u64, usize)>
     integer(bytes, number, len)
 }
 
+// Splits off an integer without a sign, of this number and so many digits.
+#[inline(always)]
+fn split_digits<'a>(text: Rest<'a>, number: u64, len: usize) -> Option<(Token<'a>, Rest<'a>)>
+    requires { AreInteger text.text.now number len }
+    ensures spelled { IfSome result (λ x. Spells text.entry.text.now x.1.text.now x.0 [] 0) }
+    ensures shorter { IfSome result (λ x. length x.1.text.now < length text.entry.text.now) }
+{
+    let (_, rest) = text.split(len)?;
+    Some((Token::Whole(number), rest))
+}
+
 // Splits off an integer without a sign, of at most `ALWAYS` digits.
 #[inline(always)]
 pub(crate) fn split_whole<'a>(text: Rest<'a>) -> Option<(Token<'a>, Rest<'a>)>
@@ -61,11 +74,10 @@ pub(crate) fn split_whole<'a>(text: Rest<'a>) -> Option<(Token<'a>, Rest<'a>)>
     ensures shorter { IfSome result (λ x. length x.1.text.now < length text.entry.text.now) }
 {
     let (number, len) = digits(text.bytes())?;
-    let (_, rest) = text.split(len)?;
-    Some((Token::Whole(number), rest))
+    split_digits(text, number, len)
 }
 
-// The same of any number of digits: few have more.
+// The same of more digits, which few integers have.
 #[cold]
 #[inline(never)]
 pub(crate) fn split_many<'a>(text: Rest<'a>) -> Option<(Token<'a>, Rest<'a>)>
@@ -73,8 +85,7 @@ pub(crate) fn split_many<'a>(text: Rest<'a>) -> Option<(Token<'a>, Rest<'a>)>
     ensures shorter { IfSome result (λ x. length x.1.text.now < length text.entry.text.now) }
 {
     let (number, len) = many_digits(text.bytes())?;
-    let (_, rest) = text.split(len)?;
-    Some((Token::Whole(number), rest))
+    split_digits(text, number, len)
 }
 
 // Puts a minus before a size; `None` for zero, and if 64 bits don't hold the number.

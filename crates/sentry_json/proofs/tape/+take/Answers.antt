@@ -1,5 +1,5 @@
 use Rattle.std.proofs.Common.{rules, refl, ◌≡◌, ◌++◌, ◌∷◌, [], length, slice_set, if◌then◌else◌, ap, ◌∙◌, arith, append_assoc}
-use Rattle.sentry_json.proofs.SoFar.{bracket, empty, nothing_done, some_done, begins, next_key, next_value, ends, set_back, counted, skipped, value_before, string_before}
+use Rattle.sentry_json.proofs.SoFar.{bracket, empty, begins, next_key, next_value, ends, set_back, counted, skipped, value_before, string_before}
 use Rattle.sentry_json.proofs.WordsAndTexts.{string_spelled, text_spelled}
 use Rattle.sentry_json.specs.declared.tape.token.Token.TheVariants as token
 use Rattle.sentry_json.proofs.tape.+take.Goals as goal
@@ -7,28 +7,16 @@ use Rattle.sentry_json.proofs.tape.+take.Goals as goal
 pub take_inside-returns-in-Some-clause-spelled : goal.take_inside-returns-in-Some-clause-spelled
 take_inside-returns-in-Some-clause-spelled t c =
     let pushed : c.push.new.self.items ≡ c.args.tokens.now.items ++ bracket c.args.object 0 ∷ [] = search rules in
-    let text = c.args.text.text.now in
     let close = c.in-Some.ensures ∙ ap (λ b. b ∷ c.in-Some.rest.text.now) c.closing-close.ensures in
-    (bracket c.args.object 0, [], pushed, empty c.args.object text text c.in-Some.rest.text.now c.args.depth refl close (omega (arith, c.in_ok-depth.ensures)))
-
-pub take_inside-returns-in-Some-after-clause-spelled : goal.take_inside-returns-in-Some-after-clause-spelled
-take_inside-returns-in-Some-after-clause-spelled t c =
-    let i = c.loop-next.invariant in
-    let old = c.args.tokens.now.items in
-    let place : c.len-place.result ≡ length old = search rules in
-    let none = nothing_done c.loop-next.tokens.items old i.0 c.len.result c.len-place.result (bracket c.args.object 0) i.1 (search rules) place c.if-len-place.true in
-    let pushed = i.1 ∙ ap (λ ts. old ++ bracket c.args.object 0 ∷ ts) none in
-    let space = i.4 (ap length none) ∙ c.in-Some-after_space.ensures.spaced.lexed ∙ c.skip_space-left.ensures.spaced.lexed in
-    let close = c.in-Some-after.ensures ∙ ap (λ b. b ∷ c.in-Some-after.rest.text.now) c.closing-close.ensures in
-    (bracket c.args.object 0, [], pushed, empty c.args.object c.args.text.text.now c.skip_space-left.result.text.now c.in-Some-after.rest.text.now c.args.depth space close (omega (arith, c.in_ok-depth.ensures)))
+    (bracket c.args.object 0, [], pushed, empty c.args.object c.args.text.text.now c.in-Some.rest.text.now c.args.depth close (omega (arith, c.in_ok-depth.ensures)))
 
 pub take_inside-loop-next-init : goal.take_inside-loop-next-init
 take_inside-loop-next-init t c =
     let pushed : c.push.new.self.items ≡ c.args.tokens.now.items ++ bracket c.args.object 0 ∷ [] = search rules in
-    ([], pushed, begins c.args.object c.args.text.text.now c.in_ok-depth.depth, omega arith, λ none. refl)
+    ([], pushed, begins c.args.object c.args.text.text.now c.in_ok-depth.depth, omega arith)
 
-pub take_inside-loop-next-preserved-in_default-after : goal.take_inside-loop-next-preserved-in_default-after
-take_inside-loop-next-preserved-in_default-after t c =
+pub take_inside-loop-next-preserved-in-Some-after_space : goal.take_inside-loop-next-preserved-in-Some-after_space
+take_inside-loop-next-preserved-in-Some-after_space t c =
     let l = c.loop-next in
     let i = l.invariant in
     let space = c.in-Some-after_space in
@@ -38,7 +26,6 @@ take_inside-loop-next-preserved-in_default-after t c =
       i.1,
       skipped c.args.object l.key c.args.text.text.now next front i.0 c.in_ok-depth.depth c.skip_space-left.ensures.spaced (skipped c.args.object l.key c.args.text.text.now l.left.text.now next i.0 c.in_ok-depth.depth space.ensures.spaced i.2),
       omega (arith, i.3, space.ensures.shorter, c.skip_space-left.ensures.within),
-      λ none. i.4 none ∙ space.ensures.spaced.lexed ∙ c.skip_space-left.ensures.spaced.lexed,
     )
 
 pub take_inside-loop-next-preserved-then-key : goal.take_inside-loop-next-preserved-then-key
@@ -51,7 +38,6 @@ take_inside-loop-next-preserved-then-key t c =
       k.1 ∙ ap (λ ts. ts ++ k.0 ∷ []) i.1 ∙ append_assoc c.args.tokens.now.items (bracket c.args.object 0 ∷ i.0) (k.0 ∷ []),
       next_key c.args.object l.key c.args.text.text.now l.left.text.now colon.0 c.in_ok-left.left.text.now i.0 k.0 c.in_ok-depth.depth c.if-key.true i.2 (string_before l.left.text.now c.in_ok-rest.rest.text.now colon.0 k.0 k.2 colon.1) colon.2,
       omega (arith, i.3, c.in_ok-rest.ensures.shorter, c.in_ok-left.ensures.shorter),
-      λ none. absurd (some_done i.0 k.0 [] none),
     )
 
 pub take_inside-loop-next-preserved : goal.take_inside-loop-next-preserved
@@ -65,7 +51,6 @@ take_inside-loop-next-preserved t c =
       v.2 ∙ ap (λ ts. ts ++ (v.0 ∷ v.1)) i.1 ∙ append_assoc c.args.tokens.now.items (bracket c.args.object 0 ∷ i.0) (v.0 ∷ v.1),
       next_value c.args.object l.key c.args.text.text.now l.left.text.now comma.0 next i.0 v.0 v.1 c.in_ok-depth.depth c.if-key.false i.2 (value_before l.left.text.now c.in_ok-rest.rest.text.now comma.0 v.0 v.1 c.in_ok-depth.depth v.3 comma.1) (comma.2 ∙ ap (λ is. (if is then 44 else c.closing-close.result) ∷ next) c.if-comma.true),
       omega (arith, i.3, c.in_ok-rest.ensures.shorter, c.in_ok-comma.ensures.shorter),
-      λ none. absurd (some_done i.0 v.0 v.1 none),
     )
 
 pub take_inside-returns-in-loop-next-clause-spelled : goal.take_inside-returns-in-loop-next-clause-spelled
@@ -81,8 +66,8 @@ take_inside-returns-in-loop-next-clause-spelled t c =
     let open_bracket = bracket c.args.object 0 in
     let are : all ≡ old ++ open_bracket ∷ done = v.2 ∙ ap (λ ts. ts ++ (v.0 ∷ v.1)) i.1 ∙ append_assoc old (open_bracket ∷ i.0) (v.0 ∷ v.1) in
     let place : c.len-place.result ≡ length old = search rules in
-    let long : c.len-in-loop-next.result ≡ length all = search rules in
-    let told = c.bracket-in-loop-next.ensures ∙ ap (bracket c.args.object) (counted all old done c.len-in-loop-next.result c.len-place.result open_bracket are long place) in
+    let long : c.len.result ≡ length all = search rules in
+    let told = c.bracket-in-loop-next.ensures ∙ ap (bracket c.args.object) (counted all old done c.len.result c.len-place.result open_bracket are long place) in
     let close = end.2 ∙ ap (λ is. (if is then 44 else c.closing-close.result) ∷ next) c.if-comma.false ∙ ap (λ b. b ∷ next) c.closing-close.ensures in (
       bracket c.args.object (length done),
       done,

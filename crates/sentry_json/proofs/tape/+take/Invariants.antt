@@ -1,5 +1,4 @@
 use Rattle.std.proofs.Common.{◌≡◌, ◌++◌, ◌∷◌, ◌≤◌, List, length, ◌+◌, ◌*◌}
-use Rattle.json.specs.Lex.{lex, between}
 use Rattle.sentry_json.specs.declared.tape.token.Token.{Token}
 use Rattle.sentry_json.proofs.SoFar.{bracket, Before}
 use Rattle.sentry_json.proofs.tape.+take.Given as goal
@@ -11,7 +10,7 @@ abbrev pub decreases-take_inside : goal.decreases-take_inside
 decreases-take_inside l = 2 * l.depth
 
 abbrev pub invariant-take_inside-loop-next : goal.invariant-take_inside-loop-next
-invariant-take_inside-loop-next l = (done : List Token) × (l.tokens.items ≡ l.fn.tokens.items ++ bracket l.fn.object 0 ∷ done) × Before l.fn.object l.key l.fn.text.text.now l.left.text.now done l.depth × (length l.left.text.now ≤ length l.fn.text.text.now) × (length done ≡ 0 → lex between l.fn.text.text.now ≡ lex between l.left.text.now)
+invariant-take_inside-loop-next l = (done : List Token) × (l.tokens.items ≡ l.fn.tokens.items ++ bracket l.fn.object 0 ∷ done) × Before l.fn.object l.key l.fn.text.text.now l.left.text.now done l.depth × (length l.left.text.now ≤ length l.fn.text.text.now)
 
 abbrev pub decreases-take_inside-loop-next : goal.decreases-take_inside-loop-next
 decreases-take_inside-loop-next l = length l.left.text.now
