@@ -64,7 +64,7 @@ pub beside_named : (names : List (List ℕ)) (k : List ℕ) (d : Data) (ms : Mem
 beside_named names k d no_members named = rw named
 beside_named names k d (member l e ms) named = beside_named_at _ names k l d e ms refl named (beside_named names k d ms named)
 
-all_after : (names : List (List ℕ)) (k : List ℕ) (ms : Members) → AllAfter k ms → AllAfter k (beside names ms)
+pub all_after : (names : List (List ℕ)) (k : List ℕ) (ms : Members) → AllAfter k ms → AllAfter k (beside names ms)
 all_after names k no_members h = tt
 all_after names k (member l d ms) h = at (is_among l names) (all_after names k ms h.1)
   where

@@ -20,7 +20,6 @@ use Rattle.sentry_tables.specs.declared.way.Way.{Way}
 use Rattle.sentry_tables.specs.declared.way.Way.TheVariants.{Same, Normal}
 use Rattle.sentry_tables.specs.declared.error.TreeError.{TreeError}
 use Rattle.sentry_tables.specs.declared.error.TreeError.TheVariants.{Misfit, Memory}
-use Rattle.sentry_writing.proofs.Others.{is_key}
 use Rattle.sentry_rows.specs.Cased.{ReadsCaseAt, ShowsEntry, EntryShownAt, EntryRefusedAt, ReadsEntryAt}
 use Rattle.sentry_rows.proofs.CasesRead.{shown_by_word, refused_by_word}
 use Rattle.sentry_rows.proofs.TagsShown.{other_words, choice_refused, no_case_shows}
@@ -49,10 +48,10 @@ pub tag_there : (k : List ℕ) (ws : List (List ℕ)) (fallback : List ℕ) (d e
 tag_there k ws fallback d e is = rw is refl
 
 pub key_known : (k : List ℕ) (ws : List (List ℕ)) (fallback : List ℕ) (d : Data) (n : ℕ) → get tag d ≡ None → StandsAt k n ws → Some k ≡ word_of (Some (word_at k ws fallback)) d
-key_known k ws fallback d n is at = rw (is, sym (is_key k ws) ∙ among k n ws at) refl
+key_known k ws fallback d n is at = rw (is, among k n ws at) refl
 
 pub key_unknown : (k : List ℕ) (ws : List (List ℕ)) (fallback : List ℕ) (d : Data) → get tag d ≡ None → is_among k ws ≡ false → Some fallback ≡ word_of (Some (word_at k ws fallback)) d
-key_unknown k ws fallback d is none = rw (is, sym (is_key k ws) ∙ none) refl
+key_unknown k ws fallback d is none = rw (is, none) refl
 
 -- ---- a member
 
@@ -65,7 +64,7 @@ module _ (now : Cell) (cases : Cases) (fallback key : List ℕ) where
 
   pub unknown_entry : (word : List ℕ) (d : Data) → Some word ≡ word_of (Some (word_at key (words cases) fallback)) d → is_among word (words cases) ≡ false → EntryRefusedAt now cases fallback key d
   unfolding EntryRefusedAt
-  unknown_entry word d is none c s = choice_refused _ c (λ n x t. other_words now word d cases n x (sym (is_key word (words cases)) ∙ none) (rw (← is) at t)) s.1
+  unknown_entry word d is none c s = choice_refused _ c (λ n x t. other_words now word d cases n x none (rw (← is) at t)) s.1
 
   pub no_entry : (d : Data) → None ≡ word_of (Some (word_at key (words cases) fallback)) d → EntryRefusedAt now cases fallback key d
   unfolding EntryRefusedAt

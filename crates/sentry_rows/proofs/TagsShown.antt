@@ -5,8 +5,9 @@ use Rattle.std.proofs.lemmas.Bool.{or_parts}
 use Rattle.std.proofs.lemmas.Slice.Eq.{bytes_eq-Decides}
 use Rattle.serde_json.specs.Data.{Data}
 use Rattle.serde_json.specs.Find.{get, as_str}
+use Rattle.sentry_json.specs.Keys.{is_among}
 use Rattle.sentry_tables.specs.Cell.{Cell, choice}
-use Rattle.sentry_tables.specs.Kind.{tagged, Rows, Other, Cases, no_cases, case, keys, others, words, has_key, tag}
+use Rattle.sentry_tables.specs.Kind.{tagged, Rows, Other, Cases, no_cases, case, keys, others, words, tag}
 use Rattle.sentry_tables.specs.Shows.{RowsShow, CaseShows, AreFields, IsChoice, members_in, word_of}
 use Rattle.sentry_tables.specs.Reading.{Refused, RefusedAt}
 
@@ -33,7 +34,7 @@ case_at word (case w rows o cases) = cond (bytes_eq word w) (at_case zero rows o
 -- whether no case after the word's first has it again
 abbrev pub stands_once : List ℕ → Cases → Bool
 stands_once word no_cases = true
-stands_once word (case w rows o cases) = cond (bytes_eq word w) (not (has_key word (words cases))) (stands_once word cases)
+stands_once word (case w rows o cases) = cond (bytes_eq word w) (not (is_among word (words cases))) (stands_once word cases)
 
 -- the tree shows a value of these rows, by the table
 abbrev ShowsFields : Cell → Rows → Other → Data → Cell → Type 0
@@ -80,12 +81,12 @@ module _ (now : Cell) (word : List ℕ) (d : Data) where
   equal_words : (w : List ℕ) → Some word ≡ Some w → bytes_eq word w ≡ true
   equal_words w e = (bytes_eq-Decides word w).1 (same_Some word w e)
 
-  pub other_words : (cases : Cases) (m : ℕ) (c : Cell) → has_key word (words cases) ≡ false → CaseShows cases now (Some word) d m c → ⊥
+  pub other_words : (cases : Cases) (m : ℕ) (c : Cell) → is_among word (words cases) ≡ false → CaseShows cases now (Some word) d m c → ⊥
   other_words no_cases m c none s = s
   other_words (case w rows o cases) zero c none s = absurd (true≢false (sym (equal_words w s.0) ∙ (or_parts (bytes_eq word w) _ none).0))
   other_words (case w rows o cases) (suc m) c none s = other_words cases m c (or_parts (bytes_eq word w) _ none).1 s
 
-  case_refused_at : (b : Bool) (w : List ℕ) (these : Rows) (q : Other) (cases : Cases) (n : ℕ) (rows : Rows) (o : Other) (m : ℕ) (c : Cell) → bytes_eq word w ≡ b → cond b (not (has_key word (words cases))) (stands_once word cases) ≡ true
+  case_refused_at : (b : Bool) (w : List ℕ) (these : Rows) (q : Other) (cases : Cases) (n : ℕ) (rows : Rows) (o : Other) (m : ℕ) (c : Cell) → bytes_eq word w ≡ b → cond b (not (is_among word (words cases))) (stands_once word cases) ≡ true
       → cond b (at_case zero these q) (later_case (case_at word cases)) ≡ at_case n rows o → ((x : Cell) → ShowsFields now rows o d x → ⊥)
       → (stands_once word cases ≡ true → (k : ℕ) → case_at word cases ≡ at_case k rows o → (j : ℕ) → CaseShows cases now (Some word) d j c → ⊥) → CaseShows (case w these q cases) now (Some word) d m c → ⊥
   case_refused_at true w these q cases n rows o zero c same once at refused rest s =
@@ -120,7 +121,7 @@ no_case_shows (case w rows o cases) d now zero c s = absurd cc
 no_case_shows (case w rows o cases) d now (suc n) c s = no_case_shows cases d now n c s
 
 -- ---- at every moment
-pub another_word : (cases : Cases) (word : List ℕ) (d : Data) → word_of None d ≡ Some word → has_key word (words cases) ≡ false → Refused (tagged cases) d
+pub another_word : (cases : Cases) (word : List ℕ) (d : Data) → word_of None d ≡ Some word → is_among word (words cases) ≡ false → Refused (tagged cases) d
 unfolding Refused
 another_word cases word d is none now c s = choice_refused _ c (λ m x t. other_words now word d cases m x none (rw is at t)) s.1
 
@@ -129,7 +130,7 @@ unfolding Refused
 no_word cases d is now c s = choice_refused _ c (λ n x t. no_case_shows cases d now n x (rw is at t)) s.1
 
 -- ---- at a moment
-pub another_word_at : (now : Cell) (cases : Cases) (word : List ℕ) (d : Data) → word_of None d ≡ Some word → has_key word (words cases) ≡ false → RefusedAt now (tagged cases) d
+pub another_word_at : (now : Cell) (cases : Cases) (word : List ℕ) (d : Data) → word_of None d ≡ Some word → is_among word (words cases) ≡ false → RefusedAt now (tagged cases) d
 unfolding RefusedAt
 another_word_at now cases word d is none c s = choice_refused _ c (λ m x t. other_words now word d cases m x none (rw is at t)) s.1
 

@@ -2,9 +2,10 @@
 use Rattle.std.specs.Prelude.{◌≡◌, ◌⊎◌, List, [], ◌∷◌, ℕ, Some, None, Result, Ok, Err, ⊤}
 use Rattle.serde_json.specs.Data.{Data, Members}
 use Rattle.sentry_json.specs.Nodes.{tree_of}
+use Rattle.sentry_json.specs.Keys.{beside}
 use Rattle.sentry_tables.specs.Cell.{Cell, Cells, no_cells, cell}
 use Rattle.sentry_tables.specs.Fields.{Field}
-use Rattle.sentry_tables.specs.Kind.{Rule, Kind, Rows, no_rows, row, without}
+use Rattle.sentry_tables.specs.Kind.{Rule, Kind, Rows, no_rows, row}
 use Rattle.sentry_tables.specs.Shows.{members_in}
 use Rattle.sentry_tables.specs.Reading.{RowShown, RowRefused, RowShownAt, RowRefusedAt}
 use Rattle.sentry_tables.specs.declared.error.TreeError.{TreeError}
@@ -44,7 +45,7 @@ RowsShown (row key r K rows) d (cell c cs) = RowShown key r K d c × RowsShown r
 -- while nothing fails these are the members of other keys; no misfit comes of them
 unfoldable pub ReadsOthers : {N : Type 0} → (N → Data) → List (List ℕ) → Members → Reader N → Reader N → Type 0
 ReadsOthers data_of names others a b =
-    (b.object ≡ a.object) × (b.failed ≡ None → (a.failed ≡ None) × (others ≡ without names (members_in (read_of data_of a)))) × (b.failed ≡ Some Misfit → a.failed ≡ Some Misfit)
+    (b.object ≡ a.object) × (b.failed ≡ None → (a.failed ≡ None) × (others ≡ beside names (members_in (read_of data_of a)))) × (b.failed ≡ Some Misfit → a.failed ≡ Some Misfit)
 
 -- each row of the table was read, and then the members of other keys
 abbrev pub ReadsKept : {A N : Type 0} → (N → Data) → List (Field A) → List (List ℕ) → A → Members → Reader N → Reader N → Type 0
