@@ -1,11 +1,11 @@
 -- What a reader of a table's rows has read.
-use Rattle.std.specs.Prelude.{◌≡◌, ◌⊎◌, List, [], ◌∷◌, ℕ, Some, None, Result, Ok, Err, ⊤}
+use Rattle.std.specs.Prelude.{◌≡◌, ◌⊎◌, List, [], ◌∷◌, ℕ, Some, None, Result, Ok, Err}
 use Rattle.serde_json.specs.Data.{Data, Members}
 use Rattle.sentry_json.specs.Nodes.{tree_of}
 use Rattle.sentry_json.specs.Keys.{beside}
-use Rattle.sentry_tables.specs.Cell.{Cell, Cells, no_cells, cell}
+use Rattle.sentry_tables.specs.Cell.{Cell}
 use Rattle.sentry_tables.specs.Fields.{Field}
-use Rattle.sentry_tables.specs.Kind.{Rule, Kind, Rows, no_rows, row}
+use Rattle.sentry_tables.specs.Kind.{Rule, Kind}
 use Rattle.sentry_tables.specs.Shows.{members_in}
 use Rattle.sentry_tables.specs.Reading.{RowShown, RowRefused, RowShownAt, RowRefusedAt}
 use Rattle.sentry_tables.specs.declared.error.TreeError.{TreeError}
@@ -35,12 +35,6 @@ ReadsField data_of key r K c a b =
 abbrev pub ReadsFields : {A N : Type 0} → (N → Data) → List (Field A) → A → Reader N → Reader N → Type 0
 ReadsFields data_of [] v a z = a ≡ z
 ReadsFields {A} {N} data_of (f ∷ fs) v a z = (b : Reader N) × ReadsField data_of f.key f.rule f.kind (f.part v) a b × ReadsFields data_of fs v b z
-
-abbrev pub RowsShown : Rows → Data → Cells → Type 0
-RowsShown no_rows d no_cells = ⊤
-RowsShown no_rows d (cell c cs) = ⊥
-RowsShown (row key r K rows) d no_cells = ⊥
-RowsShown (row key r K rows) d (cell c cs) = RowShown key r K d c × RowsShown rows d cs
 
 -- while nothing fails these are the members of other keys; no misfit comes of them
 unfoldable pub ReadsOthers : {N : Type 0} → (N → Data) → List (List ℕ) → Members → Reader N → Reader N → Type 0
