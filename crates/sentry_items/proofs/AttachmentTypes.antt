@@ -1,6 +1,5 @@
 -- The types of attachments as texts.
 use Rattle.std.proofs.Common.{◌≡◌, ℕ, zero, suc, List, [], ◌∷◌, Bool, true, false, ◌||◌, cond, Some, codes, refl, sym, ap, subst, IsUtf8, bytes_eq}
-use Rattle.std.specs.Prelude.{⊤}
 use Rattle.std.proofs.lemmas.Bool.{false≢true}
 use Rattle.std.proofs.lemmas.Option.{same_Some}
 use Rattle.std.proofs.lemmas.Slice.Eq.{bytes_eq-Decides}
@@ -9,6 +8,7 @@ use Rattle.sentry_json.specs.Keys.{is_among}
 use Rattle.sentry_tables.specs.Cell.{Cell, text, choice}
 use Rattle.sentry_tables.specs.Laws.{HasLaws}
 use Rattle.sentry_tables.specs.Spelling.{SpellingLaws}
+use Rattle.sentry_tables.proofs.Collections.{AreTexts}
 use Rattle.sentry_tables.proofs.Spellings.{ReadLaws, read_to_laws, spelled_has_laws}
 use Rattle.sentry_items.specs.AttachmentWords.{attachment_words, known, custom, attachment_type_of, attachment_type_text, attachment_type_norm, attachment_type_spelling, attachment_type_kind, IsAttachmentType}
 
@@ -19,10 +19,6 @@ type_text_of word = go (is_among word attachment_words)
     go : (b : Bool) → attachment_type_text (cond b (known word) (custom word)) ≡ word
     go true = refl
     go false = refl
-
-abbrev AreTexts : List (List ℕ) → Type 0
-AreTexts [] = ⊤
-AreTexts (k ∷ ks) = IsUtf8 k × AreTexts ks
 
 text_among : (word : List ℕ) (ks : List (List ℕ)) → AreTexts ks → is_among word ks ≡ true → IsUtf8 word
 text_among word [] texts e = absurd (false≢true e)

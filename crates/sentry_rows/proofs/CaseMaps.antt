@@ -1,16 +1,16 @@
 -- Maps of values of several cases.
-use Rattle.std.proofs.Common.{◌≡◌, ℕ, List, [], ◌∷◌, Bool, true, false, Some, None, Result, Ok, Err, length, refl, sym, ◌∙◌}
+use Rattle.std.proofs.Common.{◌≡◌, ℕ, List, [], ◌∷◌, Bool, true, false, Some, None, Result, Ok, Err, length, refl}
 use Rattle.std.proofs.Math.Dec.{eqb-suc-zero}
 use Rattle.std.specs.Prelude.{◌==◌, option_and_then}
 use Rattle.serde_json.specs.Data.{Data, Members}
 use Rattle.serde_json.specs.Find.{get, get_member, as_str, as_object}
 use Rattle.sentry_json.specs.Keys.{is_among, are_distinct, StandsAt}
 use Rattle.sentry_json.proofs.Beside.{among}
-use Rattle.sentry_tables.specs.Cell.{Cell, mapping, Entries, same_cell}
+use Rattle.sentry_tables.specs.Cell.{Cell, same_cell}
 use Rattle.sentry_tables.specs.Kind.{map, tagged, tagged_map, Cases, words, tag}
 use Rattle.sentry_tables.specs.Norm.{norm}
-use Rattle.sentry_tables.specs.Shows.{IsMapping, MembersShow, word_at, word_of}
-use Rattle.sentry_tables.proofs.ListsShown.{shown_nowhere}
+use Rattle.sentry_tables.specs.Shows.{MembersShow, word_at, word_of}
+use Rattle.sentry_tables.proofs.ListsShown.{shown_nowhere, mapping_refused}
 use Rattle.sentry_tables.proofs.Sorted.{MapEntry}
 use Rattle.sentry_tables.specs.Cells.{entries, map_cell, empty_map}
 use Rattle.sentry_tables.specs.Made.{made}
@@ -71,10 +71,6 @@ module _ (now : Cell) (cases : Cases) (fallback key : List ℕ) where
   no_entry d is c s = choice_refused _ c (λ n x t. no_case_shows cases d now n x (rw (← is) at t)) s.1
 
 -- ---- the map
-
-mapping_refused : (Q : Entries → Type 0) (c : Cell) → ((es : Entries) → Q es → ⊥) → IsMapping Q c → ⊥
-mapping_refused Q (mapping es) f h = f es h
-mapping_refused Q _ f h = h
 
 module _ (now : Cell) (cases : Cases) (fallback : List ℕ) where
   pub no_map : (d : Data) → as_object d ≡ None → RefusedAt now (tagged_map cases fallback) d
