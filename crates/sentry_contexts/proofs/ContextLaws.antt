@@ -31,26 +31,26 @@ use Rattle.sentry_contexts.specs.Telemetry.{otel_fields, otel_kind, trace_contex
 orientation_lawful : IsLawful orientation_kind
 orientation_lawful = spelled_laws orientation_spelling orientation_laws
 
-status_lawful : IsLawful span_status_kind
+pub status_lawful : IsLawful span_status_kind
 status_lawful = spelled_laws span_status_spelling span_status_laws
 
-moment_lawful : IsLawful rfc3339_kind
+pub moment_lawful : IsLawful rfc3339_kind
 moment_lawful = rfc3339_scalar_laws
 
-moment_stands : RuleLaws may_strict rfc3339_kind
+pub moment_stands : RuleLaws may_strict rfc3339_kind
 moment_stands = rfc3339_refuses_null
 
-span_lawful : IsLawful span_id_kind
-span_lawful = spelled_laws (hex_id_spelling 8) (hex_id_laws 8)
+pub span_id_lawful : IsLawful span_id_kind
+span_id_lawful = spelled_laws (hex_id_spelling 8) (hex_id_laws 8)
 
-trace_lawful : IsLawful trace_id_kind
-trace_lawful = spelled_laws (hex_id_spelling 16) (hex_id_laws 16)
+pub trace_id_lawful : IsLawful trace_id_kind
+trace_id_lawful = spelled_laws (hex_id_spelling 16) (hex_id_laws 16)
 
-span_drawn : RuleLaws (draw (IsOctets 8)) span_id_kind
-span_drawn = drawn_id_laws 8
+pub span_id_drawn : RuleLaws (draw (IsOctets 8)) span_id_kind
+span_id_drawn = drawn_id_laws 8
 
-trace_drawn : RuleLaws (draw (IsOctets 16)) trace_id_kind
-trace_drawn = drawn_id_laws 16
+pub trace_id_drawn : RuleLaws (draw (IsOctets 16)) trace_id_kind
+trace_id_drawn = drawn_id_laws 16
 
 -- ---- tables
 
@@ -76,7 +76,7 @@ browser_lawful = laws_by_rows (rows_of browser_fields) refl (search text_laws)
 
 trace_context_lawful : IsLawful trace_context_kind
 unfolding trace_context_fields
-trace_context_lawful = laws_by_rows (rows_of trace_context_fields) refl (search (text_laws, any_laws, span_lawful, trace_lawful, span_drawn, trace_drawn, status_lawful, empty_map_stands))
+trace_context_lawful = laws_by_rows (rows_of trace_context_fields) refl (search (text_laws, any_laws, span_id_lawful, trace_id_lawful, span_id_drawn, trace_id_drawn, status_lawful, empty_map_stands))
 
 gpu_lawful : IsLawful gpu_kind
 unfolding gpu_fields

@@ -1,8 +1,9 @@
 -- The type at a place of the list of item types: what is said of a place is said of its type.
 use Rattle.std.proofs.Common.{◌≡◌, ℕ, zero, suc, List, [], ◌∷◌, Bool, true, false, ◌||◌, if◌then◌else◌, Some, option_map, refl, sym, ap, ◌∙◌, IsUtf8, bytes_eq, true≢false}
 use Rattle.std.proofs.lemmas.Slice.Eq.{bytes_eq-Decides}
+use Rattle.sentry_json.specs.Keys.{is_among}
 use Rattle.sentry_tables.specs.Cell.{Cell, absent}
-use Rattle.sentry_tables.specs.Kind.{Kind, has_key}
+use Rattle.sentry_tables.specs.Kind.{Kind}
 use Rattle.sentry_framing.specs.ItemHeader.{place_of, Header}
 use Rattle.sentry_envelope.specs.Profile.{ItemType, words, FormIsLawful, GivesLawful, TypesAreLawful}
 use Rattle.sentry_envelope.specs.Envelope.{Content, value, ContentShows, ContentShowsAt, given_at, frame_by, frame_at, content_norm, content_norm_at, stated_by, stated_at, ContentDemand, ContentMeets, ContentMeetsAt}
@@ -84,9 +85,9 @@ bytes_apart s t e = go (bytes_eq t s) refl
     go false apart = apart
 
 -- a word that none of these types has is not the type's
-word_apart : {ts : List ItemType} {n : ℕ} {t : ItemType} → IsAt ts n t → (word : List ℕ) → has_key word (words ts) ≡ false → bytes_eq word t.word ≡ false
-word_apart (first {t} {ts}) word e = (or_false (bytes_eq word t.word) (has_key word (words ts)) e).0
-word_apart (later {s} {t} {ts} at) word e = word_apart at word (or_false (bytes_eq word s.word) (has_key word (words ts)) e).1
+word_apart : {ts : List ItemType} {n : ℕ} {t : ItemType} → IsAt ts n t → (word : List ℕ) → is_among word (words ts) ≡ false → bytes_eq word t.word ≡ false
+word_apart (first {t} {ts}) word e = (or_false (bytes_eq word t.word) (is_among word (words ts)) e).0
+word_apart (later {s} {t} {ts} at) word e = word_apart at word (or_false (bytes_eq word s.word) (is_among word (words ts)) e).1
 
 found_first : (word : List ℕ) (others : List (List ℕ)) → place_of word (word ∷ others) ≡ Some 0
 found_first word others = ap (λ b. if b then Some 0 else option_map suc (place_of word others)) ((bytes_eq-Decides word word).1 refl)

@@ -1,15 +1,13 @@
 -- What `==` says of headers and of envelopes.
-use Rattle.std.proofs.Common.{rules, ◌≡◌, ◌&&◌, List, [], ◌∷◌, refl, Decides}
+use Rattle.std.proofs.Common.{◌≡◌, ◌&&◌, List, [], ◌∷◌, refl, Decides}
 use Rattle.std.proofs.lemmas.Bool.Decides.{Decides-and, Decides-eqb}
 use Rattle.std.proofs.lemmas.Slice.Eq.{slice_eq-Decides}
 use lib.Pointwise.{pointwise}
 use Rattle.uuid.specs.contracts.UuidPartialEq.TheImpl.{eq-value as of_ids}
-use Rattle.uuid.specs.declared.Uuid.{Uuid}
 use Rattle.sentry_tables.specs.Cell.{octets}
 use Rattle.sentry_tables.proofs.Equal.{options_decide}
 use Rattle.sentry_moments.specs.Moments.{moment_cell}
 use Rattle.sentry_moments.specs.contracts.moment.MomentPartialEq.TheImpl.{eq-value as of_moments}
-use Rattle.sentry_moments.specs.declared.moment.Moment.{Moment}
 use Rattle.sentry_keys.specs.DsnTree.{dsn_cell}
 use Rattle.sentry_keys.specs.contracts.dsn.DsnPartialEq.TheImpl.{eq-value as of_dsns}
 use Rattle.sentry_keys.proofs.Equal.{dsns_decide}
@@ -18,7 +16,7 @@ use Rattle.sentry_parts.specs.contracts.client_sdk_info.ClientSdkInfoPartialEq.T
 use Rattle.sentry_parts.proofs.Equal.{software_decides}
 use Rattle.sentry_records.specs.Sampling.{sampling_cell}
 use Rattle.sentry_records.specs.contracts.sampling.DynamicSamplingContextPartialEq.TheImpl.{eq-value as of_contexts}
-use Rattle.sentry_records.proofs.Equal.{contexts_decide}
+use Rattle.sentry_records.proofs.Equal.{contexts_decide, ids_decide, moments_decide}
 use Rattle.sentry_items.specs.contracts.item.EnvelopeItemPartialEq.TheImpl.{eq-value as of_items}
 use Rattle.sentry_items.specs.declared.item.EnvelopeItem.{EnvelopeItem}
 use Rattle.sentry_items.proofs.Equal.{items_decide}
@@ -31,12 +29,6 @@ use Rattle.sentry_envelope.specs.declared.headers.EnvelopeHeaders.{EnvelopeHeade
 use Rattle.sentry_envelope.specs.HeaderFields.{header_fields, headers_cell}
 use Rattle.sentry_envelope.specs.EnvelopeAlike.{EachHoldsNoTree, HasNoTree, EachHasStoredAddress, HasStoredAddresses, EachAlike, HoldAlike, AreEnvelopesAlike}
 use Rattle.sentry_envelope.specs.EnvelopeView.{items_in}
-
-ids_decide : (a b : Uuid) → Decides (of_ids.it a b) (octets a ≡ octets b)
-ids_decide a b = search rules
-
-moments_decide : (a b : Moment) → Decides (of_moments.it a b) (moment_cell a ≡ moment_cell b)
-moments_decide a b = search rules
 
 pub headers_decide : (a b : EnvelopeHeaders) → Decides (of_headers.it a b) (headers_cell a ≡ headers_cell b)
 unfolding header_fields

@@ -2,11 +2,12 @@
 use Rattle.std.proofs.Common.{◌≡◌, ℕ, zero, suc, List, [], ◌∷◌, Bool, false, ◌||◌, Some, IsUtf8, map, slice_get, refl, subst}
 use Rattle.std.specs.Prelude.{codes}
 use Rattle.std.proofs.lemmas.Option.{same_Some}
+use Rattle.sentry_json.specs.Keys.{is_among}
 use Rattle.sentry_tables.proofs.ByRows.{laws_by_rows}
 use Rattle.sentry_tables.proofs.Sound.{ascii_text}
 use Rattle.sentry_tables.specs.Cell.{absent}
 use Rattle.sentry_tables.specs.Fields.{rows_of}
-use Rattle.sentry_tables.specs.Kind.{ignored, Kind, has_key}
+use Rattle.sentry_tables.specs.Kind.{ignored, Kind}
 use Rattle.sentry_tables.specs.Lawful.{IsLawful}
 use Rattle.sentry_framing.specs.ItemWords.{item_kinds, kind_place, kind_word}
 use Rattle.sentry_framing.specs.declared.kind.ItemKind.{ItemKind}
@@ -71,13 +72,13 @@ gives_lawful k = gives_nothing (payload_kind k)
 -- some word stands twice
 abbrev repeats : List (List ℕ) → Bool
 repeats [] = false
-repeats (word ∷ others) = has_key word others || repeats others
+repeats (word ∷ others) = is_among word others || repeats others
 
 types_lawful : (ks : List ItemKind) → repeats (words (map item_type ks)) ≡ false → TypesAreLawful header_kind fill_id (map item_type ks)
 types_lawful [] once = tt
 types_lawful (k ∷ ks) once =
     let others = words (map item_type ks) in
-    let (here, rest) = or_false (has_key (kind_word k) others) (repeats others) once in
+    let (here, rest) = or_false (is_among (kind_word k) others) (repeats others) once in
     (word_utf8 k, here, form_lawful k, gives_lawful k, types_lawful ks rest)
 
 pub profile_lawful : ProfileLaws profile

@@ -1,8 +1,9 @@
 -- What envelopes may hold: the kind of their header, and item types, each a word with the form of its payload.
 use Rattle.std.specs.Prelude.{◌≡◌, ◌≤◌, ℕ, List, [], ◌∷◌, false, IsUtf8, ⊤}
 use Rattle.serde_json.specs.Data.{depth}
+use Rattle.sentry_json.specs.Keys.{is_among}
 use Rattle.sentry_tables.specs.Cell.{Cell, absent}
-use Rattle.sentry_tables.specs.Kind.{Kind, has_key}
+use Rattle.sentry_tables.specs.Kind.{Kind}
 use Rattle.sentry_tables.specs.Norm.{norm}
 use Rattle.sentry_tables.specs.Written.{tree}
 use Rattle.sentry_tables.specs.Meets.{IsPlain, IsReadable, IsStored}
@@ -68,7 +69,7 @@ GivesLawful H fill gives (container_form content_type K) = GivesAlike H fill giv
 abbrev pub TypesAreLawful : Kind → (Cell → Cell → Cell) → List ItemType → Type 0
 TypesAreLawful H fill [] = ⊤
 TypesAreLawful H fill (t ∷ ts) =
-    IsUtf8 t.word × (has_key t.word (words ts) ≡ false) × FormIsLawful t.form × GivesLawful H fill t.gives t.form × TypesAreLawful H fill ts
+    IsUtf8 t.word × (is_among t.word (words ts) ≡ false) × FormIsLawful t.form × GivesLawful H fill t.gives t.form × TypesAreLawful H fill ts
 
 pub record ProfileLaws (P : Profile) : Type 0 where
   pub header : IsLawful P.header

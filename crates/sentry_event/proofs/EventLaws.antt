@@ -7,26 +7,21 @@ use Rattle.sentry_tables.proofs.ByRows.{laws_by_rows, empty_map_stands, empty_va
 use Rattle.sentry_tables.proofs.Laws.{has_laws}
 use Rattle.sentry_tables.specs.Cell.{text}
 use Rattle.sentry_tables.specs.Fields.{rows_of}
-use Rattle.sentry_tables.specs.Kind.{default, draw, may_strict}
+use Rattle.sentry_tables.specs.Kind.{default, draw}
 use Rattle.sentry_tables.specs.Laws.{HasLaws}
 use Rattle.sentry_tables.specs.Lawful.{RuleLaws, IsLawful}
 use Rattle.sentry_tables.specs.Kinds.{text_kind}
-use Rattle.sentry_tables.proofs.Spellings.{spelled_laws, spelled_refuses_null}
+use Rattle.sentry_tables.proofs.Spellings.{spelled_refuses_null}
 use Rattle.sentry_words.specs.Level.{level_kind, level_spelling}
-use Rattle.sentry_words.specs.SpanStatus.{span_status_kind, span_status_spelling}
 use Rattle.sentry_words.specs.declared.level.Level.TheVariants as level
-use Rattle.sentry_words.proofs.Enumerations.{level_laws, span_status_laws}
-use Rattle.sentry_moments.specs.MomentForms.{rfc3339_kind}
-use Rattle.sentry_moments.proofs.MomentSpellings.{rfc3339_scalar_laws, rfc3339_refuses_null, seconds_laws, seconds_at_once}
-use Rattle.sentry_identifiers.specs.HexIdTree.{IsOctets, hex_id_spelling, span_id_kind, trace_id_kind}
+use Rattle.sentry_moments.proofs.MomentSpellings.{seconds_laws, seconds_at_once}
 use Rattle.sentry_identifiers.specs.Uuids.{IsRandomUuid, simple, simple_kind}
-use Rattle.sentry_identifiers.proofs.HexIdTrees.{hex_id_laws, drawn_id_laws}
 use Rattle.sentry_identifiers.proofs.UuidLaws.{simple_laws, drawn_uuid_laws}
 use Rattle.sentry_frames.proofs.TableLaws.{entry_lawful, stacktrace_lawful, template_lawful, thread_lawful, exception_lawful}
 use Rattle.sentry_parts.proofs.ClientSdkLaws.{sdk_lawful}
 use Rattle.sentry_parts.proofs.DebugLaws.{debug_meta_lawful, debug_meta_stands}
-use Rattle.sentry_parts.proofs.TableLaws.{breadcrumb_lawful, user_lawful, request_lawful}
-use Rattle.sentry_contexts.proofs.ContextLaws.{contexts_lawful, no_contexts_stand}
+use Rattle.sentry_parts.proofs.TableLaws.{breadcrumb_lawful, user_lawful, request_lawful, level_lawful}
+use Rattle.sentry_contexts.proofs.ContextLaws.{contexts_lawful, no_contexts_stand, status_lawful, moment_lawful, moment_stands, span_id_lawful, trace_id_lawful, span_id_drawn, trace_id_drawn}
 use Rattle.sentry_event.specs.Events.{event_fields, event_kind}
 use Rattle.sentry_event.specs.Fingerprints.{fingerprint_kind}
 use Rattle.sentry_event.specs.Spans.{span_fields, span_kind}
@@ -34,30 +29,6 @@ use Rattle.sentry_event.specs.Transactions.{transaction_fields, transaction_kind
 use Rattle.sentry_event.proofs.FingerprintLaws.{fingerprint_default, fingerprint_lawful}
 
 -- ---- scalars and defaults
-
-level_lawful : IsLawful level_kind
-level_lawful = spelled_laws level_spelling level_laws
-
-status_lawful : IsLawful span_status_kind
-status_lawful = spelled_laws span_status_spelling span_status_laws
-
-ended_lawful : IsLawful rfc3339_kind
-ended_lawful = rfc3339_scalar_laws
-
-ended_stands : RuleLaws may_strict rfc3339_kind
-ended_stands = rfc3339_refuses_null
-
-span_id_lawful : IsLawful span_id_kind
-span_id_lawful = spelled_laws (hex_id_spelling 8) (hex_id_laws 8)
-
-trace_id_lawful : IsLawful trace_id_kind
-trace_id_lawful = spelled_laws (hex_id_spelling 16) (hex_id_laws 16)
-
-span_id_drawn : RuleLaws (draw (IsOctets 8)) span_id_kind
-span_id_drawn = drawn_id_laws 8
-
-trace_id_drawn : RuleLaws (draw (IsOctets 16)) trace_id_kind
-trace_id_drawn = drawn_id_laws 16
 
 id_drawn : RuleLaws (draw IsRandomUuid) simple_kind
 id_drawn = drawn_uuid_laws simple
@@ -72,11 +43,11 @@ other_stands = ((λ now c h. none-some c h), (IsUtf8-are_ascii (codes "other") r
 
 span_lawful : IsLawful span_kind
 unfolding span_fields
-span_lawful = laws_by_rows (rows_of span_fields) refl (search (text_laws, truth_laws, any_laws, span_id_lawful, trace_id_lawful, span_id_drawn, trace_id_drawn, status_lawful, seconds_laws, seconds_at_once, ended_lawful, ended_stands, empty_map_stands))
+span_lawful = laws_by_rows (rows_of span_fields) refl (search (text_laws, truth_laws, any_laws, span_id_lawful, trace_id_lawful, span_id_drawn, trace_id_drawn, status_lawful, seconds_laws, seconds_at_once, moment_lawful, moment_stands, empty_map_stands))
 
 pub transaction_lawful : IsLawful transaction_kind
 unfolding transaction_fields
-transaction_lawful = laws_by_rows (rows_of transaction_fields) refl (search (text_laws, any_laws, simple_laws, id_drawn, user_lawful, request_lawful, sdk_lawful, span_lawful, contexts_lawful, no_contexts_stand, other_stands, seconds_laws, seconds_at_once, ended_lawful, ended_stands, empty_map_stands))
+transaction_lawful = laws_by_rows (rows_of transaction_fields) refl (search (text_laws, any_laws, simple_laws, id_drawn, user_lawful, request_lawful, sdk_lawful, span_lawful, contexts_lawful, no_contexts_stand, other_stands, seconds_laws, seconds_at_once, moment_lawful, moment_stands, empty_map_stands))
 
 pub event_lawful : IsLawful event_kind
 unfolding event_fields

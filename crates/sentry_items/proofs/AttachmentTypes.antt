@@ -1,34 +1,30 @@
 -- The types of attachments as texts.
 use Rattle.std.proofs.Common.{◌≡◌, ℕ, zero, suc, List, [], ◌∷◌, Bool, true, false, ◌||◌, cond, Some, codes, refl, sym, ap, subst, IsUtf8, bytes_eq}
-use Rattle.std.specs.Prelude.{⊤}
 use Rattle.std.proofs.lemmas.Bool.{false≢true}
 use Rattle.std.proofs.lemmas.Option.{same_Some}
 use Rattle.std.proofs.lemmas.Slice.Eq.{bytes_eq-Decides}
 use Rattle.json.proofs.Printed.Utf8.{IsUtf8-are_ascii}
+use Rattle.sentry_json.specs.Keys.{is_among}
 use Rattle.sentry_tables.specs.Cell.{Cell, text, choice}
-use Rattle.sentry_tables.specs.Kind.{has_key}
 use Rattle.sentry_tables.specs.Laws.{HasLaws}
 use Rattle.sentry_tables.specs.Spelling.{SpellingLaws}
+use Rattle.sentry_tables.proofs.Collections.{AreTexts}
 use Rattle.sentry_tables.proofs.Spellings.{ReadLaws, read_to_laws, spelled_has_laws}
 use Rattle.sentry_items.specs.AttachmentWords.{attachment_words, known, custom, attachment_type_of, attachment_type_text, attachment_type_norm, attachment_type_spelling, attachment_type_kind, IsAttachmentType}
 
 -- a type that a text is read as has that text
 pub type_text_of : (word : List ℕ) → attachment_type_text (attachment_type_of word) ≡ word
-type_text_of word = go (has_key word attachment_words)
+type_text_of word = go (is_among word attachment_words)
   where
     go : (b : Bool) → attachment_type_text (cond b (known word) (custom word)) ≡ word
     go true = refl
     go false = refl
 
-abbrev AreTexts : List (List ℕ) → Type 0
-AreTexts [] = ⊤
-AreTexts (k ∷ ks) = IsUtf8 k × AreTexts ks
-
-text_among : (word : List ℕ) (ks : List (List ℕ)) → AreTexts ks → has_key word ks ≡ true → IsUtf8 word
+text_among : (word : List ℕ) (ks : List (List ℕ)) → AreTexts ks → is_among word ks ≡ true → IsUtf8 word
 text_among word [] texts e = absurd (false≢true e)
 text_among word (k ∷ ks) texts e = go (bytes_eq word k) refl e (text_among word ks texts.1)
   where
-    go : (b : Bool) → bytes_eq word k ≡ b → b || has_key word ks ≡ true → (has_key word ks ≡ true → IsUtf8 word) → IsUtf8 word
+    go : (b : Bool) → bytes_eq word k ≡ b → b || is_among word ks ≡ true → (is_among word ks ≡ true → IsUtf8 word) → IsUtf8 word
     go true same e others = subst IsUtf8 (sym ((bytes_eq-Decides word k).0 same)) texts.0
     go false same e others = others e
 
@@ -50,9 +46,9 @@ type_text (choice (suc (suc n)) c) h = absurd h
 type_text _ h = absurd h
 
 pub type_read : (word : List ℕ) → IsUtf8 word → IsAttachmentType (attachment_type_of word)
-type_read word utf8 = go (has_key word attachment_words) refl
+type_read word utf8 = go (is_among word attachment_words) refl
   where
-    go : (b : Bool) → has_key word attachment_words ≡ b → IsAttachmentType (cond b (known word) (custom word))
+    go : (b : Bool) → is_among word attachment_words ≡ b → IsAttachmentType (cond b (known word) (custom word))
     go true e = e
     go false e = utf8
 
@@ -68,9 +64,9 @@ type_read_back (choice (suc (suc n)) c) h = absurd h
 type_read_back _ h = absurd h
 
 type_is_normal : (word : List ℕ) → attachment_type_norm (attachment_type_of word) ≡ attachment_type_of word
-type_is_normal word = go (has_key word attachment_words) refl
+type_is_normal word = go (is_among word attachment_words) refl
   where
-    go : (b : Bool) → has_key word attachment_words ≡ b → attachment_type_norm (cond b (known word) (custom word)) ≡ cond b (known word) (custom word)
+    go : (b : Bool) → is_among word attachment_words ≡ b → attachment_type_norm (cond b (known word) (custom word)) ≡ cond b (known word) (custom word)
     go true e = refl
     go false e = ap (λ b. cond b (known word) (custom word)) e
 

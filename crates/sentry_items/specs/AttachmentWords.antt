@@ -1,7 +1,8 @@
 -- The types of attachments: five known words, and any other text.
 use Rattle.std.specs.Prelude.{◌≡◌, ℕ, zero, suc, List, [], ◌∷◌, true, Some, codes, cond, IsUtf8}
+use Rattle.sentry_json.specs.Keys.{is_among}
 use Rattle.sentry_tables.specs.Cell.{Cell, text, choice}
-use Rattle.sentry_tables.specs.Kind.{Kind, has_key}
+use Rattle.sentry_tables.specs.Kind.{Kind}
 use Rattle.sentry_tables.specs.Spelling.{Spelling, read_to, spelled_kind}
 
 abbrev pub attachment_words : List (List ℕ)
@@ -17,7 +18,7 @@ custom word = choice 1 (text word)
 
 -- the type that a text is read as: a known one where the text is its word
 abbrev pub attachment_type_of : List ℕ → Cell
-attachment_type_of word = cond (has_key word attachment_words) (known word) (custom word)
+attachment_type_of word = cond (is_among word attachment_words) (known word) (custom word)
 
 abbrev pub word_in : Cell → List ℕ
 word_in (text word) = word
@@ -33,7 +34,7 @@ IsUtf8Text (text word) = IsUtf8 word
 IsUtf8Text _ = ⊥
 
 abbrev pub IsKnownWord : Cell → Type 0
-IsKnownWord (text word) = has_key word attachment_words ≡ true
+IsKnownWord (text word) = is_among word attachment_words ≡ true
 IsKnownWord _ = ⊥
 
 -- what Rust's type holds: a known type, or a text as a custom one

@@ -1,8 +1,8 @@
 -- What trees show as moments.
 use Rattle.std.proofs.Common.{◌≡◌, ◌≤◌, ℕ, List, Option, Some, None, Result, Ok, Err, IsSomeAnd, sym, ap, subst, arith}
 use Rattle.serde_json.specs.Data.{Data, number, string, unsigned, negative, float}
-use Rattle.serde_json.specs.Find.{as_number, as_str, as_u64}
-use Rattle.std.specs.Prelude.{option_and_then}
+use Rattle.serde_json.specs.Find.{as_str}
+use Rattle.sentry_tables.specs.Basic.{u64_of}
 use Rattle.sentry_tables.specs.Cell.{Cell, moment}
 use Rattle.sentry_tables.specs.Reading.{Shown, Refused, Reads}
 use Rattle.sentry_tables.specs.Spelling.{Texted}
@@ -40,9 +40,6 @@ unfolding Refused
 not_named text d o is none only now c h = never text c (λ secs nanos k. nothing _ o none (only secs nanos k)) (untexted (as_str d) text c is h)
 
 -- ---- whole seconds
-
-abbrev u64_of : Data → Option ℕ
-u64_of d = option_and_then as_u64 (as_number d)
 
 same_number : (m n : ℕ) → Some m ≡ Some n → m ≡ n
 same_number m n e = cc

@@ -26,6 +26,7 @@ fraction_is n [] some h c = absurd (let e = nanoseconds_of n [] h c in omega (ar
 fraction_is n (x ∷ xs) some h c = Present x xs c.digits_are
 
 -- ---- the whole text
+
 -- the fraction as it is written, and what it is worth
 pub record IsWritten (nanos : ℕ) (text : List ℕ) : Type 0 where
   pub places : List ℕ

@@ -11,10 +11,10 @@ use Rattle.std.proofs.lemmas.List.{nil_from_length, append-nil, length-take}
 use Rattle.jiff_core.specs.Calendar.{IsDate, IsCivilDate, days_from_civil}
 use Rattle.jiff_core.proofs.SignedLemmas.{signed_arith}
 use Rattle.jiff_core.proofs.CalendarLemmas.{days_in_month_bounds}
+use Rattle.sentry_json.proofs.Integers.{power_below}
 use Rattle.sentry_moments.specs.Digits.{digits, front_digits, after_digits}
 use Rattle.sentry_moments.proofs.Choices.{if_true, if_false, if_some, map_some}
 use Rattle.sentry_moments.proofs.Fronts.{front_digits_are, front_and_rest, front_again, after_again as digits_after}
-use Rattle.sentry_moments.proofs.Numerals.{power_below}
 use Rattle.sentry_moments.proofs.Shifts.{all_digits_append, all_digits_take}
 use Rattle.sentry_moments.specs.Rfc3339Scan.{◌>>=◌, Read, after, two_digits, four_digits, below, day_number, day, after_separator, clock, fraction, hour_and_minute, zone, moment}
 use Rattle.sentry_moments.specs.Rfc3339.{date_text, clock_text, IsSeparator, IsFraction, Absent, Present, nanoseconds, IsZone, Upper, Lower, Ahead, Behind, IsRfc3339}

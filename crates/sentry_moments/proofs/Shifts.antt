@@ -9,8 +9,9 @@ use Rattle.std.proofs.lemmas.List.{take-append-le, append-nil}
 use Rattle.std.proofs.lemmas.Nat.{pow-add, div_below, mul-le}
 use Rattle.std.proofs.Math.Nat.{pow-suc, mul_assoc, div-one, div-div-eq-div-mul, mul-div-mul_right, mul-div_cancel}
 use Rattle.std.proofs.Math.Seq.{take-length, take-append-add}
+use Rattle.sentry_json.proofs.Integers.{power_below}
 use Rattle.sentry_moments.specs.Decimal.{billionths}
-use Rattle.sentry_moments.proofs.Numerals.{power_below, digit_of}
+use Rattle.sentry_moments.proofs.Numerals.{digit_of}
 
 -- ---- digits after digits
 

@@ -24,7 +24,7 @@ use Rattle.sentry_parts.specs.Users.{user_fields, user_kind}
 
 -- ---- scalars and defaults
 
-level_lawful : IsLawful level_kind
+pub level_lawful : IsLawful level_kind
 level_lawful = spelled_laws level_spelling level_laws
 
 info_stands : RuleLaws (default (text (codes "info"))) level_kind

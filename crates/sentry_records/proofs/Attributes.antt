@@ -18,7 +18,7 @@ use Rattle.sentry_tables.specs.Laws.{HasLaws}
 use Rattle.sentry_tables.proofs.Laws.{has_laws}
 use Rattle.sentry_tables.specs.Lawful.{ScalarLaws, IsLawful, RefusesNull}
 use Rattle.sentry_tables.specs.Written.{put_all, is_null}
-use Rattle.sentry_tables.proofs.Basic.{told}
+use Rattle.sentry_tables.proofs.Basic.{told, tree_holds}
 use Rattle.sentry_tables.proofs.Shown.{SoundIf, found_sound}
 use Rattle.sentry_tables.proofs.Sound.{ascii_text}
 use Rattle.sentry_tables.specs.Kinds.{any_kind}
@@ -150,10 +150,6 @@ attribute_shown P f d c s is = from (option_and_then (λ word. option_and_then (
 
 -- ---- laws
 
-tree_at : (P : Cell → Type 0) → ((d : Data) → P (any d)) → (c : Cell) → IsTree c → P c
-tree_at P f (any d) p = f d
-tree_at P f _ p = absurd p
-
 whole_at : (P : Cell → Type 0) → ((d : Data) → IsSound d → P (any d)) → (c : Cell) → IsTree c × IsWholeTree c → P c
 whole_at P f (any d) p = f d (regular_sound d p.0.0 p.1 p.0.1)
 whole_at P f _ p = absurd p.0
@@ -179,7 +175,7 @@ attribute_laws = record {
   plain_norm = λ c p. whole_at (λ x. IsWholeTree (attribute_norm x)) (λ d s. sound_without_float (attribute_form d) (form_sound d s)) c p;
   readable_norm = λ c p q. tt;
   depth_norm = λ c p. shallow _ _ (same_tree c p);
-  null_tree = λ c p. tree_at (λ x. is_null (attribute_tree x) ≡ false) (λ d. refl) c p;
+  null_tree = λ c p. tree_holds (λ x. is_null (attribute_tree x) ≡ false) (λ d. refl) c p;
   null_norm = λ c p. refl;
   sound = λ c p. whole_at (λ x. IsSound (attribute_tree x)) members_sound c p;
   shown_stored = λ d c s h. attribute_shown IsTree (λ e r. (sound_regular e r.0, sound_texts e r.0)) d c s h;

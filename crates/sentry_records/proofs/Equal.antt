@@ -1,6 +1,6 @@
 -- What `==` says of values: they are equal exactly where their cells are the same.
-use Rattle.std.proofs.Common.{rules, ◌≡◌, ◌==◌, ℕ, zero, suc, Bool, true, false, List, Option, Some, refl, sym, ap, ◌∙◌, Decides}
-use Rattle.std.proofs.lemmas.Bool.Decides.{Decides-and, Decides-like, Decides-eqb}
+use Rattle.std.proofs.Common.{rules, ◌≡◌, ℕ, zero, suc, Bool, true, false, List, Option, Some, refl, sym, ap, ◌∙◌, Decides}
+use Rattle.std.proofs.lemmas.Bool.Decides.{Decides-and, Decides-like}
 use Rattle.std.proofs.lemmas.Option.{same_Some}
 use mathlib.Core.Bool.{beq}
 use Rattle.std.specs.String.{string_eq}
@@ -9,7 +9,7 @@ use Rattle.uuid.specs.declared.Uuid.{Uuid}
 use Rattle.sentry_tables.specs.Cell.{Cell, Cells, absent, octets, fields, no_cells, cell}
 use Rattle.sentry_tables.specs.Cells.{text_cell, natural_cell}
 use Rattle.sentry_tables.specs.Spelling.{word_cell}
-use Rattle.sentry_tables.proofs.Equal.{texts_decide, options_decide}
+use Rattle.sentry_tables.proofs.Equal.{texts_decide, options_decide, naturals_decide}
 use Rattle.sentry_identifiers.specs.HexIdTree.{trace_id_cell}
 use Rattle.sentry_identifiers.specs.contracts.trace_id.TraceIdPartialEq.TheImpl.{eq-value as of_traces}
 use Rattle.sentry_identifiers.specs.declared.trace_id.TraceId.{TraceId}
@@ -52,9 +52,6 @@ use Rattle.sentry_records.specs.declared.session_aggregate_item.SessionAggregate
 use Rattle.sentry_records.specs.declared.user_report.UserReport.{UserReport}
 
 -- ---- scalars
-
-pub naturals_decide : (m n : ℕ) → Decides (m == n) (natural_cell m ≡ natural_cell n)
-naturals_decide m n = Decides-like (m == n) (λ same. ap natural_cell same) (λ same. cc) (Decides-eqb m n)
 
 pub ids_decide : (a b : Uuid) → Decides (of_ids.it a b) (octets a ≡ octets b)
 ids_decide a b = search rules

@@ -14,7 +14,7 @@ use Rattle.std.specs.declared.net.ip_addr.IpAddr.{IpAddr}
 use Rattle.sentry_tables.specs.Cell.{text, truth}
 use Rattle.sentry_tables.specs.Cells.{text_cell, cow_cell, natural_cell, option_cell}
 use Rattle.sentry_tables.specs.Spelling.{word_cell}
-use Rattle.sentry_tables.proofs.Equal.{texts_decide, options_decide, lists_decide}
+use Rattle.sentry_tables.proofs.Equal.{texts_decide, options_decide, lists_decide, naturals_decide}
 use Rattle.sentry_text.specs.Ip.{IsStoredIp, ip_of}
 use Rattle.sentry_text.specs.IpTree.{ip_cell, ip_cell_text}
 use Rattle.sentry_text.proofs.Ips.{written_ip}
@@ -33,7 +33,7 @@ use Rattle.sentry_records.specs.contracts.session_update.SessionUpdatePartialEq.
 use Rattle.sentry_records.specs.declared.session_aggregates.SessionAggregates.{SessionAggregates}
 use Rattle.sentry_records.specs.declared.session_attributes.SessionAttributes.{SessionAttributes}
 use Rattle.sentry_records.specs.declared.session_update.SessionUpdate.{SessionUpdate}
-use Rattle.sentry_records.proofs.Equal.{naturals_decide, ids_decide, moments_decide, words_decide, nth, cells_in, row, groups_decide as items_decide}
+use Rattle.sentry_records.proofs.Equal.{ids_decide, moments_decide, words_decide, nth, cells_in, row, groups_decide as items_decide}
 
 -- ---- scalars
 

@@ -1,12 +1,11 @@
 -- The tables of what traces are sampled by, of sessions, of monitors, of logs and metrics, and of what users say are lawful.
-use Rattle.std.proofs.Common.{◌^◌, false, refl, arith}
-use Rattle.sentry_tables.proofs.Basic.{text_laws, truth_laws, truth_refuses_null, unsigned_laws, unsigned_refuses_null, signed_laws}
-use Rattle.sentry_tables.proofs.ByRows.{laws_by_rows, empty_list_stands, empty_map_stands}
+use Rattle.std.proofs.Common.{◌^◌, refl, arith}
+use Rattle.sentry_tables.proofs.Basic.{text_laws, truth_laws, unsigned_refuses_null, signed_laws, u32_laws, u64_laws}
+use Rattle.sentry_tables.proofs.ByRows.{laws_by_rows, empty_list_stands, empty_map_stands, false_stands}
 use Rattle.sentry_tables.proofs.Laws.{has_laws}
-use Rattle.sentry_tables.specs.Basic.{truth_scalar, unsigned_scalar, signed_scalar}
-use Rattle.sentry_tables.specs.Cell.{truth}
+use Rattle.sentry_tables.specs.Basic.{signed_scalar}
 use Rattle.sentry_tables.specs.Fields.{rows_of}
-use Rattle.sentry_tables.specs.Kind.{at_once, default, always, draw, may_strict, Kind, scalar, list}
+use Rattle.sentry_tables.specs.Kind.{at_once, default, always, draw, may_strict, Kind, list}
 use Rattle.sentry_tables.specs.Laws.{HasLaws}
 use Rattle.sentry_tables.specs.Lawful.{ScalarLaws, IsLawful, RuleLaws}
 use Rattle.sentry_tables.specs.Cells.{natural_cell, empty_list}
@@ -44,12 +43,6 @@ use Rattle.sentry_records.specs.UserReports.{user_report_fields, user_report_kin
 use Rattle.sentry_records.proofs.Attributes.{attribute_lawful}
 
 -- ---- scalars and defaults
-
-u32_laws : ScalarLaws (unsigned_scalar (2 ^ 32))
-u32_laws = unsigned_laws (2 ^ 32) (omega arith)
-
-u64_laws : ScalarLaws (unsigned_scalar (2 ^ 64))
-u64_laws = unsigned_laws (2 ^ 64) (omega arith)
 
 i64_laws : ScalarLaws (signed_scalar (2 ^ 63))
 i64_laws = signed_laws (2 ^ 63) (omega arith)
@@ -101,9 +94,6 @@ measure_lawful = spelled_laws measure_spelling measure_laws
 
 id_drawn : RuleLaws (draw IsRandomUuid) hyphenated_kind
 id_drawn = drawn_uuid_laws hyphenated
-
-false_stands : RuleLaws (default (truth false)) (scalar truth_scalar)
-false_stands = (truth_refuses_null, (tt, tt, tt, refl))
 
 none_stand : RuleLaws (default (natural_cell 0)) (unsigned_kind (2 ^ 32))
 none_stand = (unsigned_refuses_null (2 ^ 32), (omega arith, tt, tt, refl))

@@ -33,9 +33,6 @@ crontab_fields =
 abbrev pub crontab_kind : Kind
 crontab_kind = table_of crontab_fields
 
-abbrev pub crontab_cell : CrontabRows → Cell
-crontab_cell r = fields_by crontab_fields r
-
 pub crontab_in_order : in_order (keys (rows_of crontab_fields)) ≡ true
 unfolding crontab_fields
 crontab_in_order = refl
@@ -50,9 +47,6 @@ interval_fields =
 
 abbrev pub interval_kind : Kind
 interval_kind = table_of interval_fields
-
-abbrev pub interval_cell : IntervalRows → Cell
-interval_cell r = fields_by interval_fields r
 
 pub interval_in_order : in_order (keys (rows_of interval_fields)) ≡ true
 unfolding interval_fields

@@ -1,21 +1,17 @@
 -- The tables of reports and of their items are lawful.
-use Rattle.std.proofs.Common.{◌^◌, refl, arith}
-use Rattle.sentry_tables.proofs.Basic.{unsigned_laws}
+use Rattle.std.proofs.Common.{refl}
+use Rattle.sentry_tables.proofs.Basic.{u64_laws}
 use Rattle.sentry_tables.proofs.ByRows.{laws_by_rows}
 use Rattle.sentry_tables.proofs.Laws.{has_laws}
-use Rattle.sentry_tables.specs.Basic.{unsigned_scalar}
 use Rattle.sentry_tables.specs.Fields.{rows_of}
 use Rattle.sentry_tables.specs.Laws.{HasLaws}
-use Rattle.sentry_tables.specs.Lawful.{ScalarLaws, IsLawful}
+use Rattle.sentry_tables.specs.Lawful.{IsLawful}
 use Rattle.sentry_tables.proofs.Spellings.{spelled_laws}
 use Rattle.sentry_moments.proofs.MomentSpellings.{seconds_laws, seconds_at_once}
 use Rattle.sentry_reports.specs.Categories.{category_kind, category_spelling, reason_kind, reason_spelling}
 use Rattle.sentry_reports.specs.ItemTable.{item_fields, item_kind}
 use Rattle.sentry_reports.specs.Reports.{report_fields, report_kind}
 use Rattle.sentry_reports.proofs.Words.{category_laws, reason_laws}
-
-u64_laws : ScalarLaws (unsigned_scalar (2 ^ 64))
-u64_laws = unsigned_laws (2 ^ 64) (omega arith)
 
 category_lawful : IsLawful category_kind
 category_lawful = spelled_laws category_spelling category_laws

@@ -6,8 +6,7 @@ use Rattle.serde_json.specs.Find.{as_object}
 use Rattle.sentry_tables.specs.Cell.{Cell, fields, Cells, no_cells, cell}
 use Rattle.sentry_tables.specs.Kind.{Rule, Kind, table, Rows, no_rows, row, Other, keys, others}
 use Rattle.sentry_tables.specs.Shows.{RowsShow, members_in}
-use Rattle.sentry_tables.specs.Reading.{Shown, Refused, RowRefused, RowShown, ShownAt, RefusedAt, RowRefusedAt, RowShownAt, Only}
-use Rattle.sentry_rows.specs.Fields.{RowsShown}
+use Rattle.sentry_tables.specs.Reading.{Refused, RowRefused, RowShown, ShownAt, RefusedAt, RowRefusedAt, RowShownAt, Only}
 use Rattle.sentry_tables.specs.declared.error.TreeError.{TreeError}
 use Rattle.sentry_tables.specs.declared.error.TreeError.TheVariants.{Misfit, Memory}
 
@@ -43,23 +42,12 @@ pub shown_now : (now : Cell) (key : List ℕ) (r : Rule) (K : Kind) (d : Data) (
 unfolding RowShownAt RowShown
 shown_now now key r K d c h = h now
 
-rows_show : (now : Cell) (rows : Rows) (d : Data) (cs : Cells) → RowsShown rows d cs → RowsShow rows now d cs
-unfolding RowShown
-rows_show now no_rows d no_cells h = tt
-rows_show now no_rows d (cell c cs) h = absurd h
-rows_show now (row key r K rows) d no_cells h = absurd h
-rows_show now (row key r K rows) d (cell c cs) h = (h.0 now, rows_show now rows d cs h.1)
-
 rows_show_at : (now : Cell) (rows : Rows) (d : Data) (cs : Cells) → RowsShownAt now rows d cs → RowsShow rows now d cs
 unfolding RowShownAt
 rows_show_at now no_rows d no_cells h = tt
 rows_show_at now no_rows d (cell c cs) h = absurd h
 rows_show_at now (row key r K rows) d no_cells h = absurd h
 rows_show_at now (row key r K rows) d (cell c cs) h = (h.0, rows_show_at now rows d cs h.1)
-
-pub shows_table : (rows : Rows) (o : Other) (d : Data) (cs : Cells) (other : Members) → is_some (as_object d) ≡ true → other ≡ others o (keys rows) (members_in d) → RowsShown rows d cs → Shown (table rows o) d (fields cs other)
-unfolding Shown
-shows_table rows o d cs other is rest h now = (is, (rows_show now rows d cs h, rest))
 
 pub shows_table_at : (now : Cell) (rows : Rows) (o : Other) (d : Data) (cs : Cells) (other : Members) → is_some (as_object d) ≡ true → other ≡ others o (keys rows) (members_in d) → RowsShownAt now rows d cs → ShownAt now (table rows o) d (fields cs other)
 unfolding ShownAt

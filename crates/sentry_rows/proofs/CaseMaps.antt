@@ -1,16 +1,16 @@
 -- Maps of values of several cases.
-use Rattle.std.proofs.Common.{◌≡◌, ℕ, List, [], ◌∷◌, Bool, true, false, Some, None, Result, Ok, Err, length, refl, sym, ◌∙◌}
+use Rattle.std.proofs.Common.{◌≡◌, ℕ, List, [], ◌∷◌, Bool, true, false, Some, None, Result, Ok, Err, length, refl}
 use Rattle.std.proofs.Math.Dec.{eqb-suc-zero}
 use Rattle.std.specs.Prelude.{◌==◌, option_and_then}
 use Rattle.serde_json.specs.Data.{Data, Members}
 use Rattle.serde_json.specs.Find.{get, get_member, as_str, as_object}
 use Rattle.sentry_json.specs.Keys.{is_among, are_distinct, StandsAt}
 use Rattle.sentry_json.proofs.Beside.{among}
-use Rattle.sentry_tables.specs.Cell.{Cell, mapping, Entries, same_cell}
+use Rattle.sentry_tables.specs.Cell.{Cell, same_cell}
 use Rattle.sentry_tables.specs.Kind.{map, tagged, tagged_map, Cases, words, tag}
 use Rattle.sentry_tables.specs.Norm.{norm}
-use Rattle.sentry_tables.specs.Shows.{IsMapping, MembersShow, word_at, word_of}
-use Rattle.sentry_tables.proofs.ListsShown.{shown_nowhere}
+use Rattle.sentry_tables.specs.Shows.{MembersShow, word_at, word_of}
+use Rattle.sentry_tables.proofs.ListsShown.{shown_nowhere, mapping_refused}
 use Rattle.sentry_tables.proofs.Sorted.{MapEntry}
 use Rattle.sentry_tables.specs.Cells.{entries, map_cell, empty_map}
 use Rattle.sentry_tables.specs.Made.{made}
@@ -20,7 +20,6 @@ use Rattle.sentry_tables.specs.declared.way.Way.{Way}
 use Rattle.sentry_tables.specs.declared.way.Way.TheVariants.{Same, Normal}
 use Rattle.sentry_tables.specs.declared.error.TreeError.{TreeError}
 use Rattle.sentry_tables.specs.declared.error.TreeError.TheVariants.{Misfit, Memory}
-use Rattle.sentry_writing.proofs.Others.{is_key}
 use Rattle.sentry_rows.specs.Cased.{ReadsCaseAt, ShowsEntry, EntryShownAt, EntryRefusedAt, ReadsEntryAt}
 use Rattle.sentry_rows.proofs.CasesRead.{shown_by_word, refused_by_word}
 use Rattle.sentry_rows.proofs.TagsShown.{other_words, choice_refused, no_case_shows}
@@ -49,10 +48,10 @@ pub tag_there : (k : List ℕ) (ws : List (List ℕ)) (fallback : List ℕ) (d e
 tag_there k ws fallback d e is = rw is refl
 
 pub key_known : (k : List ℕ) (ws : List (List ℕ)) (fallback : List ℕ) (d : Data) (n : ℕ) → get tag d ≡ None → StandsAt k n ws → Some k ≡ word_of (Some (word_at k ws fallback)) d
-key_known k ws fallback d n is at = rw (is, sym (is_key k ws) ∙ among k n ws at) refl
+key_known k ws fallback d n is at = rw (is, among k n ws at) refl
 
 pub key_unknown : (k : List ℕ) (ws : List (List ℕ)) (fallback : List ℕ) (d : Data) → get tag d ≡ None → is_among k ws ≡ false → Some fallback ≡ word_of (Some (word_at k ws fallback)) d
-key_unknown k ws fallback d is none = rw (is, sym (is_key k ws) ∙ none) refl
+key_unknown k ws fallback d is none = rw (is, none) refl
 
 -- ---- a member
 
@@ -65,17 +64,13 @@ module _ (now : Cell) (cases : Cases) (fallback key : List ℕ) where
 
   pub unknown_entry : (word : List ℕ) (d : Data) → Some word ≡ word_of (Some (word_at key (words cases) fallback)) d → is_among word (words cases) ≡ false → EntryRefusedAt now cases fallback key d
   unfolding EntryRefusedAt
-  unknown_entry word d is none c s = choice_refused _ c (λ n x t. other_words now word d cases n x (sym (is_key word (words cases)) ∙ none) (rw (← is) at t)) s.1
+  unknown_entry word d is none c s = choice_refused _ c (λ n x t. other_words now word d cases n x none (rw (← is) at t)) s.1
 
   pub no_entry : (d : Data) → None ≡ word_of (Some (word_at key (words cases) fallback)) d → EntryRefusedAt now cases fallback key d
   unfolding EntryRefusedAt
   no_entry d is c s = choice_refused _ c (λ n x t. no_case_shows cases d now n x (rw (← is) at t)) s.1
 
 -- ---- the map
-
-mapping_refused : (Q : Entries → Type 0) (c : Cell) → ((es : Entries) → Q es → ⊥) → IsMapping Q c → ⊥
-mapping_refused Q (mapping es) f h = f es h
-mapping_refused Q _ f h = h
 
 module _ (now : Cell) (cases : Cases) (fallback : List ℕ) where
   pub no_map : (d : Data) → as_object d ≡ None → RefusedAt now (tagged_map cases fallback) d

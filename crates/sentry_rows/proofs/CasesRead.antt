@@ -11,9 +11,8 @@ use Rattle.sentry_tables.specs.Shows.{Shows, CaseShows, is_object, IsChoice, wor
 use Rattle.sentry_tables.specs.Reading.{Shown, Refused, ShownAt, RefusedAt, Only}
 use Rattle.sentry_tables.specs.declared.error.TreeError.{TreeError}
 use Rattle.sentry_tables.specs.declared.error.TreeError.TheVariants.{Misfit, Memory}
-use Rattle.sentry_writing.proofs.Others.{is_key}
 use Rattle.sentry_rows.specs.Cased.{case_kind, CaseShown, CaseRefused, CaseShownAt, CaseRefusedAt}
-use Rattle.sentry_rows.proofs.TagsShown.{other_words, choice_refused, another_word, another_word_at}
+use Rattle.sentry_rows.proofs.TagsShown.{other_words, choice_refused}
 
 -- ---- by the number of a word
 
@@ -40,7 +39,7 @@ module _ (now : Cell) (word : List ℕ) (d : Data) where
   refuses_at (case w rows o cases) zero zero c once at is refused s = refused c (is, s.1)
   refuses_at (case w rows o cases) zero (suc m) c once at is refused s =
       let p = not_again w (words cases) once in
-      other_words now word d cases m c (rw at (sym (is_key w (words cases)) ∙ p.0)) s
+      other_words now word d cases m c (rw at p.0) s
   refuses_at (case w rows o cases) (suc n) zero c once at is refused s =
       let p = not_again w (words cases) once in
       true≢false (sym (among word n (words cases) at) ∙ rw (same_Some word w s.0) p.0)
@@ -78,9 +77,6 @@ pub case_fails : (cases : Cases) (word : List ℕ) (n : ℕ) (d : Data) (e : Tre
 unfolding CaseRefused Refused
 case_fails cases word n d Misfit is at once h = λ now c s. choice_refused _ c (λ m x t. refuses_at now word d cases n m x once at s.0 (h now) (rw is at t)) s.1
 case_fails cases word n d Memory is at once h = tt
-
-pub unknown_word : (cases : Cases) (word : List ℕ) (d : Data) → word_of None d ≡ Some word → is_among word (words cases) ≡ false → Refused (tagged cases) d
-unknown_word cases word d is none = another_word cases word d is (sym (is_key word (words cases)) ∙ none)
 
 -- ---- at a moment
 
@@ -120,17 +116,3 @@ module _ (now : Cell) where
   unfolding CaseRefusedAt RefusedAt
   case_fails_at cases word n d Misfit is at once h = λ c s. choice_refused _ c (λ m x t. refuses_at now word d cases n m x once at s.0 h (rw is at t)) s.1
   case_fails_at cases word n d Memory is at once h = tt
-
-  pub unknown_word_at : (cases : Cases) (word : List ℕ) (d : Data) → word_of None d ≡ Some word → is_among word (words cases) ≡ false → RefusedAt now (tagged cases) d
-  unknown_word_at cases word d is none = another_word_at now cases word d is (sym (is_key word (words cases)) ∙ none)
-
--- ---- by any word, at a moment
-
-pub shown_by_word : (now : Cell) (cases : Cases) (word : List ℕ) (n : ℕ) (d : Data) (c : Cell) → StandsAt word n (words cases) → CaseShownAt now cases n d c → (is_object d ≡ true) × IsChoice (CaseShows cases now (Some word) d) c
-unfolding CaseShownAt ShownAt
-shown_by_word now cases word n d (choice m x) at h = (is_object_at now word d cases n x at h.1, rw h.0 (shows_at now word d cases n x at h.1))
-shown_by_word now cases word n d _ at h = absurd h
-
-pub refused_by_word : (now : Cell) (cases : Cases) (word : List ℕ) (n : ℕ) (d : Data) (c : Cell) → StandsAt word n (words cases) → are_distinct (words cases) ≡ true → CaseRefusedAt now cases n d → (is_object d ≡ true) × IsChoice (CaseShows cases now (Some word) d) c → ⊥
-unfolding CaseRefusedAt RefusedAt
-refused_by_word now cases word n d c at once h s = choice_refused _ c (λ m x t. refuses_at now word d cases n m x once at s.0 h t) s.1

@@ -5,12 +5,13 @@ use Rattle.serde_json.specs.Data.{Data, Members, no_members}
 use Rattle.serde_json.specs.Find.{as_object, get}
 use Rattle.sentry_tables.specs.Cell.{Cell, Cells, no_cells, cell, fields}
 use Rattle.sentry_tables.specs.Fields.{Field, rows_of, cells_by, table_of, fields_by}
-use Rattle.sentry_tables.specs.Kind.{Rule, must, may, may_null, default, always, Kind, Rows, Other, ignored, kept, table, keys, others, without}
+use Rattle.sentry_tables.specs.Kind.{Rule, must, may, may_null, default, always, Kind, Rows, Other, ignored, kept, table, keys, others}
 use Rattle.sentry_tables.specs.Shows.{Shows, RowShows, RowsShow, AreFields, members_in}
 use Rattle.sentry_tables.specs.Reading.{Shown, RowShown, RowRefused, Reads, ReadsRow, Refused, RowShownAt, RowRefusedAt, ReadsAt, ReadsRowAt, ShownAt, RefusedAt}
 use Rattle.sentry_tables.specs.declared.error.TreeError.{TreeError}
 use Rattle.sentry_tables.specs.declared.error.TreeError.TheVariants.{Misfit, Memory}
 use Rattle.sentry_json.specs.Nodes.{tree_of}
+use Rattle.sentry_json.specs.Keys.{beside}
 use Rattle.sentry_rows.specs.declared.reader.Reader.{Reader}
 use Rattle.sentry_rows.specs.Fields.{Keeps, Ends, ReadsField, ReadsFields, ReadsOthers, ReadsKept, ReadsFieldAt, ReadsFieldsAt, read_of}
 use Rattle.sentry_rows.proofs.RowLemmas.{must_missing_at, must_read_at, default_read, default_read_at}
@@ -86,7 +87,7 @@ module _ {N : Type 0} (data_of : N → Data) where
 
   -- ---- with members of other keys
 
-  others_stay : (names : List (List ℕ)) (others : Members) (a b : Reader N) → ReadsOthers data_of names others a b → b.failed ≡ None → (a.failed ≡ None) × (others ≡ without names (members_in (read_of data_of a)))
+  others_stay : (names : List (List ℕ)) (others : Members) (a b : Reader N) → ReadsOthers data_of names others a b → b.failed ≡ None → (a.failed ≡ None) × (others ≡ beside names (members_in (read_of data_of a)))
   unfolding ReadsOthers
   others_stay names others a b h none = h.1 none
 
@@ -99,11 +100,11 @@ module _ {N : Type 0} (data_of : N → Data) where
   fields_tree [] v a z same = ap (read_of data_of) (sym same)
   fields_tree (f ∷ fs) v a z h = fields_tree fs v h.0 z h.2 ∙ same_tree a h.0 h.1.0
 
-  pub others_kept : {M : Type 0} (names : List (List ℕ)) (read : Result M TreeError) (f : M → Members) (v : M) (a b : Reader N) → IfOk read (λ m. f m ≡ without names (members_in (read_of data_of a))) → IfErr read (λ e. e ≡ Memory) → Keeps read v a b → ReadsOthers data_of names (f v) a b
+  pub others_kept : {M : Type 0} (names : List (List ℕ)) (read : Result M TreeError) (f : M → Members) (v : M) (a b : Reader N) → IfOk read (λ m. f m ≡ beside names (members_in (read_of data_of a))) → IfErr read (λ e. e ≡ Memory) → Keeps read v a b → ReadsOthers data_of names (f v) a b
   unfolding Keeps ReadsOthers
   others_kept names read f v a b ok err k = (
     k.0,
-    λ none. let p = k.1 none in (p.0, subst (λ x. IfOk x (λ m. f m ≡ without names (members_in (read_of data_of a)))) p.1 ok),
+    λ none. let p = k.1 none in (p.0, subst (λ x. IfOk x (λ m. f m ≡ beside names (members_in (read_of data_of a)))) p.1 ok),
     λ misfit. elim (k.2 Misfit misfit) [ inl early ↦ early | inr here ↦ absurd (memory_alone (subst (λ x. IfErr x (λ e. e ≡ Memory)) here err)) ],
   )
 
@@ -205,5 +206,5 @@ module _ {N : Type 0} (data_of : N → Data) where
       let names = reserved ++ keys (rows_of fs) in
       every (table (rows_of fs) (kept reserved)) (λ w. fields (cells_by fs w) (others_of w)) d r (λ now.
       answered_at now fs (kept reserved) others_of v a h.0 z d r is (fields_now now fs v a h.0 h.1) none
-      (λ end. let rest = others_stay names (others_of v) h.0 z h.2 end in (rest.0, rest.1 ∙ ap (λ t. without names (members_in t)) (fields_tree fs v a h.0 h.1 ∙ is)))
+      (λ end. let rest = others_stay names (others_of v) h.0 z h.2 end in (rest.0, rest.1 ∙ ap (λ t. beside names (members_in t)) (fields_tree fs v a h.0 h.1 ∙ is)))
       (others_fit names (others_of v) h.0 z h.2) ends)

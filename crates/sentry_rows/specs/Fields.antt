@@ -1,10 +1,11 @@
 -- What a reader of a table's rows has read.
-use Rattle.std.specs.Prelude.{◌≡◌, ◌⊎◌, List, [], ◌∷◌, ℕ, Some, None, Result, Ok, Err, ⊤}
+use Rattle.std.specs.Prelude.{◌≡◌, ◌⊎◌, List, [], ◌∷◌, ℕ, Some, None, Result, Ok, Err}
 use Rattle.serde_json.specs.Data.{Data, Members}
 use Rattle.sentry_json.specs.Nodes.{tree_of}
-use Rattle.sentry_tables.specs.Cell.{Cell, Cells, no_cells, cell}
+use Rattle.sentry_json.specs.Keys.{beside}
+use Rattle.sentry_tables.specs.Cell.{Cell}
 use Rattle.sentry_tables.specs.Fields.{Field}
-use Rattle.sentry_tables.specs.Kind.{Rule, Kind, Rows, no_rows, row, without}
+use Rattle.sentry_tables.specs.Kind.{Rule, Kind}
 use Rattle.sentry_tables.specs.Shows.{members_in}
 use Rattle.sentry_tables.specs.Reading.{RowShown, RowRefused, RowShownAt, RowRefusedAt}
 use Rattle.sentry_tables.specs.declared.error.TreeError.{TreeError}
@@ -35,16 +36,10 @@ abbrev pub ReadsFields : {A N : Type 0} → (N → Data) → List (Field A) → 
 ReadsFields data_of [] v a z = a ≡ z
 ReadsFields {A} {N} data_of (f ∷ fs) v a z = (b : Reader N) × ReadsField data_of f.key f.rule f.kind (f.part v) a b × ReadsFields data_of fs v b z
 
-abbrev pub RowsShown : Rows → Data → Cells → Type 0
-RowsShown no_rows d no_cells = ⊤
-RowsShown no_rows d (cell c cs) = ⊥
-RowsShown (row key r K rows) d no_cells = ⊥
-RowsShown (row key r K rows) d (cell c cs) = RowShown key r K d c × RowsShown rows d cs
-
 -- while nothing fails these are the members of other keys; no misfit comes of them
 unfoldable pub ReadsOthers : {N : Type 0} → (N → Data) → List (List ℕ) → Members → Reader N → Reader N → Type 0
 ReadsOthers data_of names others a b =
-    (b.object ≡ a.object) × (b.failed ≡ None → (a.failed ≡ None) × (others ≡ without names (members_in (read_of data_of a)))) × (b.failed ≡ Some Misfit → a.failed ≡ Some Misfit)
+    (b.object ≡ a.object) × (b.failed ≡ None → (a.failed ≡ None) × (others ≡ beside names (members_in (read_of data_of a)))) × (b.failed ≡ Some Misfit → a.failed ≡ Some Misfit)
 
 -- each row of the table was read, and then the members of other keys
 abbrev pub ReadsKept : {A N : Type 0} → (N → Data) → List (Field A) → List (List ℕ) → A → Members → Reader N → Reader N → Type 0

@@ -152,7 +152,7 @@ impl<T: Cased> Codec<T> for AsCase {
 }
 
 impl<T: ReadCased> ReadCodec<T> for AsCase {
-    #[tactic(auto, using(crate::proofs::CasesRead::case_read, crate::proofs::CasesRead::case_fails, crate::proofs::CasesRead::unknown_word, crate::proofs::TagsShown::no_word))]
+    #[tactic(auto, using(crate::proofs::CasesRead::case_read, crate::proofs::CasesRead::case_fails, crate::proofs::TagsShown::another_word, crate::proofs::TagsShown::no_word))]
     fn from_node<N: Node>(alloc: Global, node: &N) -> Result<T, TreeError> {
         let Some(word) = tag(node) else {
             return Err(TreeError::Misfit);
@@ -165,7 +165,7 @@ impl<T: ReadCased> ReadCodec<T> for AsCase {
 }
 
 impl<T: ReadCasedAt> ReadCodecAt<T> for AsCase {
-    #[tactic(auto, using(crate::proofs::CasesRead::case_read_at, crate::proofs::CasesRead::case_fails_at, crate::proofs::CasesRead::unknown_word_at, crate::proofs::TagsShown::no_word_at))]
+    #[tactic(auto, using(crate::proofs::CasesRead::case_read_at, crate::proofs::CasesRead::case_fails_at, crate::proofs::TagsShown::another_word_at, crate::proofs::TagsShown::no_word_at))]
     fn from_node<N: Node, R: Rng>(
         alloc: Global,
         node: &N,

@@ -3,8 +3,9 @@
 ghost use Rattle.std.specs.Prelude.{◌≡◌, IfOk, IfErr, map as map_list};
 ghost use Rattle.serde_json.specs.View.{members_view};
 ghost use Rattle.sentry_json.specs.Nodes.{tree_of};
+ghost use Rattle.sentry_json.specs.Keys.{beside};
 ghost use Rattle.sentry_tables.specs.Cell.{text};
-ghost use Rattle.sentry_tables.specs.Kind.{must, may, may_strict, default as default_rule, without};
+ghost use Rattle.sentry_tables.specs.Kind.{must, may, may_strict, default as default_rule};
 ghost use Rattle.sentry_tables.specs.Shows.{members_in};
 ghost use Rattle.sentry_tables.specs.Cells.{text_cell, option_cell};
 ghost use Rattle.sentry_tables.specs.Kinds.{text_kind};
@@ -115,7 +116,6 @@ pub(crate) fn made_as<F: MadeCodec<T>, T, N: Node>(
 }
 
 // Reads the members whose keys are none of `names`.
-#[tactic(auto, using(sentry_writing::proofs::Others::members_left))]
 #[inline(always)]
 pub(crate) fn others<N: Node>(
     alloc: Global,
@@ -123,7 +123,7 @@ pub(crate) fn others<N: Node>(
     names: &[&str],
 ) -> Result<Map<String, Value>, TreeError>
     ensures ok { IfOk result (λ m. members_view m.entries
-        ≡ without (map_list (λ name.
+        ≡ beside (map_list (λ name.
         name.now) names.now) (members_in (tree_of N.data_of object.now))) }
     ensures err { IfErr result (λ e. e ≡ Memory) }
 {

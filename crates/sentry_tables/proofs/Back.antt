@@ -5,8 +5,10 @@ use Rattle.std.specs.Prelude.{⊤}
 use Rattle.serde_json.specs.Data.{Data, boolean, number, string, array, object, Members, put}
 use Rattle.serde_json.specs.Find.{get_member}
 use Rattle.serde_json.proofs.Views.{get_member-put, get_member-put_other}
+use Rattle.sentry_json.specs.Keys.{is_among, beside}
+use Rattle.sentry_json.proofs.Beside.{beside_named}
 use Rattle.sentry_tables.specs.Cell.{Cell, absent, present, sequence, mapping, fields, choice, Cells, no_cells, cell, Entries, no_entries, entry, same_cell}
-use Rattle.sentry_tables.specs.Kind.{Rule, must, may, may_null, may_strict, default, always, draw, at_once, Other, ignored, kept, Kind, scalar, list, map, values, table, tagged, tagged_map, Rows, no_rows, row, Cases, no_cases, case, keys, words, tag, has_key, without, others}
+use Rattle.sentry_tables.specs.Kind.{Rule, must, may, may_null, may_strict, default, always, draw, at_once, Other, ignored, kept, Kind, scalar, list, map, values, table, tagged, tagged_map, Rows, no_rows, row, Cases, no_cases, case, keys, words, tag, others}
 use Rattle.sentry_tables.specs.Shows.{is_object, ObjectShows, IsSequence, IsMapping, IsChoice, ItemsShow, MembersShow, ArrayShows, unless_null_at, ShowsOption, RowShows, OrElse, word_at, word_or, word_of, Shows, RowsShow, CaseShows}
 use Rattle.sentry_tables.specs.Norm.{cells_of, entries_of, which, chosen, each_cell, each_entry, row_norm, is_null_of, norm, rows_norm, case_norm}
 use Rattle.sentry_tables.specs.Written.{is_null, items_tree, members_tree, row_tree, put_given, tree, rows_tree, case_tree}
@@ -14,7 +16,7 @@ use Rattle.sentry_tables.specs.Meets.{AllCells, AllEntries, AreOrderedTexts, ent
 use Rattle.sentry_tables.specs.Lawful.{KeepsTag, IsLawful, RowsLawful, CasesLawful}
 use Rattle.sentry_tables.proofs.Nulls.{null_tree}
 use Rattle.sentry_tables.proofs.Proper.{proper_stored}
-use Rattle.sentry_tables.proofs.Members.{MayStand, same_cell_is, apart, has_key_here, has_key_later, has_key_after, has_key_before, get-put_given, get-put_given_other, without-put, without-put_given, without-clear, get-may_stand}
+use Rattle.sentry_tables.proofs.Members.{MayStand, same_cell_is, apart, is_among_here, is_among_later, is_among_after, is_among_before, get-put_given, get-put_given_other, beside-put_given, beside-clear, get-may_stand}
 
 -- ---- one level, forwards
 
@@ -75,49 +77,49 @@ not_later true b h = absurd (true≢false h)
 not_later false b h = h
 
 -- a key of no row has what it had before
-pub no_row : (rows : Rows) (k : List ℕ) (cs : Cells) (ms : Members) → has_key k (keys rows) ≡ false → get_member k (rows_tree rows cs ms) ≡ get_member k ms
+pub no_row : (rows : Rows) (k : List ℕ) (cs : Cells) (ms : Members) → is_among k (keys rows) ≡ false → get_member k (rows_tree rows cs ms) ≡ get_member k ms
 no_row no_rows k cs ms e = refl
 no_row (row l r K rows) k no_cells ms e = refl
 no_row (row l r K rows) k (cell c cs) ms e =
     no_row rows k cs (put_given l (row_tree r (tree K) (norm K) c) ms) (not_later _ _ e)
-    ∙ get-put_given_other k l (row_tree r (tree K) (norm K) c) ms (λ same. false≢true (sym e ∙ ap (λ j. has_key j (l ∷ keys rows)) same ∙ has_key_here l (keys rows)))
+    ∙ get-put_given_other k l (row_tree r (tree K) (norm K) c) ms (λ same. false≢true (sym e ∙ ap (λ j. is_among j (l ∷ keys rows)) same ∙ is_among_here l (keys rows)))
 
-all_rows : (rows : Rows) (ks : List (List ℕ)) (cs : Cells) (ms : Members) → ((k : List ℕ) → has_key k (keys rows) ≡ true → has_key k ks ≡ true) → without ks (rows_tree rows cs ms) ≡ without ks ms
+all_rows : (rows : Rows) (ks : List (List ℕ)) (cs : Cells) (ms : Members) → ((k : List ℕ) → is_among k (keys rows) ≡ true → is_among k ks ≡ true) → beside ks (rows_tree rows cs ms) ≡ beside ks ms
 all_rows no_rows ks cs ms all = refl
 all_rows (row l r K rows) ks no_cells ms all = refl
 all_rows (row l r K rows) ks (cell c cs) ms all =
-    all_rows rows ks cs (put_given l (row_tree r (tree K) (norm K) c) ms) (λ k h. all k (has_key_later k l (keys rows) h))
-    ∙ without-put_given ks l (row_tree r (tree K) (norm K) c) ms (all l (has_key_here l (keys rows)))
+    all_rows rows ks cs (put_given l (row_tree r (tree K) (norm K) c) ms) (λ k h. all k (is_among_later k l (keys rows) h))
+    ∙ beside-put_given ks l (row_tree r (tree K) (norm K) c) ms (all l (is_among_here l (keys rows)))
 
 pub others_back : (o : Other) (rows : Rows) (cs : Cells) (other : Members) → MayStand o (keys rows) other → others o (keys rows) (rows_tree rows cs other) ≡ other
 others_back ignored rows cs other h = sym h.0
 others_back (kept reserved) rows cs other h =
-    all_rows rows (reserved ++ keys rows) cs other (λ k e. has_key_after k reserved (keys rows) e) ∙ without-clear (reserved ++ keys rows) other h.1
+    all_rows rows (reserved ++ keys rows) cs other (λ k e. is_among_after k reserved (keys rows) e) ∙ beside-clear (reserved ++ keys rows) other h.1
 
 -- the same beside a tag
 pub others_tagged : (o : Other) (rows : Rows) (cs : Cells) (other : Members) (d : Data) → KeepsTag o → MayStand o (keys rows) other → others o (keys rows) (rows_tree rows cs (put tag d other)) ≡ other
 others_tagged ignored rows cs other d k h = sym h.0
 others_tagged (kept reserved) rows cs other d k h =
-    all_rows rows (reserved ++ keys rows) cs (put tag d other) (λ j e. has_key_after j reserved (keys rows) e)
-    ∙ without-put (reserved ++ keys rows) tag d other (has_key_before tag reserved (keys rows) k) ∙ without-clear (reserved ++ keys rows) other h.1
+    all_rows rows (reserved ++ keys rows) cs (put tag d other) (λ j e. is_among_after j reserved (keys rows) e)
+    ∙ beside_named (reserved ++ keys rows) tag d other (is_among_before tag reserved (keys rows) k) ∙ beside-clear (reserved ++ keys rows) other h.1
 
 -- none of the keys stands there
 abbrev pub Lacks : List (List ℕ) → Members → Type 0
-Lacks ks ms = (k : List ℕ) → has_key k ks ≡ true → get_member k ms ≡ None
+Lacks ks ms = (k : List ℕ) → is_among k ks ≡ true → get_member k ms ≡ None
 
 -- what is found at the first row, and that the later keys are still free
-module _ (k : List ℕ) (o : Option Data) (rows : Rows) (cs : Cells) (ms : Members) (new : has_key k (keys rows) ≡ false) (free : Lacks (k ∷ keys rows) ms) where
+module _ (k : List ℕ) (o : Option Data) (rows : Rows) (cs : Cells) (ms : Members) (new : is_among k (keys rows) ≡ false) (free : Lacks (k ∷ keys rows) ms) where
   pub found : get_member k (rows_tree rows cs (put_given k o ms)) ≡ o
-  found = no_row rows k cs (put_given k o ms) new ∙ get-put_given k o ms (free k (has_key_here k (keys rows)))
+  found = no_row rows k cs (put_given k o ms) new ∙ get-put_given k o ms (free k (is_among_here k (keys rows)))
 
   pub free_later : Lacks (keys rows) (put_given k o ms)
-  free_later j h = get-put_given_other j k o ms (apart k (keys rows) j new h) ∙ free j (has_key_later j k (keys rows) h)
+  free_later j h = get-put_given_other j k o ms (apart k (keys rows) j new h) ∙ free j (is_among_later j k (keys rows) h)
 
 -- the same beside a tag
-pub free_tagged : (o : Other) (ks : List (List ℕ)) (other : Members) (d : Data) → has_key tag ks ≡ false → MayStand o ks other → Lacks ks (put tag d other)
+pub free_tagged : (o : Other) (ks : List (List ℕ)) (other : Members) (d : Data) → is_among tag ks ≡ false → MayStand o ks other → Lacks ks (put tag d other)
 free_tagged o ks other d new h k e = get_member-put_other k tag d other (apart tag ks k new e) ∙ get-may_stand o ks k other e h
 
-pub tag_found : (rows : Rows) (cs : Cells) (other : Members) (d : Data) → has_key tag (keys rows) ≡ false → get_member tag (rows_tree rows cs (put tag d other)) ≡ Some d
+pub tag_found : (rows : Rows) (cs : Cells) (other : Members) (d : Data) → is_among tag (keys rows) ≡ false → get_member tag (rows_tree rows cs (put tag d other)) ≡ Some d
 tag_found rows cs other d new = no_row rows tag cs (put tag d other) new ∙ get_member-put tag d other
 
 -- ---- the written tree shows the normal form

@@ -225,7 +225,7 @@ pair_laws =
 -- ---- trees
 
 -- a stored cell is a tree
-tree_holds : (P : Cell → Type 0) → ((d : Data) → P (any d)) → (c : Cell) → IsTree c → P c
+pub tree_holds : (P : Cell → Type 0) → ((d : Data) → P (any d)) → (c : Cell) → IsTree c → P c
 tree_holds P f (any d) p = f d
 tree_holds P f _ p = absurd p
 

@@ -1,9 +1,10 @@
 -- A table is lawful row by row.
 use Rattle.std.proofs.Common.{◌≡◌, ◌&&◌, List, [], ◌∷◌, ℕ, Bool, true, false, refl}
 use Rattle.std.proofs.lemmas.Bool.{and_parts}
+use Rattle.sentry_json.specs.Keys.{is_among}
 use Rattle.sentry_tables.specs.Basic.{truth_scalar}
 use Rattle.sentry_tables.specs.Cell.{sequence, mapping, no_cells, no_entries, truth}
-use Rattle.sentry_tables.specs.Kind.{default, always, Kind, scalar, list, map, values, Rows, no_rows, row, keys, has_key}
+use Rattle.sentry_tables.specs.Kind.{default, always, Kind, scalar, list, map, values, Rows, no_rows, row, keys}
 use Rattle.sentry_tables.specs.Lawful.{is_ascii, RuleLaws, IsLawful, RowsLawful}
 use Rattle.sentry_tables.proofs.Basic.{truth_refuses_null}
 
@@ -14,7 +15,7 @@ is_new false = true
 
 abbrev pub are_keys : List (List ℕ) → Bool
 are_keys [] = true
-are_keys (k ∷ ks) = (is_ascii k && is_new (has_key k ks)) && are_keys ks
+are_keys (k ∷ ks) = (is_ascii k && is_new (is_among k ks)) && are_keys ks
 
 -- what each row owes by itself
 abbrev pub EachLawful : Rows → Type 0

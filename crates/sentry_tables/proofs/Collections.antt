@@ -22,8 +22,6 @@ use Rattle.sentry_tables.specs.Cells.{cells, entries, list_cell, map_cell, tree_
 use Rattle.sentry_tables.specs.Writes.{written, WritesTree, WritesItems, WritesMembers}
 use Rattle.sentry_tables.proofs.Tokens.{array_wrote, object_wrote}
 
--- ---- keys in order
-
 -- ---- trees
 
 written_more : {A : Type 0} (w : Cell → Data) (f : A → Cell) (vs : List Value) (v : Value) (xs : List A) (x : A) → items_view vs ≡ items_tree w (cells f xs) → view v ≡ w (f x)

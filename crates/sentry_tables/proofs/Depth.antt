@@ -13,7 +13,7 @@ use Rattle.sentry_tables.specs.Norm.{cells_of, entries_of, which, chosen, each_c
 use Rattle.sentry_tables.specs.Written.{items_tree, members_tree, optional_tree, row_tree, put_given, tree, rows_tree, case_tree}
 use Rattle.sentry_tables.specs.Meets.{AllCells, AllEntries, AreOrderedTexts, entry_keys, RowMeets, proper_demand, RowsMeet, CaseMeets, IsProper}
 use Rattle.sentry_tables.specs.Lawful.{IsLawful, RowsLawful, CasesLawful}
-use Rattle.sentry_tables.proofs.Members.{has_key_here, get-may_stand}
+use Rattle.sentry_tables.proofs.Members.{is_among_here, get-may_stand}
 use Rattle.sentry_tables.proofs.Back.{Lacks, free_later, free_tagged}
 use Rattle.sentry_tables.proofs.Normal.{again}
 
@@ -59,7 +59,7 @@ rows_tree_depth (row k r K rows) laws no_cells ms free = sym (zero-max (members_
 rows_tree_depth (row k r K rows) laws (cell c cs) ms free =
     let o = row_tree r (tree K) (norm K) c in
     rows_tree_depth rows laws.3 cs (put_given k o ms) (free_later k o rows cs ms laws.0 free)
-    ∙ ap (max (rows_depth rows cs)) (put_given_depth k o ms (free k (has_key_here k (keys rows))))
+    ∙ ap (max (rows_depth rows cs)) (put_given_depth k o ms (free k (is_among_here k (keys rows))))
     ∙ max_first (rows_depth rows cs) (given_depth o) (members_depth ms)
 
 -- ---- one level

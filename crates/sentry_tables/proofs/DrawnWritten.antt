@@ -3,15 +3,16 @@ use Rattle.std.proofs.Common.{◌≡◌, ℕ, zero, suc, List, ◌∷◌, Bool, 
 use Rattle.std.proofs.lemmas.Bool.{false≢true}
 use Rattle.std.proofs.lemmas.Option.{same_Some}
 use Rattle.serde_json.specs.Data.{Data, null, boolean, number, string, array, object, Members, put}
+use Rattle.sentry_json.specs.Keys.{is_among}
 use Rattle.sentry_tables.specs.Cell.{Cell, absent, present, sequence, mapping, fields, choice, Cells, no_cells, cell, Entries, no_entries, entry, same_cell}
-use Rattle.sentry_tables.specs.Kind.{Rule, must, may, may_null, may_strict, default, always, draw, at_once, Kind, scalar, list, map, values, table, tagged, tagged_map, Rows, no_rows, row, Cases, no_cases, case, keys, words, tag, has_key}
+use Rattle.sentry_tables.specs.Kind.{Rule, must, may, may_null, may_strict, default, always, draw, at_once, Kind, scalar, list, map, values, table, tagged, tagged_map, Rows, no_rows, row, Cases, no_cases, case, keys, words, tag}
 use Rattle.sentry_tables.specs.Shows.{IsSequence, IsMapping, IsChoice, unless_null_at, word_at, word_or, word_of}
 use Rattle.sentry_tables.specs.Norm.{cells_of, entries_of, which, chosen, norm}
 use Rattle.sentry_tables.specs.Written.{items_tree, members_tree, row_tree, put_given, tree, rows_tree, case_tree}
 use Rattle.sentry_tables.specs.Meets.{AllCells, AllEntries, RowMeets, proper_demand, RowsMeet, CaseMeets, IsProper}
 use Rattle.sentry_tables.specs.Lawful.{IsLawful, RowsLawful, CasesLawful}
 use Rattle.sentry_tables.specs.Drawn.{IfGiven, EachItem, EachMember, InArray, InObject, RowHolds, NothingDrawn, RowsDrawNothing, CasesDrawNothing}
-use Rattle.sentry_tables.proofs.Members.{has_key_here, has_key_later, get-may_stand}
+use Rattle.sentry_tables.proofs.Members.{is_among_here, is_among_later, get-may_stand}
 use Rattle.sentry_tables.proofs.Back.{Lacks, found, free_later, free_tagged, tag_found}
 
 -- ---- one level
@@ -63,22 +64,22 @@ module _ (Q : List ℕ → Data → Type 0) (f : Cell → Data) (M : Cell → Ty
   mapping_drawn A _ m = absurd m
 
 -- a word of none of the cases
-other_words : (cases : Cases) (word : Option (List ℕ)) (w : List ℕ) (d : Data) → word ≡ Some w → has_key w (words cases) ≡ false → CasesDrawNothing cases word d
+other_words : (cases : Cases) (word : Option (List ℕ)) (w : List ℕ) (d : Data) → word ≡ Some w → is_among w (words cases) ≡ false → CasesDrawNothing cases word d
 other_words no_cases word w d is new = tt
 other_words (case v rows o cases) word w d is new = (
-  λ also. absurd (false≢true (sym new ∙ subst (λ u. has_key u (v ∷ words cases) ≡ true) (same_Some v w (sym also ∙ is)) (has_key_here v (words cases)))),
-  other_words cases word w d is (later (has_key w (words cases)) refl),
+  λ also. absurd (false≢true (sym new ∙ subst (λ u. is_among u (v ∷ words cases) ≡ true) (same_Some v w (sym also ∙ is)) (is_among_here v (words cases)))),
+  other_words cases word w d is (later (is_among w (words cases)) refl),
 )
   where
-    later : (b : Bool) → has_key w (words cases) ≡ b → has_key w (words cases) ≡ false
-    later true same = absurd (false≢true (sym new ∙ has_key_later w v (words cases) same))
+    later : (b : Bool) → is_among w (words cases) ≡ b → is_among w (words cases) ≡ false
+    later true same = absurd (false≢true (sym new ∙ is_among_later w v (words cases) same))
     later false apart = apart
 
 -- a word of the cases, and of its case the rows draw nothing
 record IsCaseDrawn (cases : Cases) (word : Option (List ℕ)) (d : Data) : Type 0 where
   is_word : List ℕ
   is : word ≡ Some is_word
-  known : has_key is_word (words cases) ≡ true
+  known : is_among is_word (words cases) ≡ true
   nothing : CasesDrawNothing cases word d
 
 choice_drawn : (cases : Cases) (implied : List ℕ) → ((n : ℕ) (c : Cell) → CaseMeets proper_demand cases n c → CasesDrawNothing cases (word_of (Some implied) (object (case_tree cases n c))) (object (case_tree cases n c)))
@@ -121,7 +122,7 @@ mutual
       record {
         is_word = w;
         is = is;
-        known = has_key_here w (words cases);
+        known = is_among_here w (words cases);
         nothing = (λ same. rows_drawn rows laws.3 cs (put tag (string w) other) (free_tagged o (keys rows) other (string w) laws.1 m.1) m.0, other_words cases (word_of implied d) w d is laws.0);
       }
   case_drawn (case w rows o cases) laws implied zero _ m = absurd m
@@ -130,6 +131,6 @@ mutual
       record {
         is_word = rest.is_word;
         is = rest.is;
-        known = has_key_later rest.is_word w (words cases) rest.known;
-        nothing = (λ same. absurd (false≢true (sym laws.0 ∙ subst (λ u. has_key u (words cases) ≡ true) (same_Some rest.is_word w (sym rest.is ∙ same)) rest.known)), rest.nothing);
+        known = is_among_later rest.is_word w (words cases) rest.known;
+        nothing = (λ same. absurd (false≢true (sym laws.0 ∙ subst (λ u. is_among u (words cases) ≡ true) (same_Some rest.is_word w (sym rest.is ∙ same)) rest.known)), rest.nothing);
       }

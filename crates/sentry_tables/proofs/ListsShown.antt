@@ -43,7 +43,7 @@ sequence_refused : (Q : Cells → Type 0) (c : Cell) → ((cs : Cells) → Q cs 
 sequence_refused Q (sequence cs) f h = f cs h
 sequence_refused Q _ f h = h
 
-mapping_refused : (Q : Entries → Type 0) (c : Cell) → ((es : Entries) → Q es → ⊥) → IsMapping Q c → ⊥
+pub mapping_refused : (Q : Entries → Type 0) (c : Cell) → ((es : Entries) → Q es → ⊥) → IsMapping Q c → ⊥
 mapping_refused Q (mapping es) f h = f es h
 mapping_refused Q _ f h = h
 

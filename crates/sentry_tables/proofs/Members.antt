@@ -1,16 +1,18 @@
 -- Members: what is put, looked up, and left out. And the test of cells.
-use Rattle.std.proofs.Common.{◌≡◌, ℕ, pos, negsuc, List, [], ◌∷◌, ◌++◌, Bool, true, false, cond, ◌||◌, Option, Some, None, Ordering, Less, Equal, Greater, nat_cmp, bytes_eq, is_eq, refl, sym, ap, ap₂, ◌∙◌, subst, true≢false}
+use Rattle.std.proofs.Common.{◌≡◌, ℕ, pos, negsuc, List, [], ◌∷◌, ◌++◌, Bool, true, false, cond, ◌||◌, Option, Some, None, Ordering, Less, Equal, Greater, nat_cmp, bytes_eq, is_eq, refl, sym, ap, ap₂, ◌∙◌, true≢false}
 use Rattle.std.proofs.lemmas.Bool.{and_parts, eqb-true, false≢true}
 use Rattle.std.proofs.lemmas.Slice.Eq.{bytes_eq-Decides}
 use Rattle.std.proofs.lemmas.Map.Text.{is_eq-slice_cmp}
 use Rattle.std.specs.Ordering.{match_ordering}
 use Rattle.std.specs.Cmp.Lexicographic.{slice_cmp}
-use Rattle.serde_json.specs.Data.{Data, Members, no_members, member, put}
+use Rattle.serde_json.specs.Data.{Data, Members, no_members, member}
 use Rattle.serde_json.specs.Find.{get_member}
 use Rattle.serde_json.proofs.Views.{get_member-put, get_member-put_other}
 use Rattle.serde_json.specs.Written.{members_have_float}
+use Rattle.sentry_json.specs.Keys.{is_among, beside}
+use Rattle.sentry_json.proofs.Beside.{beside_named}
 use Rattle.sentry_tables.specs.Cell.{Cell, absent, present, text, octets, truth, whole, moment, sequence, mapping, fields, choice, Cells, no_cells, cell, Entries, no_entries, entry, same_cell, same_cells, same_entries}
-use Rattle.sentry_tables.specs.Kind.{Other, ignored, kept, has_key, without, others}
+use Rattle.sentry_tables.specs.Kind.{Other, ignored, kept, others}
 use Rattle.sentry_tables.specs.Written.{put_given}
 use Rattle.sentry_tables.specs.Meets.{IsClear, StandsApart, IsKept}
 
@@ -56,11 +58,8 @@ mutual
 
 -- ---- keys
 
-has_key_apart : (k : List ℕ) (ks : List (List ℕ)) (j : List ℕ) → has_key k ks ≡ false → has_key j ks ≡ true → j ≡ k → ⊥
-has_key_apart k ks j e f same = false≢true (sym e ∙ ap (λ l. has_key l ks) (sym same) ∙ f)
-
-pub apart : (k : List ℕ) (ks : List (List ℕ)) (j : List ℕ) → has_key k ks ≡ false → has_key j ks ≡ true → j ≡ k → ⊥
-apart = has_key_apart
+pub apart : (k : List ℕ) (ks : List (List ℕ)) (j : List ℕ) → is_among k ks ≡ false → is_among j ks ≡ true → j ≡ k → ⊥
+apart k ks j e f same = false≢true (sym e ∙ ap (λ l. is_among l ks) (sym same) ∙ f)
 
 either_true : (a b : Bool) → b ≡ true → (a || b) ≡ true
 either_true true b e = refl
@@ -70,21 +69,21 @@ first_true : (a b : Bool) → a ≡ true → (a || b) ≡ true
 first_true true b e = refl
 first_true false b e = absurd (false≢true e)
 
-pub has_key_here : (k : List ℕ) (ks : List (List ℕ)) → has_key k (k ∷ ks) ≡ true
-has_key_here k ks = first_true _ _ (same_itself k)
+pub is_among_here : (k : List ℕ) (ks : List (List ℕ)) → is_among k (k ∷ ks) ≡ true
+is_among_here k ks = first_true _ _ (same_itself k)
 
-pub has_key_later : (j k : List ℕ) (ks : List (List ℕ)) → has_key j ks ≡ true → has_key j (k ∷ ks) ≡ true
-has_key_later j k ks e = either_true _ _ e
+pub is_among_later : (j k : List ℕ) (ks : List (List ℕ)) → is_among j ks ≡ true → is_among j (k ∷ ks) ≡ true
+is_among_later j k ks e = either_true _ _ e
 
-pub has_key_after : (j : List ℕ) (reserved ks : List (List ℕ)) → has_key j ks ≡ true → has_key j (reserved ++ ks) ≡ true
-has_key_after j [] ks e = e
-has_key_after j (r ∷ reserved) ks e = either_true _ _ (has_key_after j reserved ks e)
+pub is_among_after : (j : List ℕ) (reserved ks : List (List ℕ)) → is_among j ks ≡ true → is_among j (reserved ++ ks) ≡ true
+is_among_after j [] ks e = e
+is_among_after j (r ∷ reserved) ks e = either_true _ _ (is_among_after j reserved ks e)
 
-pub has_key_before : (j : List ℕ) (reserved ks : List (List ℕ)) → has_key j reserved ≡ true → has_key j (reserved ++ ks) ≡ true
-has_key_before j [] ks e = absurd (false≢true e)
-has_key_before j (r ∷ reserved) ks e = go (bytes_eq j r) (has_key_before j reserved ks) e
+pub is_among_before : (j : List ℕ) (reserved ks : List (List ℕ)) → is_among j reserved ≡ true → is_among j (reserved ++ ks) ≡ true
+is_among_before j [] ks e = absurd (false≢true e)
+is_among_before j (r ∷ reserved) ks e = go (bytes_eq j r) (is_among_before j reserved ks) e
   where
-    go : (b : Bool) → (has_key j reserved ≡ true → has_key j (reserved ++ ks) ≡ true) → (b || has_key j reserved) ≡ true → (b || has_key j (reserved ++ ks)) ≡ true
+    go : (b : Bool) → (is_among j reserved ≡ true → is_among j (reserved ++ ks) ≡ true) → (b || is_among j reserved) ≡ true → (b || is_among j (reserved ++ ks)) ≡ true
     go true f h = refl
     go false f h = f h
 
@@ -95,14 +94,14 @@ skipped Less a b e = refl
 skipped Equal a b e = absurd (true≢false e)
 skipped Greater a b e = refl
 
-pub get-clear : (ks : List (List ℕ)) (k : List ℕ) (ms : Members) → has_key k ks ≡ true → IsClear ks ms → get_member k ms ≡ None
+pub get-clear : (ks : List (List ℕ)) (k : List ℕ) (ms : Members) → is_among k ks ≡ true → IsClear ks ms → get_member k ms ≡ None
 get-clear ks k no_members e h = refl
 get-clear ks k (member l d ms) e h =
     let other : bytes_eq k l ≡ false = go (bytes_eq k l) refl in
     skipped (slice_cmp nat_cmp k l) (get_member k ms) (Some d) (is_eq-slice_cmp k l ∙ other) ∙ get-clear ks k ms e h.1
   where
     go : (b : Bool) → bytes_eq k l ≡ b → bytes_eq k l ≡ false
-    go true f = absurd (has_key_apart l ks k h.0 e (same_bytes k l f))
+    go true f = absurd (apart l ks k h.0 e (same_bytes k l f))
     go false f = f
 
 pub get-put_given : (k : List ℕ) (o : Option Data) (ms : Members) → get_member k ms ≡ None → get_member k (put_given k o ms) ≡ o
@@ -115,50 +114,34 @@ get-put_given_other j k (Some d) ms other = get_member-put_other j k d ms other
 
 -- ---- what is left out
 
-dropped : (b : Bool) (k : List ℕ) (d : Data) (ms : Members) → b ≡ true → cond b ms (member k d ms) ≡ ms
-dropped b k d ms e = rw e
-
 stays : (b : Bool) (k : List ℕ) (d : Data) (ms : Members) → b ≡ false → cond b ms (member k d ms) ≡ member k d ms
 stays b k d ms e = rw e
 
-without-put_at : (ks : List (List ℕ)) (o : Ordering) (k l : List ℕ) (d e : Data) (ms : Members) → slice_cmp nat_cmp k l ≡ o → has_key k ks ≡ true → without ks (put k d ms) ≡ without ks ms
-    → without ks (match_ordering o (member k d (member l e ms)) (member l d ms) (member l e (put k d ms))) ≡ without ks (member l e ms)
-without-put_at ks Less k l d e ms is h rest = dropped (has_key k ks) k d _ h
-without-put_at ks Equal k l d e ms is h rest =
-    let same : k ≡ l = same_bytes k l (sym (is_eq-slice_cmp k l) ∙ ap is_eq is) in
-    let here : has_key l ks ≡ true = subst (λ j. has_key j ks ≡ true) same h in
-    dropped (has_key l ks) l d _ here ∙ sym (dropped (has_key l ks) l e _ here)
-without-put_at ks Greater k l d e ms is h rest = ap (λ r. cond (has_key l ks) r (member l e r)) rest
+pub beside-put_given : (ks : List (List ℕ)) (k : List ℕ) (o : Option Data) (ms : Members) → is_among k ks ≡ true → beside ks (put_given k o ms) ≡ beside ks ms
+beside-put_given ks k None ms h = refl
+beside-put_given ks k (Some d) ms h = beside_named ks k d ms h
 
-pub without-put : (ks : List (List ℕ)) (k : List ℕ) (d : Data) (ms : Members) → has_key k ks ≡ true → without ks (put k d ms) ≡ without ks ms
-without-put ks k d no_members h = dropped (has_key k ks) k d _ h
-without-put ks k d (member l e ms) h = without-put_at ks _ k l d e ms refl h (without-put ks k d ms h)
+pub beside-clear : (ks : List (List ℕ)) (ms : Members) → IsClear ks ms → beside ks ms ≡ ms
+beside-clear ks no_members h = refl
+beside-clear ks (member k d ms) h = stays (is_among k ks) k d _ h.0 ∙ ap (member k d) (beside-clear ks ms h.1)
 
-pub without-put_given : (ks : List (List ℕ)) (k : List ℕ) (o : Option Data) (ms : Members) → has_key k ks ≡ true → without ks (put_given k o ms) ≡ without ks ms
-without-put_given ks k None ms h = refl
-without-put_given ks k (Some d) ms h = without-put ks k d ms h
-
-pub without-clear : (ks : List (List ℕ)) (ms : Members) → IsClear ks ms → without ks ms ≡ ms
-without-clear ks no_members h = refl
-without-clear ks (member k d ms) h = stays (has_key k ks) k d _ h.0 ∙ ap (member k d) (without-clear ks ms h.1)
-
-clear_at : (b : Bool) (ks : List (List ℕ)) (k : List ℕ) (d : Data) (ms : Members) → has_key k ks ≡ b → IsClear ks ms → IsClear ks (cond b ms (member k d ms))
+clear_at : (b : Bool) (ks : List (List ℕ)) (k : List ℕ) (d : Data) (ms : Members) → is_among k ks ≡ b → IsClear ks ms → IsClear ks (cond b ms (member k d ms))
 clear_at true ks k d ms e h = h
 clear_at false ks k d ms e h = (e, h)
 
-pub IsClear-without : (ks : List (List ℕ)) (ms : Members) → IsClear ks (without ks ms)
-IsClear-without ks no_members = tt
-IsClear-without ks (member k d ms) = clear_at _ ks k d (without ks ms) refl (IsClear-without ks ms)
+pub IsClear-beside : (ks : List (List ℕ)) (ms : Members) → IsClear ks (beside ks ms)
+IsClear-beside ks no_members = tt
+IsClear-beside ks (member k d ms) = clear_at _ ks k d (beside ks ms) refl (IsClear-beside ks ms)
 
 pub StandsApart-others : (o : Other) (ks : List (List ℕ)) (ms : Members) → StandsApart o ks (others o ks ms)
 StandsApart-others ignored ks ms = tt
-StandsApart-others (kept reserved) ks ms = IsClear-without (reserved ++ ks) ms
+StandsApart-others (kept reserved) ks ms = IsClear-beside (reserved ++ ks) ms
 
 -- what proper values ask of the members beside their rows
 abbrev pub MayStand : Other → List (List ℕ) → Members → Type 0
 MayStand o ks ms = IsKept o ms × StandsApart o ks ms × (members_have_float ms ≡ false)
 
 -- a key of the table is in no `other`
-pub get-may_stand : (o : Other) (ks : List (List ℕ)) (k : List ℕ) (ms : Members) → has_key k ks ≡ true → MayStand o ks ms → get_member k ms ≡ None
+pub get-may_stand : (o : Other) (ks : List (List ℕ)) (k : List ℕ) (ms : Members) → is_among k ks ≡ true → MayStand o ks ms → get_member k ms ≡ None
 get-may_stand ignored ks k ms e h = ap (get_member k) h.0
-get-may_stand (kept reserved) ks k ms e h = get-clear (reserved ++ ks) k ms (has_key_after k reserved ks e) h.1
+get-may_stand (kept reserved) ks k ms e h = get-clear (reserved ++ ks) k ms (is_among_after k reserved ks e) h.1

@@ -3,7 +3,7 @@ use Rattle.std.proofs.Common.{◌≡◌, ℕ, zero, suc, List, Bool, true, false
 use Rattle.serde_json.specs.Data.{Data, boolean, number, string, array, object, Items, no_items, item, Members, no_members, member, put}
 use Rattle.serde_json.specs.Find.{get_member, as_array, as_object}
 use Rattle.sentry_tables.specs.Cell.{Cell, absent, present, sequence, mapping, fields, choice, Cells, no_cells, cell, Entries, no_entries, entry, same_cell}
-use Rattle.sentry_tables.specs.Kind.{Rule, must, may, may_null, may_strict, default, always, draw, at_once, Kind, scalar, list, map, values, table, tagged, tagged_map, Rows, no_rows, row, Cases, no_cases, case, keys, words, tag, without, others}
+use Rattle.sentry_tables.specs.Kind.{Rule, must, may, may_null, may_strict, default, always, draw, at_once, Kind, scalar, list, map, values, table, tagged, tagged_map, Rows, no_rows, row, Cases, no_cases, case, keys, words, tag, others}
 use Rattle.sentry_tables.specs.Shows.{is_object, members_in, ObjectShows, IsSequence, IsMapping, AreFields, IsChoice, ItemsShow, MembersShow, ArrayShows, ShowsOption, RowShows, OrElse, word_at, word_of, Shows, RowsShow, CaseShows}
 use Rattle.sentry_tables.specs.Norm.{cells_of, other_of, entries_of, which, chosen, each_cell, each_entry, optional_norm, row_norm, is_null_of, norm, rows_norm, case_norm}
 use Rattle.sentry_tables.specs.Written.{is_null, items_tree, members_tree, optional_tree, row_tree, put_given, tree, rows_tree, case_tree}

@@ -5,7 +5,7 @@ use Rattle.std.specs.Prelude.{⊤}
 use Rattle.serde_json.specs.Data.{Data, null, boolean, number, string, array, object, Items, no_items, item, Members, no_members, member}
 use Rattle.serde_json.specs.Find.{get_member, as_array, as_object}
 use Rattle.sentry_tables.specs.Cell.{Cell, present, sequence, mapping, fields, choice, Cells, no_cells, cell, Entries, no_entries, entry}
-use Rattle.sentry_tables.specs.Kind.{Scalar, Rule, must, may, may_null, may_strict, default, always, draw, at_once, Other, ignored, kept, Kind, scalar, list, map, values, table, tagged, tagged_map, Rows, no_rows, row, Cases, no_cases, case, keys, words, has_key, without, others}
+use Rattle.sentry_tables.specs.Kind.{Scalar, Rule, must, may, may_null, may_strict, default, always, draw, at_once, Other, ignored, kept, Kind, scalar, list, map, values, table, tagged, tagged_map, Rows, no_rows, row, Cases, no_cases, case, keys, words, others}
 use Rattle.sentry_tables.specs.Shows.{is_object, members_in, ObjectShows, IsPresent, IsSequence, IsMapping, AreFields, IsChoice, ItemsShow, MembersShow, ArrayShows, ShowsOption, RowShows, OrElse, word_at, word_of, Shows, RowsShow, CaseShows}
 use Rattle.sentry_tables.specs.Meets.{AllCells, AllEntries, IsKept, IsOptional, RowMeets, Demand, proper_demand, readable_demand, entry_keys, Meets, RowsMeet, CaseMeets, AreOrderedTexts, AllLater, IsProper, IsReadable}
 use Rattle.sentry_tables.specs.Lawful.{ScalarLaws, IsNormal, IsMoment, RuleLaws, IsLawful, RowsLawful, CasesLawful}
@@ -13,6 +13,8 @@ use Rattle.std.specs.Ordering.{match_ordering}
 use Rattle.std.proofs.Common.{Ordering, Less, Equal, Greater, nat_cmp, IsUtf8}
 use Rattle.std.specs.Cmp.Lexicographic.{slice_cmp}
 use Rattle.sentry_json.specs.Sound.{IsSound, AreSound, MembersAreSound, IsOrdered, AllAfter}
+use Rattle.sentry_json.specs.Keys.{is_among, beside}
+use Rattle.sentry_json.proofs.Beside.{all_after}
 use Rattle.sentry_json.proofs.Sound.{sound_regular, sound_texts, sound_without_float}
 use Rattle.sentry_tables.proofs.Proper.{proper}
 use Rattle.sentry_tables.specs.Shows.{values_key, values_in, unless_null}
@@ -167,25 +169,17 @@ sound_if : (b : Bool) (k : List ℕ) (d : Data) (ms : Members) → IsUtf8 k → 
 sound_if true k d ms u s h = h
 sound_if false k d ms u s h = (u, s, h)
 
-rest_sound : (ks : List (List ℕ)) (ms : Members) → MembersAreSound ms → MembersAreSound (without ks ms)
+rest_sound : (ks : List (List ℕ)) (ms : Members) → MembersAreSound ms → MembersAreSound (beside ks ms)
 rest_sound ks no_members h = tt
-rest_sound ks (member k d ms) h = sound_if (has_key k ks) k d (without ks ms) h.0 h.1 (rest_sound ks ms h.2)
-
-after_if : (b : Bool) (l k : List ℕ) (d : Data) (ms : Members) → slice_cmp nat_cmp l k ≡ Less → AllAfter l ms → AllAfter l (cond b ms (member k d ms))
-after_if true l k d ms e h = h
-after_if false l k d ms e h = (e, h)
-
-rest_after : (ks : List (List ℕ)) (l : List ℕ) (ms : Members) → AllAfter l ms → AllAfter l (without ks ms)
-rest_after ks l no_members h = tt
-rest_after ks l (member k d ms) h = after_if (has_key k ks) l k d (without ks ms) h.0 (rest_after ks l ms h.1)
+rest_sound ks (member k d ms) h = sound_if (is_among k ks) k d (beside ks ms) h.0 h.1 (rest_sound ks ms h.2)
 
 ordered_if : (b : Bool) (k : List ℕ) (d : Data) (ms : Members) → AllAfter k ms → IsOrdered ms → IsOrdered (cond b ms (member k d ms))
 ordered_if true k d ms a h = h
 ordered_if false k d ms a h = (a, h)
 
-rest_ordered : (ks : List (List ℕ)) (ms : Members) → IsOrdered ms → IsOrdered (without ks ms)
+rest_ordered : (ks : List (List ℕ)) (ms : Members) → IsOrdered ms → IsOrdered (beside ks ms)
 rest_ordered ks no_members h = tt
-rest_ordered ks (member k d ms) h = ordered_if (has_key k ks) k d (without ks ms) (rest_after ks k ms h.0) (rest_ordered ks ms h.1)
+rest_ordered ks (member k d ms) h = ordered_if (is_among k ks) k d (beside ks ms) (all_after ks k ms h.0) (rest_ordered ks ms h.1)
 
 later_keys : (k : List ℕ) (ms : Members) → AllAfter k ms → AllLater k (member_keys ms)
 later_keys k no_members h = tt
@@ -202,7 +196,7 @@ others_kept (kept reserved) ks ms h = (rest_ordered (reserved ++ ks) ms h.0, res
 
 others_fit : (o : Other) (ks : List (List ℕ)) (ms : Members) → IsSound (object (others o ks ms)) → IsKept o (others o ks ms)
 others_fit ignored ks ms h = refl
-others_fit (kept reserved) ks ms h = (sound_regular (object (without (reserved ++ ks) ms)) h, sound_texts (object (without (reserved ++ ks) ms)) h)
+others_fit (kept reserved) ks ms h = (sound_regular (object (beside (reserved ++ ks) ms)) h, sound_texts (object (beside (reserved ++ ks) ms)) h)
 
 others_stand : (o : Other) (ks : List (List ℕ)) (ms : Members) → IsSound (object ms) → MayStand o ks (others o ks ms)
 others_stand o ks ms h = let good = others_kept o ks ms h in (others_fit o ks ms good, StandsApart-others o ks ms, sound_without_float (object (others o ks ms)) good)

@@ -3,12 +3,13 @@ use Rattle.std.proofs.Common.{◌≡◌, ℕ, zero, suc, List, ◌∷◌, true, 
 use Rattle.std.proofs.lemmas.Bool.{false≢true}
 use Rattle.serde_json.specs.Data.{Data, Items, no_items, item, Members, no_members, member}
 use Rattle.serde_json.specs.Find.{get, as_array, as_object}
+use Rattle.sentry_json.specs.Keys.{is_among}
 use Rattle.sentry_tables.specs.Cell.{Cell, present, sequence, mapping, fields, choice, Cells, no_cells, cell, Entries, no_entries, entry}
-use Rattle.sentry_tables.specs.Kind.{Rule, must, may, may_null, may_strict, default, always, draw, at_once, Kind, scalar, list, map, values, table, tagged, tagged_map, Rows, no_rows, row, Cases, no_cases, case, keys, words, has_key, others}
+use Rattle.sentry_tables.specs.Kind.{Rule, must, may, may_null, may_strict, default, always, draw, at_once, Kind, scalar, list, map, values, table, tagged, tagged_map, Rows, no_rows, row, Cases, no_cases, case, keys, words, others}
 use Rattle.sentry_tables.specs.Shows.{is_object, members_in, ObjectShows, IsPresent, IsSequence, IsMapping, AreFields, IsChoice, ItemsShow, MembersShow, ArrayShows, values_in, unless_null, ShowsOption, RowShows, OrElse, word_at, word_of, Shows, RowsShow, CaseShows}
 use Rattle.sentry_tables.specs.Lawful.{IsLawful, RowsLawful, CasesLawful}
 use Rattle.sentry_tables.specs.Drawn.{IfGiven, IsGiven, EachItem, EachMember, InArray, InObject, RowHolds, NothingDrawn, RowsDrawNothing, CasesDrawNothing}
-use Rattle.sentry_tables.proofs.Members.{has_key_here, has_key_later}
+use Rattle.sentry_tables.proofs.Members.{is_among_here, is_among_later}
 
 -- ---- one level
 
@@ -96,10 +97,10 @@ choice_single P f (choice n c) _ h k = absurd k
 choice_single P f _ x h k = absurd h
 
 -- the word of a case that shows anything is a word of the cases
-word_shown : (cases : Cases) (now : Cell) (word : Option (List ℕ)) (w : List ℕ) (d : Data) (n : ℕ) (c : Cell) → word ≡ Some w → CaseShows cases now word d n c → has_key w (words cases) ≡ true
+word_shown : (cases : Cases) (now : Cell) (word : Option (List ℕ)) (w : List ℕ) (d : Data) (n : ℕ) (c : Cell) → word ≡ Some w → CaseShows cases now word d n c → is_among w (words cases) ≡ true
 word_shown no_cases now word w d n c e h = absurd h
-word_shown (case v rows o cases) now word w d zero c e h = let same : v ≡ w = cc in subst (λ u. has_key u (v ∷ words cases) ≡ true) same (has_key_here v (words cases))
-word_shown (case v rows o cases) now word w d (suc n) c e h = has_key_later w v (words cases) (word_shown cases now word w d n c e h)
+word_shown (case v rows o cases) now word w d zero c e h = let same : v ≡ w = cc in subst (λ u. is_among u (v ∷ words cases) ≡ true) same (is_among_here v (words cases))
+word_shown (case v rows o cases) now word w d (suc n) c e h = is_among_later w v (words cases) (word_shown cases now word w d n c e h)
 
 -- ---- kinds
 

@@ -1,6 +1,7 @@
 -- Tables of rows: a key, a rule and a kind.
-use Rattle.std.specs.Prelude.{ℕ, List, [], ◌∷◌, ◌++◌, Bool, false, ◌||◌, cond, bytes_eq}
-use Rattle.serde_json.specs.Data.{Data, Members, no_members, member}
+use Rattle.std.specs.Prelude.{ℕ, List, [], ◌∷◌, ◌++◌, Bool}
+use Rattle.serde_json.specs.Data.{Data, Members, no_members}
+use Rattle.sentry_json.specs.Keys.{beside}
 use Rattle.sentry_tables.specs.Cell.{Cell}
 
 -- A kind of value that no table takes apart, as a text, a number or an id: each crate makes its own.
@@ -81,16 +82,7 @@ words (case w rows o cases) = w ∷ words cases
 abbrev pub tag : List ℕ
 tag = 116 ∷ 121 ∷ 112 ∷ 101 ∷ []
 
-abbrev pub has_key : List ℕ → List (List ℕ) → Bool
-has_key k [] = false
-has_key k (l ∷ ls) = bytes_eq k l || has_key k ls
-
--- the members of other keys
-abbrev pub without : List (List ℕ) → Members → Members
-without ks no_members = no_members
-without ks (member k d ms) = cond (has_key k ks) (without ks ms) (member k d (without ks ms))
-
 -- the members that a table with these keys keeps beside its rows
 abbrev pub others : Other → List (List ℕ) → Members → Members
 others ignored ks ms = no_members
-others (kept reserved) ks ms = without (reserved ++ ks) ms
+others (kept reserved) ks ms = beside (reserved ++ ks) ms

@@ -2,8 +2,9 @@
 use Rattle.std.specs.Prelude.{◌≡◌, ◌⊎◌, ◌<◌, ◌≤◌, ◌^◌, ℕ, List, [], ◌∷◌, Bool, true, false, ⊤}
 use Rattle.serde_json.specs.Data.{Data, null, depth}
 use Rattle.sentry_json.specs.Sound.{IsSound}
+use Rattle.sentry_json.specs.Keys.{is_among}
 use Rattle.sentry_tables.specs.Cell.{Cell, moment}
-use Rattle.sentry_tables.specs.Kind.{Scalar, Rule, must, may, may_null, may_strict, default, always, draw, at_once, Other, ignored, kept, Kind, scalar, list, map, values, table, tagged, tagged_map, Rows, no_rows, row, Cases, no_cases, case, keys, words, tag, has_key}
+use Rattle.sentry_tables.specs.Kind.{Scalar, Rule, must, may, may_null, may_strict, default, always, draw, at_once, Other, ignored, kept, Kind, scalar, list, map, values, table, tagged, tagged_map, Rows, no_rows, row, Cases, no_cases, case, keys, words, tag}
 use Rattle.std.specs.Prelude.{◌&&◌, nat_lt}
 use Rattle.sentry_tables.specs.Shows.{Shows}
 use Rattle.sentry_tables.specs.Norm.{norm}
@@ -70,7 +71,7 @@ is_ascii (x ∷ xs) = nat_lt x 128 && is_ascii xs
 
 abbrev pub KeepsTag : Other → Type 0
 KeepsTag ignored = ⊤
-KeepsTag (kept reserved) = has_key tag reserved ≡ true
+KeepsTag (kept reserved) = is_among tag reserved ≡ true
 
 abbrev mutual
   pub IsLawful : Kind → Type 0
@@ -84,8 +85,8 @@ abbrev mutual
 
   pub RowsLawful : Rows → Type 0
   RowsLawful no_rows = ⊤
-  RowsLawful (row k r K rows) = (has_key k (keys rows) ≡ false) × RuleLaws r K × IsLawful K × RowsLawful rows × (is_ascii k ≡ true)
+  RowsLawful (row k r K rows) = (is_among k (keys rows) ≡ false) × RuleLaws r K × IsLawful K × RowsLawful rows × (is_ascii k ≡ true)
 
   pub CasesLawful : Cases → Type 0
   CasesLawful no_cases = ⊤
-  CasesLawful (case w rows o cases) = (has_key w (words cases) ≡ false) × (has_key tag (keys rows) ≡ false) × KeepsTag o × RowsLawful rows × CasesLawful cases × (is_ascii w ≡ true)
+  CasesLawful (case w rows o cases) = (is_among w (words cases) ≡ false) × (is_among tag (keys rows) ≡ false) × KeepsTag o × RowsLawful rows × CasesLawful cases × (is_ascii w ≡ true)

@@ -5,9 +5,10 @@ use Rattle.std.specs.Ordering.{nat_cmp}
 use Rattle.std.specs.Cmp.Lexicographic.{slice_cmp}
 use Rattle.serde_json.specs.Written.{members_have_float}
 use Rattle.sentry_json.specs.Sound.{IsRegular, HasTexts}
+use Rattle.sentry_json.specs.Keys.{is_among}
 use Rattle.serde_json.specs.Data.{Members, no_members, member, object}
 use Rattle.sentry_tables.specs.Cell.{Cell, absent, present, Cells, no_cells, cell, Entries, no_entries, entry}
-use Rattle.sentry_tables.specs.Kind.{Scalar, Rule, must, may, may_null, may_strict, default, always, draw, at_once, Other, ignored, kept, Kind, scalar, list, map, values, table, tagged, tagged_map, Rows, no_rows, row, Cases, no_cases, case, keys, has_key}
+use Rattle.sentry_tables.specs.Kind.{Scalar, Rule, must, may, may_null, may_strict, default, always, draw, at_once, Other, ignored, kept, Kind, scalar, list, map, values, table, tagged, tagged_map, Rows, no_rows, row, Cases, no_cases, case, keys}
 use Rattle.sentry_tables.specs.Shows.{IsSequence, IsMapping, AreFields, IsChoice}
 
 abbrev pub AllCells : (Cell → Type 0) → Cells → Type 0
@@ -21,7 +22,7 @@ AllEntries P (entry k c es) = P c × AllEntries P es
 -- no member has one of these keys
 abbrev pub IsClear : List (List ℕ) → Members → Type 0
 IsClear ks no_members = ⊤
-IsClear ks (member k d ms) = (has_key k ks ≡ false) × IsClear ks ms
+IsClear ks (member k d ms) = (is_among k ks ≡ false) × IsClear ks ms
 
 -- no member that is kept beside rows of these keys has the key of a row, or one that is reserved
 abbrev pub StandsApart : Other → List (List ℕ) → Members → Type 0

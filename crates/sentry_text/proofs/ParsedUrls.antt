@@ -29,6 +29,7 @@ use Rattle.url.proofs.SetLemmas.{encoded_is_kept}
 use Rattle.url.proofs.SetterLemmas.{empty_domain, valid_with_authority, opaque_parsed}
 use Rattle.url.proofs.ValidLemmas.{IsValid-with_tail}
 use Rattle.sentry_text.proofs.UrlHosts.{file_host_valid, host_valid}
+use Rattle.sentry_text.proofs.Utf8Bytes.{IsByte}
 
 -- a step that gave something was given something
 given : {T U : Type 0} (r : Parsed T) (next : T → Parsed U) (u : U) → and_then r next ≡ Ok u → (x : T) × (r ≡ Ok x) × (next x ≡ Ok u)
@@ -110,9 +111,6 @@ authority_valid scheme bytes head other valid e =
     (cases_Bool (lacks_host at.0 host_port.0 host_port.1))
 
 -- ---- the path
-
-abbrev IsByte : ℕ → Type 0
-IsByte b = b < 256
 
 -- segments, of which there is one
 abbrev IsPath : SchemeType → List ℕ → Type 0

@@ -4,7 +4,7 @@ use Rattle.std.proofs.Math.Utf8.{encode, scalar, scalars, encodes, scalar_cases}
 use Rattle.std.proofs.lemmas.Bool.{cond_both, and_parts, ltb-true}
 use Rattle.std.proofs.lemmas.List.Elements.{All-nil, All-cons, All-append}
 
-abbrev IsByte : ℕ → Type 0
+abbrev pub IsByte : ℕ → Type 0
 IsByte b = b < 256
 
 below : (c : ℕ) → scalar c ≡ true → c < 1_114_112

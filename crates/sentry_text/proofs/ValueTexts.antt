@@ -37,8 +37,5 @@ module _ {A : Type 0} (of : List ℕ → Option A) (to : A → List ℕ) (Held :
 
   -- ---- what a reader of the text answers
 
-  pub value_read : (s : List ℕ) (a : A) → of s ≡ Some a → reads s ≡ Some (cell a)
-  value_read s a e = ap (option_map cell) e
-
   pub value_refused : (s : List ℕ) → ((a : A) → of s ≡ Some a → ⊥) → (c : Cell) → reads s ≡ Some c → ⊥
   value_refused s none c e = map_some cell (of s) c e (λ a is same. none a is)

@@ -2,7 +2,6 @@ pub mod Failing
 pub mod Joining
 pub mod OfTables
 pub mod Merging
-pub mod Others
 pub mod RowByRow
 pub mod RowsGiven
 pub mod ValuesMade

@@ -5,7 +5,6 @@ ghost use Rattle.serde_json.specs.Data.{object};
 ghost use Rattle.serde_json.specs.View.{members_view};
 ghost use Rattle.serde_json.specs.Written.{members_have_float};
 ghost use Rattle.sentry_json.specs.Sound.{IsRegular, HasTexts};
-ghost use Rattle.sentry_tables.specs.Kind.{has_key};
 ghost use Rattle.sentry_tables.specs.Meets.{IsClear};
 
 use sentry_json::is_among;
@@ -13,14 +12,6 @@ use sentry_tables::Member;
 use sentry_tables::tree::has_float;
 use serde_json::{Map, Value};
 use std::alloc::AllocError;
-
-/// Returns whether `key` is one of `names`.
-#[tactic(auto, using(crate::proofs::Others::is_key))]
-pub fn is_named(names: &[&str], key: &str) -> bool
-    ensures { result ≡ has_key key.now (map_list (λ name. name.now) names.now) }
-{
-    is_among(names, key)
-}
 
 /// Returns whether additional members are plain: no key is one of `names`, and no number in the
 /// members is held as a float.
@@ -35,7 +26,7 @@ pub fn others_are_plain(others: &Map<String, Value>, names: &[&str]) -> bool
         × HasTexts (object (members_view others.now.entries)) }
 {
     for (key, member) in others.iter() {
-        if is_named(names, key.as_str()) {
+        if is_among(names, key.as_str()) {
             return false;
         }
         if has_float(member) {

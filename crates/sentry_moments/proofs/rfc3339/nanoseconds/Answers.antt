@@ -1,5 +1,6 @@
 use Rattle.std.proofs.Common.{arith}
-use Rattle.sentry_moments.proofs.Numerals.{more_places, more_power, power_below}
+use Rattle.sentry_json.proofs.Integers.{power_below}
+use Rattle.sentry_moments.proofs.Numerals.{more_places, more_power}
 use Rattle.sentry_moments.proofs.rfc3339.nanoseconds.Goals as goal
 
 pub overflow_mul-nanos : goal.overflow_mul-nanos
