@@ -116,3 +116,14 @@ module _ (now : Cell) where
   unfolding CaseRefusedAt RefusedAt
   case_fails_at cases word n d Misfit is at once h = λ c s. choice_refused _ c (λ m x t. refuses_at now word d cases n m x once at s.0 h (rw is at t)) s.1
   case_fails_at cases word n d Memory is at once h = tt
+
+-- ---- by any word, at a moment
+
+pub shown_by_word : (now : Cell) (cases : Cases) (word : List ℕ) (n : ℕ) (d : Data) (c : Cell) → StandsAt word n (words cases) → CaseShownAt now cases n d c → (is_object d ≡ true) × IsChoice (CaseShows cases now (Some word) d) c
+unfolding CaseShownAt ShownAt
+shown_by_word now cases word n d (choice m x) at h = (is_object_at now word d cases n x at h.1, rw h.0 (shows_at now word d cases n x at h.1))
+shown_by_word now cases word n d _ at h = absurd h
+
+pub refused_by_word : (now : Cell) (cases : Cases) (word : List ℕ) (n : ℕ) (d : Data) (c : Cell) → StandsAt word n (words cases) → are_distinct (words cases) ≡ true → CaseRefusedAt now cases n d → (is_object d ≡ true) × IsChoice (CaseShows cases now (Some word) d) c → ⊥
+unfolding CaseRefusedAt RefusedAt
+refused_by_word now cases word n d c at once h s = choice_refused _ c (λ m x t. refuses_at now word d cases n m x once at s.0 h t) s.1
