@@ -28,11 +28,19 @@ pub fn is_same<T: PartialEq + Drop, E: Drop>(made: Result<T, E>, value: &T) -> b
 }
 
 /// Whether a copy that was made is the value.
+pub fn is_copy<T: PartialEq + Drop>(
+    copy: Result<T, AllocError>,
+    value: &T,
+) -> Result<bool, AllocError> {
+    Ok(copy? == *value)
+}
+
+/// What is said of a copy that was made: whether it is the value.
 pub fn said_same<T: PartialEq + Drop>(
     copy: Result<T, AllocError>,
     value: &T,
 ) -> Result<Value, AllocError> {
-    Ok(Value::from(copy? == *value))
+    Ok(Value::from(is_copy(copy, value)?))
 }
 
 /// What is said of a value that was made, or why none was.

@@ -1,6 +1,6 @@
 //! Envelopes that items are added to.
 
-use crate::asked::{said_of, said_same, taken};
+use crate::asked::{is_copy, said_of, taken};
 use crate::envelopes::{read, said_envelope};
 use crate::filters::word_of;
 use crate::said::{as_tree, list, maybe_shown, text};
@@ -100,15 +100,41 @@ fn said_ids(alloc: Global, envelope: &Envelope) -> Result<Value, AllocError> {
     list(alloc, fields)
 }
 
+// Whether an envelope and its items are their clones, and the items' normal forms are those of the
+// envelope's normal form.
+fn are_copied(
+    alloc: Global,
+    envelope: &Envelope,
+    normal: &Envelope,
+) -> Result<bool, AllocError> {
+    let mut others = normal.items();
+    for item in envelope.items() {
+        let Some(other) = others.next() else {
+            return Ok(false);
+        };
+        if !is_copy(item.clone(), item)? || !is_copy(item.normalized(alloc), other)? {
+            return Ok(false);
+        }
+    }
+    Ok(others.next().is_none() && is_copy(envelope.clone(), envelope)?)
+}
+
+// The same, said of an envelope.
+fn said_copied(alloc: Global, envelope: &Envelope) -> Result<Value, AllocError> {
+    said_of(alloc, envelope.normalized(), |alloc: Global, normal: &Envelope| {
+        Ok(Value::from(are_copied(alloc, envelope, normal)?))
+    })
+}
+
 // The text of an envelope, its ids and the words of its items, those of its normal form, whether it
-// is its clone, and how many items its clone is taken apart into.
+// and its items are their copies, and how many items its clone is taken apart into.
 fn said_whole(alloc: Global, envelope: &Envelope) -> Result<Value, AllocError> {
     let fields = [
         said_envelope(alloc, envelope),
         said_ids(alloc, envelope),
         said_items(alloc, envelope),
         said_of(alloc, envelope.normalized(), said_items),
-        said_same(envelope.clone(), envelope),
+        said_copied(alloc, envelope),
         taken(alloc, envelope.clone(), said_count),
     ];
     list(alloc, fields)

@@ -65,10 +65,15 @@ const LINE: &str = concat!(
     "\"trace_id\":\"65656565656565656565656565656565\",\"transaction\":\"t\"}}\n"
 );
 
-/// Whether a header's envelope is written as `LINE`.
-fn is_line(alloc: Global, header: EnvelopeHeaders) -> bool {
+/// Whether a header's envelope is written as a line.
+fn is_written(alloc: Global, header: EnvelopeHeaders, line: &str) -> bool {
     let made: Result<Envelope, AllocError> = Ok(Envelope::new(alloc).with_headers(header));
-    is_text(alloc, made, LINE)
+    is_text(alloc, made, line)
+}
+
+/// Whether it is written as `LINE`.
+fn is_line(alloc: Global, header: EnvelopeHeaders) -> bool {
+    is_written(alloc, header, LINE)
 }
 
 /// Whether a header and its normal form are written as `LINE`.
@@ -90,4 +95,13 @@ fn header_of_line(alloc: Global) -> Result<EnvelopeHeaders, Fail> {
 #[test]
 fn builders(rt: HostRuntime) -> Result<(), Fail> {
     wanted(are_lines(rt.alloc(), header_of_line(rt.alloc())?))
+}
+
+/// A header with a number near 1, and no other field.
+#[test]
+fn a_number_near_1(rt: HostRuntime) -> Result<(), Fail> {
+    let near_one = SampleRand::from_billionths(999_999_900).ok().ok_or("rand")?;
+    let trace = DynamicSamplingContext::new().with_sample_rand(near_one);
+    let header = EnvelopeHeaders::new().with_trace(trace);
+    wanted(is_written(rt.alloc(), header, "{\"trace\":{\"sample_rand\":\"0.999999\"}}\n"))
 }
