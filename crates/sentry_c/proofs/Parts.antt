@@ -1,5 +1,5 @@
 -- Where the parts of a DSN and of an authentication stand in their printed forms.
-use Rattle.std.proofs.Common.{arith, ◌≡◌, ℕ, ◌+◌, ◌-◌, ◌≤◌, List, [], ◌++◌, length, codes, decimal, Option, Some, None, option_map, unwrap_or, refl, ap, sym, ◌∙◌, append-nil, append_assoc, length-append, subst}
+use Rattle.std.proofs.Common.{arith, ◌≡◌, ℕ, ◌+◌, ◌-◌, List, [], ◌++◌, length, codes, decimal, Option, Some, None, option_map, unwrap_or, refl, ap, sym, ◌∙◌, append-nil, append_assoc, length-append, subst}
 use Rattle.sentry_keys.specs.Auth.{Parts, client_key, secret_key, timestamp_key}
 use Rattle.sentry_keys.specs.AuthText.{auth_text, part_text, time_text}
 use Rattle.sentry_keys.specs.Dsn.{DsnParts, dsn_text, port_text}
@@ -167,12 +167,6 @@ module _ (parts : Parts) where
 
   long : length (auth_text parts) ≡ length front + length client_part + length secret_part
   long = omega (arith, ap length text_is, length-append front (client_part ++ secret_part), length-append client_part secret_part)
-
-  secret_room : optional_len 16 parts.secret ≤ length (auth_text parts)
-  secret_room = omega (arith, long, part_length secret_key 16 parts.secret refl)
-
-  client_room : optional_len 16 parts.client ≤ length (auth_text parts) - optional_len 16 parts.secret
-  client_room = omega (arith, long, part_length secret_key 16 parts.secret refl, part_length client_key 16 parts.client refl)
 
   pub auth_key_at : (n count : ℕ) → n ≡ 18 → count ≡ length parts.key → Stands (auth_text parts) n count parts.key
   auth_key_at n count is same = at (auth_text parts) _ n _ count parts.key (further (codes "Sentry sentry_key=") _ 0 _ parts.key (first parts.key _)) is same

@@ -1,16 +1,11 @@
 -- The numbers of categories and reasons.
 use Rattle.std.proofs.Common.{arith, ◌≡◌, ℕ, zero, suc, ◌+◌, List, [], ◌∷◌, slice_get, Some, refl, sym, ◌∙◌}
 use Rattle.std.proofs.lemmas.Option.{same_Some}
-use Rattle.std.specs.Bool.{⊤}
 use Rattle.sentry_reports.specs.Categories.{categories, category_in_place, category_index, reasons, reason_in_place, reason_index}
 use Rattle.sentry_reports.specs.declared.category.Category.{Category}
 use Rattle.sentry_reports.specs.declared.reason.Reason.{Reason}
+use Rattle.sentry_ledger.proofs.HeldLemmas.{InOrder}
 use Rattle.sentry_c.specs.Sums.{IsPair}
-
--- the index of each element is one above that of the element before it
-abbrev InOrder : {A : Type 0} → (A → ℕ) → ℕ → List A → Type 0
-InOrder index i [] = ⊤
-InOrder index i (x ∷ xs) = (index x ≡ i) × InOrder index (suc i) xs
 
 number_at : {A : Type 0} (index : A → ℕ) (i k : ℕ) (xs : List A) (x : A) → InOrder index i xs → slice_get xs k ≡ Some x → i + k ≡ index x
 number_at index i k [] x ordered found = cc

@@ -48,7 +48,7 @@ no_row c r = get_or-replicate SUMS (pair_place c r) 0 0 (pair_below c r)
 -- ---- sums over lists in order
 
 -- the index of each element is one above that of the element before it
-abbrev InOrder : {A : Type 0} → (A → ℕ) → ℕ → List A → Type 0
+abbrev pub InOrder : {A : Type 0} → (A → ℕ) → ℕ → List A → Type 0
 InOrder index i [] = ⊤
 InOrder index i (x ∷ xs) = (index x ≡ i) × InOrder index (suc i) xs
 
