@@ -123,17 +123,7 @@ pair_at i h =
 pub all_at : (items : List Item) (c : Category) (r : Reason) → get_or (all_sums items) (pair_place c r) 0 ≡ report_sum c r items
 unfolding all_sums
 all_at items category.Error reason.SendError = refl
-all_at items category.Session reason.SendError = refl
-all_at items category.Transaction reason.SendError = refl
-all_at items category.Span reason.SendError = refl
-all_at items category.Attachment reason.SendError = refl
-all_at items category.Monitor reason.SendError = refl
-all_at items category.LogItem reason.SendError = refl
-all_at items category.LogByte reason.SendError = refl
-all_at items category.TraceMetric reason.SendError = refl
-all_at items category.TraceMetricByte reason.SendError = refl
-all_at items category.Feedback reason.SendError = refl
-all_at items category.Replay reason.SendError = refl
+all_at items _ reason.SendError = refl
 all_at items _ _ = refl
 
 all_long : (items : List Item) → length (all_sums items) ≡ SUMS
