@@ -1,23 +1,31 @@
-//! Values that payloads of JSON hold, as items.
+//! Payloads of JSON: the values that they hold, as items.
 
-ghost use Rattle.std.specs.Prelude.{OnOk};
+ghost use Rattle.std.specs.Prelude.{◌≡◌, ◌≢◌, IfErr, OnOk};
 ghost use Rattle.sentry_event.specs.Events.{event_cell};
 ghost use Rattle.sentry_event.specs.Transactions.{transaction_cell};
 ghost use Rattle.sentry_records.specs.Monitors.{check_in_cell};
 ghost use Rattle.sentry_records.specs.Sessions.{groups_cell, session_cell};
 ghost use Rattle.sentry_records.specs.UserReports.{user_report_cell};
 ghost use Rattle.sentry_reports.specs.Reports.{report_cell};
-ghost use Rattle.sentry_framing.specs.declared.kind.ItemKind.{ItemKind};
 ghost use Rattle.sentry_framing.specs.declared.kind.ItemKind.TheVariants as kinds;
 ghost use Rattle.sentry_items.specs.Containers.{container_cell};
 ghost use Rattle.sentry_items.specs.declared.container.ItemContainer.TheVariants as containers;
 ghost use Rattle.sentry_tables.specs.Cell.{Cell};
-ghost use Rattle.sentry_envelope.specs.ItemAdded.{IsValueAdded};
+ghost use Rattle.sentry_envelope.specs.ItemAdded.{IsAdded, IsJson, IsNotAdded, IsOfKind, IsValueAdded};
+ghost use Rattle.sentry_envelope.specs.SentryProfile.{form_of};
+ghost use Rattle.sentry_framing.specs.View.{frame_of};
+ghost use Rattle.sentry_moments.specs.Moments.{moment_cell};
 
+use crate::timed::read_at;
+use rand_core::Rng;
 use sentry_event::{Event, Transaction};
+use sentry_framing::{EnvelopeError, ItemFrame, ItemKind};
 use sentry_items::{EnvelopeItem, ItemContainer, Listed};
+use sentry_moments::Moment;
 use sentry_records::{Log, Metric, MonitorCheckIn, SessionAggregates, SessionUpdate, UserReport};
 use sentry_reports::ReportRows;
+use sentry_rows::FromTreeAt;
+use sentry_tables::{FromTree, LineReader, TreeError};
 use std::alloc::AllocError;
 
 // A type of values that payloads of JSON hold.
@@ -130,5 +138,98 @@ impl Payload for ReportRows {
     fn push_to(self, items: &mut Vec<EnvelopeItem>) -> Result<(), AllocError> {
         items.push(EnvelopeItem::ClientReport(self.report()))?;
         Ok(())
+    }
+}
+
+// Appends the item of a frame whose payload is JSON.
+#[tactic(auto, using(crate::specs::ItemAdded::alone, crate::specs::ItemAdded::listed))]
+#[inline(never)]
+pub(crate) fn add_json_item<'a, R: Rng>(
+    lines: &mut LineReader<'a>,
+    frame: &ItemFrame<'a>,
+    kind: ItemKind,
+    now: Moment,
+    ids: &mut R,
+    items: &mut Vec<EnvelopeItem>,
+) -> Result<(), EnvelopeError>
+    requires of_kind { IsOfKind (frame_of frame.now) kind }
+    requires no_attachment { kind ≢ kinds.Attachment }
+    requires no_recording { kind ≢ kinds.ReplayRecording }
+    ensures ok { OnOk result
+        (IsAdded (moment_cell now) (frame_of frame.now) items.old.items items.new.items) }
+    ensures err { IfErr result (IsNotAdded (frame_of frame.now)) }
+{
+    match kind {
+        ItemKind::Event => add_value_at::<Box<Event<'static>>, R>(lines, frame, now, ids, items),
+        ItemKind::SessionUpdate => {
+            add_value_at::<SessionUpdate<'static>, R>(lines, frame, now, ids, items)
+        }
+        ItemKind::SessionAggregates => add_value::<SessionAggregates<'static>>(lines, frame, items),
+        ItemKind::Transaction => {
+            add_value_at::<Box<Transaction<'static>>, R>(lines, frame, now, ids, items)
+        }
+        ItemKind::MonitorCheckIn => add_value::<MonitorCheckIn>(lines, frame, items),
+        ItemKind::UserReport => add_value::<UserReport>(lines, frame, items),
+        ItemKind::Logs => add_value::<Listed<Log>>(lines, frame, items),
+        ItemKind::Metrics => add_value::<Listed<Metric>>(lines, frame, items),
+        ItemKind::ClientReport => add_value_at::<ReportRows, R>(lines, frame, now, ids, items),
+        ItemKind::Attachment | ItemKind::ReplayRecording => unreachable!(),
+    }
+}
+
+// Appends the item of a frame whose payload is a value of the type.
+#[inline(never)]
+fn add_value<'a, T: FromTree + Payload>(
+    lines: &mut LineReader<'a>,
+    frame: &ItemFrame<'a>,
+    items: &mut Vec<EnvelopeItem>,
+) -> Result<(), EnvelopeError>
+    requires of_kind { IsOfKind (frame_of frame.now) T.item_kind }
+    requires fits { IsJson (form_of T.item_kind) T.kind }
+    requires held { (v : T) → T.cell v ≡ T.cell_of v }
+    ensures ok { (now : Cell) →
+        OnOk result (IsAdded now (frame_of frame.now) items.old.items items.new.items) }
+    ensures err { IfErr result (IsNotAdded (frame_of frame.now)) }
+{
+    let value: T = match lines.read(frame.payload) {
+        Ok(value) => value,
+        Err(error) => return Err(payload_error(error)),
+    };
+    value.push_to(items)?;
+    Ok(())
+}
+
+// The same of a payload whose absent moments and ids are filled.
+#[inline(never)]
+fn add_value_at<'a, T: FromTreeAt + Payload, R: Rng>(
+    lines: &mut LineReader<'a>,
+    frame: &ItemFrame<'a>,
+    now: Moment,
+    ids: &mut R,
+    items: &mut Vec<EnvelopeItem>,
+) -> Result<(), EnvelopeError>
+    requires of_kind { IsOfKind (frame_of frame.now) T.item_kind }
+    requires fits { IsJson (form_of T.item_kind) T.kind }
+    requires held { (v : T) → T.cell v ≡ T.cell_of v }
+    ensures ok { OnOk result
+        (IsAdded (moment_cell now) (frame_of frame.now) items.old.items items.new.items) }
+    ensures err { IfErr result (IsNotAdded (frame_of frame.now)) }
+{
+    let value: T = match read_at(lines, frame.payload, now, ids) {
+        Ok(value) => value,
+        Err(error) => return Err(payload_error(error)),
+    };
+    value.push_to(items)?;
+    Ok(())
+}
+
+// Returns the error of an envelope whose item's payload can't be read.
+fn payload_error(error: TreeError) -> EnvelopeError
+    ensures misfit { error ≡ TreeError.Misfit → result ≡ EnvelopeError.InvalidItemPayload }
+    ensures memory { error ≡ TreeError.Memory → result ≡ EnvelopeError.OutOfMemory }
+{
+    match error {
+        TreeError::Misfit => EnvelopeError::InvalidItemPayload,
+        TreeError::Memory => EnvelopeError::OutOfMemory,
     }
 }

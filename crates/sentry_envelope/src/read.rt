@@ -2,31 +2,24 @@
 
 ghost use Rattle.std.specs.Prelude.{◌≡◌, ◌≢◌, ◌∷◌, ◌++◌, IfOk, IfErr, OnOk, [], Some, map};
 ghost use Rattle.sentry_items.specs.View.{attachment_view};
-ghost use Rattle.sentry_tables.specs.Cell.{Cell};
 ghost use Rattle.sentry_envelope.specs.Envelope.{attached_by, ItemsStand};
 ghost use Rattle.sentry_envelope.specs.EnvelopeFault.{BodyIsAtFault};
 ghost use Rattle.sentry_envelope.specs.EnvelopeView.{item_view};
-ghost use Rattle.sentry_envelope.specs.ItemAdded.{IsAdded, IsJson, IsNotAdded, IsOfKind};
+ghost use Rattle.sentry_envelope.specs.ItemAdded.{IsAdded, IsNotAdded};
 ghost use Rattle.sentry_framing.specs.HeaderView.{header_view};
 ghost use Rattle.sentry_framing.specs.ItemHeader.{read_header};
 ghost use Rattle.sentry_framing.specs.ItemWords.{item_words};
-ghost use Rattle.sentry_framing.specs.declared.kind.ItemKind.TheVariants as kinds;
 ghost use Rattle.sentry_moments.specs.Moments.{moment_cell};
-ghost use Rattle.sentry_envelope.specs.SentryProfile.{form_of, profile};
+ghost use Rattle.sentry_envelope.specs.SentryProfile.{profile};
 ghost use Rattle.sentry_framing.specs.View.{frame_of};
 
-use crate::payload::Payload;
-use crate::timed::read_at;
+use crate::payload::add_json_item;
 use rand_core::Rng;
-use sentry_event::{Event, Transaction};
 use sentry_framing::frames::next_item_into;
 use sentry_framing::{EnvelopeError, Frames, ItemFrame, ItemHeader, ItemKind};
-use sentry_items::{Attachment, AttachmentType, EnvelopeItem, Listed, ReplayRecording};
+use sentry_items::{Attachment, AttachmentType, EnvelopeItem, ReplayRecording};
 use sentry_moments::Moment;
-use sentry_records::{Log, Metric, MonitorCheckIn, SessionAggregates, SessionUpdate, UserReport};
-use sentry_reports::ReportRows;
-use sentry_rows::FromTreeAt;
-use sentry_tables::{FromTree, LineReader, TreeError};
+use sentry_tables::LineReader;
 use std::alloc::{AllocError, Global};
 
 pub(crate) fn read_items<'a, R: Rng>(
@@ -106,98 +99,6 @@ fn add_recording(
     let recording = replay_recording(alloc, payload)?;
     items.push(EnvelopeItem::ReplayRecording(recording))?;
     Ok(())
-}
-
-#[tactic(auto, using(crate::specs::ItemAdded::alone, crate::specs::ItemAdded::listed))]
-#[inline(never)]
-fn add_json_item<'a, R: Rng>(
-    lines: &mut LineReader<'a>,
-    frame: &ItemFrame<'a>,
-    kind: ItemKind,
-    now: Moment,
-    ids: &mut R,
-    items: &mut Vec<EnvelopeItem>,
-) -> Result<(), EnvelopeError>
-    requires of_kind { IsOfKind (frame_of frame.now) kind }
-    requires no_attachment { kind ≢ kinds.Attachment }
-    requires no_recording { kind ≢ kinds.ReplayRecording }
-    ensures ok { OnOk result
-        (IsAdded (moment_cell now) (frame_of frame.now) items.old.items items.new.items) }
-    ensures err { IfErr result (IsNotAdded (frame_of frame.now)) }
-{
-    match kind {
-        ItemKind::Event => add_value_at::<Box<Event<'static>>, R>(lines, frame, now, ids, items),
-        ItemKind::SessionUpdate => {
-            add_value_at::<SessionUpdate<'static>, R>(lines, frame, now, ids, items)
-        }
-        ItemKind::SessionAggregates => add_value::<SessionAggregates<'static>>(lines, frame, items),
-        ItemKind::Transaction => {
-            add_value_at::<Box<Transaction<'static>>, R>(lines, frame, now, ids, items)
-        }
-        ItemKind::MonitorCheckIn => add_value::<MonitorCheckIn>(lines, frame, items),
-        ItemKind::UserReport => add_value::<UserReport>(lines, frame, items),
-        ItemKind::Logs => add_value::<Listed<Log>>(lines, frame, items),
-        ItemKind::Metrics => add_value::<Listed<Metric>>(lines, frame, items),
-        ItemKind::ClientReport => add_value_at::<ReportRows, R>(lines, frame, now, ids, items),
-        ItemKind::Attachment | ItemKind::ReplayRecording => unreachable!(),
-    }
-}
-
-// Appends the item of a frame whose payload is a value of the type.
-#[inline(never)]
-fn add_value<'a, T: FromTree + Payload>(
-    lines: &mut LineReader<'a>,
-    frame: &ItemFrame<'a>,
-    items: &mut Vec<EnvelopeItem>,
-) -> Result<(), EnvelopeError>
-    requires of_kind { IsOfKind (frame_of frame.now) T.item_kind }
-    requires fits { IsJson (form_of T.item_kind) T.kind }
-    requires held { (v : T) → T.cell v ≡ T.cell_of v }
-    ensures ok { (now : Cell) →
-        OnOk result (IsAdded now (frame_of frame.now) items.old.items items.new.items) }
-    ensures err { IfErr result (IsNotAdded (frame_of frame.now)) }
-{
-    let value: T = match lines.read(frame.payload) {
-        Ok(value) => value,
-        Err(error) => return Err(payload_error(error)),
-    };
-    value.push_to(items)?;
-    Ok(())
-}
-
-// The same of a payload whose absent moments and ids are filled.
-#[inline(never)]
-fn add_value_at<'a, T: FromTreeAt + Payload, R: Rng>(
-    lines: &mut LineReader<'a>,
-    frame: &ItemFrame<'a>,
-    now: Moment,
-    ids: &mut R,
-    items: &mut Vec<EnvelopeItem>,
-) -> Result<(), EnvelopeError>
-    requires of_kind { IsOfKind (frame_of frame.now) T.item_kind }
-    requires fits { IsJson (form_of T.item_kind) T.kind }
-    requires held { (v : T) → T.cell v ≡ T.cell_of v }
-    ensures ok { OnOk result
-        (IsAdded (moment_cell now) (frame_of frame.now) items.old.items items.new.items) }
-    ensures err { IfErr result (IsNotAdded (frame_of frame.now)) }
-{
-    let value: T = match read_at(lines, frame.payload, now, ids) {
-        Ok(value) => value,
-        Err(error) => return Err(payload_error(error)),
-    };
-    value.push_to(items)?;
-    Ok(())
-}
-
-// Returns the error of an envelope whose item's payload can't be read.
-fn payload_error(error: TreeError) -> EnvelopeError
-    ensures misfit { error ≡ TreeError.Misfit → result ≡ EnvelopeError.InvalidItemPayload }
-    ensures memory { error ≡ TreeError.Memory → result ≡ EnvelopeError.OutOfMemory }
-{
-    match error {
-        TreeError::Misfit => EnvelopeError::InvalidItemPayload,
-        TreeError::Memory => EnvelopeError::OutOfMemory,
-    }
 }
 
 // Makes an attachment. Its strings are moved out of `header`.

@@ -132,21 +132,15 @@ reports_lose a b same = let items = same_items a.items b.items (cc) in cc
 -- ---- items
 
 pub same_losses : (a b : EnvelopeItem) → item_held a ≡ item_held b → losses_of_item a ≡ losses_of_item b
-same_losses (item.Event a) (item.Event b) same = refl
-same_losses (item.SessionUpdate a) (item.SessionUpdate b) same = refl
 same_losses (item.SessionAggregates a) (item.SessionAggregates b) same = groups_lose a b (ap cell_in same)
 same_losses (item.Transaction a) (item.Transaction b) same = transactions_lose a.value b.value (ap cell_in same)
 same_losses (item.Attachment a) (item.Attachment b) same =
     ap (λ (v : List ℕ). loss category.Attachment (length v) ∷ []) (ap (λ x. (attached_in x (record { buffer = a.buffer.items; filename = []; content_type = None; ty = None })).buffer) same)
-same_losses (item.MonitorCheckIn a) (item.MonitorCheckIn b) same = refl
-same_losses (item.UserReport a) (item.UserReport b) same = refl
-same_losses (item.ReplayRecording a) (item.ReplayRecording b) same = refl
 same_losses (item.ItemContainer (container.Logs a)) (item.ItemContainer (container.Logs b)) same = logs_lose a.items b.items (ap cell_in same)
 same_losses (item.ItemContainer (container.Metrics a)) (item.ItemContainer (container.Metrics b)) same = metrics_lose a.items b.items (ap cell_in same)
 same_losses (item.ClientReport a) (item.ClientReport b) same = reports_lose a b (ap cell_in same)
-same_losses item.Raw item.Raw same = refl
-same_losses (item.ItemContainer (container.Logs a)) b same = let e = ap kind_held same in absurd (cc)
-same_losses (item.ItemContainer (container.Metrics a)) b same = let e = ap kind_held same in absurd (cc)
-same_losses a (item.ItemContainer (container.Logs b)) same = let e = ap kind_held same in absurd (cc)
-same_losses a (item.ItemContainer (container.Metrics b)) same = let e = ap kind_held same in absurd (cc)
-same_losses a b same = let e = ap kind_held same in absurd (cc)
+same_losses (item.ItemContainer (container.Logs a)) b same = let e = ap kind_held same in cc
+same_losses (item.ItemContainer (container.Metrics a)) b same = let e = ap kind_held same in cc
+same_losses a (item.ItemContainer (container.Logs b)) same = let e = ap kind_held same in cc
+same_losses a (item.ItemContainer (container.Metrics b)) same = let e = ap kind_held same in cc
+same_losses a b same = let e = ap kind_held same in cc

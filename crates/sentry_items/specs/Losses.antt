@@ -1,13 +1,8 @@
 -- What is lost with items.
 use Rattle.std.specs.Prelude.{ℕ, ◌+◌, List, [], ◌∷◌, ◌++◌, length, sum_by, Option, Some, None}
 use Rattle.std.specs.List.{flat_map}
-use Rattle.sentry_event.specs.declared.event.Event.{Event}
-use Rattle.sentry_event.specs.declared.span.Span.{Span}
 use Rattle.sentry_event.specs.declared.transaction.Transaction.{Transaction}
-use Rattle.sentry_records.specs.declared.monitor_check_in.MonitorCheckIn.{MonitorCheckIn}
 use Rattle.sentry_records.specs.declared.session_aggregates.SessionAggregates.{SessionAggregates}
-use Rattle.sentry_records.specs.declared.session_update.SessionUpdate.{SessionUpdate}
-use Rattle.sentry_records.specs.declared.user_report.UserReport.{UserReport}
 use Rattle.sentry_records.specs.declared.log.Log.{Log}
 use Rattle.sentry_records.specs.declared.metric.Metric.{Metric}
 use Rattle.sentry_reports.specs.Items.{losses_reported}
@@ -24,7 +19,6 @@ use Rattle.sentry_reports.specs.declared.item_loss.ItemLoss.{ItemLoss}
 use Rattle.sentry_items.specs.declared.loss.ItemLossIter.{ItemLossIter}
 use Rattle.sentry_items.specs.declared.loss.SourceLosses.{SourceLosses}
 use Rattle.sentry_items.specs.declared.loss.SourceLosses.TheVariants as source
-use Rattle.sentry_items.specs.declared.replay_recording.ReplayRecording.{ReplayRecording}
 
 -- so much of a category, without a reason
 abbrev pub loss : Category → ℕ → ItemLoss
@@ -34,14 +28,6 @@ loss category quantity = record { category = category; quantity = quantity; reas
 abbrev pub one_of : Category → List ItemLoss
 one_of category = loss category 1 ∷ []
 
--- an event: one error
-abbrev pub losses_of_event : Event → List ItemLoss
-losses_of_event e = one_of category.Error
-
--- an update of a session: one session
-abbrev pub losses_of_session : SessionUpdate → List ItemLoss
-losses_of_session s = one_of category.Session
-
 -- counted sessions: those of all groups
 abbrev pub losses_of_groups : SessionAggregates → List ItemLoss
 losses_of_groups g = loss category.Session (cut (sum_by sessions_in g.aggregates.items)) ∷ []
@@ -49,18 +35,6 @@ losses_of_groups g = loss category.Session (cut (sum_by sessions_in g.aggregates
 -- a transaction: itself, its spans and the one that it is
 abbrev pub losses_of_transaction : Transaction → List ItemLoss
 losses_of_transaction t = loss category.Transaction 1 ∷ loss category.Span (length t.spans.items + 1) ∷ []
-
--- a span: itself
-abbrev pub losses_of_span : Span → List ItemLoss
-losses_of_span s = one_of category.Span
-
--- a check-in: one
-abbrev pub losses_of_check_in : MonitorCheckIn → List ItemLoss
-losses_of_check_in c = one_of category.Monitor
-
--- a report of a user: one
-abbrev pub losses_of_user_report : UserReport → List ItemLoss
-losses_of_user_report r = one_of category.Feedback
 
 -- logs: how many, and how large they are together
 abbrev pub losses_of_logs : List Log → List ItemLoss
@@ -89,20 +63,16 @@ losses_of_report r = losses_reported r.items
 abbrev pub losses_of_attachment : Attachment → List ItemLoss
 losses_of_attachment a = loss category.Attachment (length a.buffer.items) ∷ []
 
--- a recording: one replay
-abbrev pub losses_of_recording : ReplayRecording → List ItemLoss
-losses_of_recording r = one_of category.Replay
-
 -- what is lost with an item
 abbrev pub losses_of_item : EnvelopeItem → List ItemLoss
-losses_of_item (item.Event b) = losses_of_event b.value
-losses_of_item (item.SessionUpdate s) = losses_of_session s
+losses_of_item (item.Event b) = one_of category.Error
+losses_of_item (item.SessionUpdate s) = one_of category.Session
 losses_of_item (item.SessionAggregates g) = losses_of_groups g
 losses_of_item (item.Transaction b) = losses_of_transaction b.value
 losses_of_item (item.Attachment a) = losses_of_attachment a
-losses_of_item (item.MonitorCheckIn c) = losses_of_check_in c
-losses_of_item (item.UserReport r) = losses_of_user_report r
-losses_of_item (item.ReplayRecording r) = losses_of_recording r
+losses_of_item (item.MonitorCheckIn c) = one_of category.Monitor
+losses_of_item (item.UserReport r) = one_of category.Feedback
+losses_of_item (item.ReplayRecording r) = one_of category.Replay
 losses_of_item (item.ItemContainer c) = losses_of_container c
 losses_of_item (item.ClientReport r) = losses_of_report r
 losses_of_item item.Raw = []

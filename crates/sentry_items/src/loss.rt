@@ -1,7 +1,8 @@
 //! Losses: what counts as lost, by category, if an item is not sent.
 
 ghost use Rattle.std.specs.Prelude.{◌≡◌};
-ghost use Rattle.sentry_items.specs.Losses.{loss as lost_without_reason};
+ghost use Rattle.sentry_items.specs.Losses.{loss as lost_without_reason, one_of};
+ghost use Rattle.sentry_reports.specs.declared.category.Category.TheVariants as categories;
 
 use crate::sizes::{Measured, sum_of_sizes};
 use crate::{Attachment, EnvelopeItem, ItemContainer, ReplayRecording};
@@ -56,6 +57,12 @@ impl<'a> SourceLosses<'a> {
         ensures { source_left result ≡ loss category quantity ∷ [] }
     {
         SourceLosses::Pair(Some(loss(category, quantity)), None)
+    }
+
+    fn one(category: Category) -> SourceLosses<'a>
+        ensures { source_left result ≡ one_of category }
+    {
+        SourceLosses::single(category, 1)
     }
 
     fn pair(first: Category, many: u64, second: Category, much: u64) -> SourceLosses<'a>
@@ -122,16 +129,16 @@ impl<'a> SourceLosses<'a> {
         ensures { source_left result ≡ losses_of_item item.now }
     {
         match item {
-            EnvelopeItem::Event(_) => SourceLosses::single(Category::Error, 1),
-            EnvelopeItem::SessionUpdate(_) => SourceLosses::single(Category::Session, 1),
+            EnvelopeItem::Event(_) => SourceLosses::one(Category::Error),
+            EnvelopeItem::SessionUpdate(_) => SourceLosses::one(Category::Session),
             EnvelopeItem::SessionAggregates(groups) => SourceLosses::of_groups(groups),
             EnvelopeItem::Transaction(transaction) => SourceLosses::of_transaction(transaction),
             EnvelopeItem::Attachment(attachment) => {
                 SourceLosses::single(Category::Attachment, attachment.buffer.len() as u64)
             }
-            EnvelopeItem::MonitorCheckIn(_) => SourceLosses::single(Category::Monitor, 1),
-            EnvelopeItem::UserReport(_) => SourceLosses::single(Category::Feedback, 1),
-            EnvelopeItem::ReplayRecording(_) => SourceLosses::single(Category::Replay, 1),
+            EnvelopeItem::MonitorCheckIn(_) => SourceLosses::one(Category::Monitor),
+            EnvelopeItem::UserReport(_) => SourceLosses::one(Category::Feedback),
+            EnvelopeItem::ReplayRecording(_) => SourceLosses::one(Category::Replay),
             EnvelopeItem::ItemContainer(container) => SourceLosses::of_container(container),
             EnvelopeItem::ClientReport(report) => SourceLosses::of_report(report),
             EnvelopeItem::Raw => SourceLosses::none(),
@@ -171,6 +178,13 @@ impl<'a> ItemLossIter<'a> {
         ensures { losses_left result ≡ source_left source.entry }
     {
         ItemLossIter { source, items: &[] }
+    }
+
+    // The loss of one in a category.
+    fn one(category: Category) -> ItemLossIter<'a>
+        ensures { losses_left result ≡ one_of category }
+    {
+        ItemLossIter::of_source(SourceLosses::one(category))
     }
 
     /// Returns the losses of all items, in order.
@@ -235,22 +249,18 @@ pub trait LossSource: Sealed {
 }
 
 impl LossSource for Event<'_> {
-    ghost use Rattle.sentry_items.specs.Losses.{losses_of_event};
-
-    ghost losses_of = { losses_of_event };
+    ghost losses_of = { λ _. one_of categories.Error };
 
     fn losses(&self) -> ItemLossIter<'_> {
-        ItemLossIter::of_source(SourceLosses::single(Category::Error, 1))
+        ItemLossIter::one(Category::Error)
     }
 }
 
 impl LossSource for SessionUpdate<'_> {
-    ghost use Rattle.sentry_items.specs.Losses.{losses_of_session};
-
-    ghost losses_of = { losses_of_session };
+    ghost losses_of = { λ _. one_of categories.Session };
 
     fn losses(&self) -> ItemLossIter<'_> {
-        ItemLossIter::of_source(SourceLosses::single(Category::Session, 1))
+        ItemLossIter::one(Category::Session)
     }
 }
 
@@ -275,12 +285,10 @@ impl LossSource for Transaction<'_> {
 }
 
 impl LossSource for Span {
-    ghost use Rattle.sentry_items.specs.Losses.{losses_of_span};
-
-    ghost losses_of = { losses_of_span };
+    ghost losses_of = { λ _. one_of categories.Span };
 
     fn losses(&self) -> ItemLossIter<'_> {
-        ItemLossIter::of_source(SourceLosses::single(Category::Span, 1))
+        ItemLossIter::one(Category::Span)
     }
 }
 
@@ -296,32 +304,26 @@ impl LossSource for Attachment {
 }
 
 impl LossSource for MonitorCheckIn {
-    ghost use Rattle.sentry_items.specs.Losses.{losses_of_check_in};
-
-    ghost losses_of = { losses_of_check_in };
+    ghost losses_of = { λ _. one_of categories.Monitor };
 
     fn losses(&self) -> ItemLossIter<'_> {
-        ItemLossIter::of_source(SourceLosses::single(Category::Monitor, 1))
+        ItemLossIter::one(Category::Monitor)
     }
 }
 
 impl LossSource for UserReport {
-    ghost use Rattle.sentry_items.specs.Losses.{losses_of_user_report};
-
-    ghost losses_of = { losses_of_user_report };
+    ghost losses_of = { λ _. one_of categories.Feedback };
 
     fn losses(&self) -> ItemLossIter<'_> {
-        ItemLossIter::of_source(SourceLosses::single(Category::Feedback, 1))
+        ItemLossIter::one(Category::Feedback)
     }
 }
 
 impl LossSource for ReplayRecording {
-    ghost use Rattle.sentry_items.specs.Losses.{losses_of_recording};
-
-    ghost losses_of = { losses_of_recording };
+    ghost losses_of = { λ _. one_of categories.Replay };
 
     fn losses(&self) -> ItemLossIter<'_> {
-        ItemLossIter::of_source(SourceLosses::single(Category::Replay, 1))
+        ItemLossIter::one(Category::Replay)
     }
 }
 

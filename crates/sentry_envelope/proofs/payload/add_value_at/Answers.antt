@@ -2,7 +2,7 @@ use Rattle.std.proofs.Common.{rules}
 use Rattle.sentry_framing.specs.View.{frame_of}
 use Rattle.sentry_moments.specs.Moments.{moment_cell}
 use Rattle.sentry_envelope.proofs.ItemReads.{value_added_at, value_refused_at}
-use Rattle.sentry_envelope.proofs.read.add_value_at.Goals as goal
+use Rattle.sentry_envelope.proofs.payload.add_value_at.Goals as goal
 
 pub returns-in-Err-clause-err : goal.returns-in-Err-clause-err
 returns-in-Err-clause-err g c =
