@@ -7,6 +7,7 @@ ghost use Rattle.sentry_records.specs.Monitors.{check_in_cell};
 ghost use Rattle.sentry_records.specs.Sessions.{groups_cell, session_cell};
 ghost use Rattle.sentry_records.specs.UserReports.{user_report_cell};
 ghost use Rattle.sentry_reports.specs.Reports.{report_cell};
+ghost use Rattle.sentry_framing.specs.declared.kind.ItemKind.{ItemKind as ItemKinds};
 ghost use Rattle.sentry_framing.specs.declared.kind.ItemKind.TheVariants as kinds;
 ghost use Rattle.sentry_items.specs.Containers.{container_cell};
 ghost use Rattle.sentry_items.specs.declared.container.ItemContainer.TheVariants as containers;
@@ -31,7 +32,7 @@ use std::alloc::AllocError;
 // A type of values that payloads of JSON hold.
 pub(crate) trait Payload: Sized + Drop {
     // the type of the value's item
-    ghost item_kind: { ItemKind };
+    ghost item_kind: { ItemKinds };
 
     // what the item holds
     ghost cell: { Self → Cell };
