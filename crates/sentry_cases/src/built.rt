@@ -101,7 +101,7 @@ fn said_ids(alloc: Global, envelope: &Envelope) -> Result<Value, AllocError> {
 }
 
 // Whether an envelope and its items are their clones, and the items' normal forms are those of the
-// envelope's normal form.
+// envelope's normal form, which has no placeholders.
 fn are_copied(
     alloc: Global,
     envelope: &Envelope,
@@ -109,10 +109,16 @@ fn are_copied(
 ) -> Result<bool, AllocError> {
     let mut others = normal.items();
     for item in envelope.items() {
+        if !is_copy(item.clone(), item)? {
+            return Ok(false);
+        }
+        if item.kind().is_none() {
+            continue;
+        }
         let Some(other) = others.next() else {
             return Ok(false);
         };
-        if !is_copy(item.clone(), item)? || !is_copy(item.normalized(alloc), other)? {
+        if !is_copy(item.normalized(alloc), other)? {
             return Ok(false);
         }
     }
