@@ -102,11 +102,7 @@ fn said_ids(alloc: Global, envelope: &Envelope) -> Result<Value, AllocError> {
 
 // Whether an envelope and its items are their clones, and the items' normal forms are those of the
 // envelope's normal form, which has no placeholders.
-fn are_copied(
-    alloc: Global,
-    envelope: &Envelope,
-    normal: &Envelope,
-) -> Result<bool, AllocError> {
+fn are_copied(alloc: Global, envelope: &Envelope, normal: &Envelope) -> Result<bool, AllocError> {
     let mut others = normal.items();
     for item in envelope.items() {
         if !is_copy(item.clone(), item)? {
@@ -127,9 +123,13 @@ fn are_copied(
 
 // The same, said of an envelope.
 fn said_copied(alloc: Global, envelope: &Envelope) -> Result<Value, AllocError> {
-    said_of(alloc, envelope.normalized(), |alloc: Global, normal: &Envelope| {
-        Ok(Value::from(are_copied(alloc, envelope, normal)?))
-    })
+    said_of(
+        alloc,
+        envelope.normalized(),
+        |alloc: Global, normal: &Envelope| {
+            Ok(Value::from(are_copied(alloc, envelope, normal)?))
+        },
+    )
 }
 
 // The text of an envelope, its ids and the words of its items, those of its normal form, whether it

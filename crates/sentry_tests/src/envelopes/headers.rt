@@ -103,5 +103,9 @@ fn a_number_near_1(rt: HostRuntime) -> Result<(), Fail> {
     let near_one = SampleRand::from_billionths(999_999_900).ok().ok_or("rand")?;
     let trace = DynamicSamplingContext::new().with_sample_rand(near_one);
     let header = EnvelopeHeaders::new().with_trace(trace);
-    wanted(is_written(rt.alloc(), header, "{\"trace\":{\"sample_rand\":\"0.999999\"}}\n"))
+    wanted(is_written(
+        rt.alloc(),
+        header,
+        "{\"trace\":{\"sample_rand\":\"0.999999\"}}\n",
+    ))
 }
