@@ -176,15 +176,18 @@ fn refused_when_running_steps(rt: HostRuntime) -> Result<(), Fail> {
     wanted(held == if flushed { 1 } else { 10 })
 }
 
+/// Keeps no item.
+fn keeps_none(_item: &EnvelopeItem) -> bool {
+    false
+}
+
 /// What is told of an envelope that a filter takes out, after a refusal that recorded nothing at the
 /// second try.
 fn recorded_at_last(alloc: Global, envelope: Envelope, ledger: &mut Ledger) -> Option<(bool, u64)> {
-    let none = |_item: &EnvelopeItem| false;
-    let still = |_item: &EnvelopeItem| false;
-    match filter_recorded(alloc, envelope, none, Reason::SampleRate, ledger) {
+    match filter_recorded(alloc, envelope, keeps_none, Reason::SampleRate, ledger) {
         Err(envelope) => {
             if ledger.is_empty() {
-                told(filter_recorded(alloc, envelope, still, Reason::SampleRate, ledger))
+                told(filter_recorded(alloc, envelope, keeps_none, Reason::SampleRate, ledger))
             } else {
                 drop(envelope);
                 None
