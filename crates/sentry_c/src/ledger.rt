@@ -16,7 +16,7 @@ use crate::status::{
     INVALID_ARGUMENT, LEDGER_FULL, NO_MOMENT, NO_ROOM, NOTHING_LEFT, OK, OUT_OF_MEMORY,
 };
 use sentry_ledger::held_row::{holds_nothing, report_items};
-use sentry_reports::kept_sums::{SUMS, pair_place};
+use sentry_reports::kept_sums::{PAIRS, pair_place};
 use sentry_types::IndexedEnum;
 use sentry_types::protocol::v7::client_report::{Category, Reason, Report};
 use sentry_types::protocol::v7::{Envelope, EnvelopeItem, Moment};
@@ -40,11 +40,11 @@ fn reason_of(number: u32) -> Option<Reason>
 fn place_in(ledger: &[u64], category: u32, reason: u32) -> Option<usize>
     ensures found { IfSome result (λ place. (c : Categories) × (r : Reasons) ×
         IsPair category reason c r × (place ≡ pair_place c r)) }
-    ensures long { IfSome result (λ place. length ledger.now ≡ SUMS) }
+    ensures long { IfSome result (λ place. length ledger.now ≡ PAIRS) }
     ensures within { IfSome result (λ place. place < length ledger.now) }
-    ensures none { IfNone result ((length ledger.now ≢ SUMS) ⊎ ¬ HasPair category reason) }
+    ensures none { IfNone result ((length ledger.now ≢ PAIRS) ⊎ ¬ HasPair category reason) }
 {
-    if ledger.len() != SUMS {
+    if ledger.len() != PAIRS {
         return None;
     }
     let category = category_of(category)?;
@@ -66,10 +66,10 @@ pub extern "C" fn sentry_ledger_record(
         held_in ledger.old c r + quantity ≤ 2 ^ 64 - 1 }
     ensures full { result ≡ LEDGER_FULL → (c : Categories) (r : Reasons) →
         IsPair category reason c r → 2 ^ 64 - 1 < held_in ledger.old c r + quantity }
-    ensures argument { result ≡ INVALID_ARGUMENT → (length ledger.old ≢ SUMS) ⊎
+    ensures argument { result ≡ INVALID_ARGUMENT → (length ledger.old ≢ PAIRS) ⊎
         ¬ HasPair category reason }
     ensures pair { result ≢ INVALID_ARGUMENT → HasPair category reason }
-    ensures long { result ≢ INVALID_ARGUMENT → length ledger.old ≡ SUMS }
+    ensures long { result ≢ INVALID_ARGUMENT → length ledger.old ≡ PAIRS }
     ensures unchanged { result ≢ OK → ledger.new ≡ ledger.old }
     ensures answers { (result ≡ OK) ⊎ ((result ≡ LEDGER_FULL) ⊎ (result ≡ INVALID_ARGUMENT)) }
 {
@@ -95,10 +95,10 @@ pub extern "C" fn sentry_ledger_held(
 ) -> i32
     ensures held { result ≡ OK → (c : Categories) (r : Reasons) → IsPair category reason c r →
         quantity.new ≡ held_in ledger.now c r }
-    ensures argument { result ≡ INVALID_ARGUMENT → (length ledger.now ≢ SUMS) ⊎
+    ensures argument { result ≡ INVALID_ARGUMENT → (length ledger.now ≢ PAIRS) ⊎
         ¬ HasPair category reason }
     ensures pair { result ≡ OK → HasPair category reason }
-    ensures long { result ≡ OK → length ledger.now ≡ SUMS }
+    ensures long { result ≡ OK → length ledger.now ≡ PAIRS }
     ensures unchanged { result ≢ OK → quantity.new ≡ quantity.old }
     ensures answers { (result ≡ OK) ⊎ (result ≡ INVALID_ARGUMENT) }
 {
@@ -111,7 +111,7 @@ pub extern "C" fn sentry_ledger_held(
 
 // Returns the text of an envelope whose one item is the report of a ledger.
 fn report_text(alloc: Global, ledger: &[u64], now: Moment) -> Result<Vec<u8>, AllocError>
-    requires { length ledger.now ≡ SUMS }
+    requires { length ledger.now ≡ PAIRS }
     ensures { IfOk result (λ text.
         IsReportText (held_in ledger.now) now.secs now.nanos text.items) }
 {
@@ -135,7 +135,7 @@ pub extern "C" fn sentry_ledger_flush(
 ) -> i32
     ensures written { result ≡ OK → Puts (IsReportText (held_in ledger.old) now_secs now_nanos)
         out.old out.new needed.new }
-    ensures emptied { result ≡ OK → ledger.new ≡ replicate SUMS 0 }
+    ensures emptied { result ≡ OK → ledger.new ≡ replicate PAIRS 0 }
     ensures no_room { result ≡ NO_ROOM →
         IsTooLong (IsReportText (held_in ledger.old) now_secs now_nanos) out.old needed.new }
     ensures nothing { result ≡ NOTHING_LEFT → HoldsNothing (held_in ledger.old) }
@@ -143,8 +143,8 @@ pub extern "C" fn sentry_ledger_flush(
     ensures moment { result ≡ NO_MOMENT → ¬ IsMomentTime now_secs now_nanos }
     ensures is_moment { result ≢ NO_MOMENT → result ≢ INVALID_ARGUMENT →
         IsMomentTime now_secs now_nanos }
-    ensures argument { result ≡ INVALID_ARGUMENT → length ledger.old ≢ SUMS }
-    ensures long { result ≢ INVALID_ARGUMENT → length ledger.old ≡ SUMS }
+    ensures argument { result ≡ INVALID_ARGUMENT → length ledger.old ≢ PAIRS }
+    ensures long { result ≢ INVALID_ARGUMENT → length ledger.old ≡ PAIRS }
     ensures memory { result ≡ OUT_OF_MEMORY → ¬ HoldsNothing (held_in ledger.old) }
     ensures unchanged { result ≢ OK → ledger.new ≡ ledger.old }
     ensures out_unchanged { result ≢ OK → out.new ≡ out.old }
@@ -153,7 +153,7 @@ pub extern "C" fn sentry_ledger_flush(
         ((result ≡ NO_MOMENT) ⊎ ((result ≡ INVALID_ARGUMENT) ⊎ (result ≡ OUT_OF_MEMORY))))) }
 {
     *needed = 0;
-    if ledger.len() != SUMS {
+    if ledger.len() != PAIRS {
         return INVALID_ARGUMENT;
     }
     let Some(now) = Moment::new(now_secs, now_nanos) else {

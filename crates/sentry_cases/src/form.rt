@@ -1,6 +1,7 @@
 //! Values that lines of JSON show, and what is written of them.
 
 use crate::said::{debug, list, refused, text};
+use bumpalo::Bump;
 use rand_pcg::Pcg32;
 use sentry_json::Tape;
 use sentry_tables::read_tree;
@@ -102,7 +103,8 @@ fn beside_tape<F: ReadCodec<T>, T: Drop>(
     line: &[u8],
     told: Value,
 ) -> Result<Value, AllocError> {
-    let mut tape = Tape::new(alloc);
+    let texts = Bump::new(alloc);
+    let mut tape = Tape::new(alloc, &texts);
     let by_tape = match tape.parse(line) {
         Some(root) => F::from_node(alloc, &root),
         None => return Ok(told),
@@ -180,7 +182,8 @@ fn beside_tape_at<F: ReadCodecAt<T>, T: Drop>(
         drop(told);
         return text(alloc, "no moment");
     };
-    let mut tape = Tape::new(alloc);
+    let texts = Bump::new(alloc);
+    let mut tape = Tape::new(alloc, &texts);
     let by_tape = match tape.parse(line) {
         Some(root) => F::from_node(alloc, &root, now, &mut ids()),
         None => return Ok(told),
@@ -280,7 +283,8 @@ pub fn debugged<T: Debug + Drop>(
 /// `true` if the tape takes a line and has the tree that `read_tree` gives, `two answers` if it has
 /// another; `by tree` if `read_tree` alone takes the line, else its error behind `!`.
 pub fn of_tape(alloc: Global, line: &[u8]) -> Result<Value, AllocError> {
-    let mut tape = Tape::new(alloc);
+    let texts = Bump::new(alloc);
+    let mut tape = Tape::new(alloc, &texts);
     let Some(root) = tape.parse(line) else {
         return match read_tree(alloc, line) {
             Ok(_) => text(alloc, "by tree"),

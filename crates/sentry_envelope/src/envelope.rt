@@ -8,6 +8,7 @@ use crate::plain::items_are_plain;
 use crate::read::read_items;
 use crate::text::Text;
 use crate::write::write_envelope;
+use bumpalo::Bump;
 use rand_core::Rng;
 use sentry_event::Event;
 use sentry_framing::{EnvelopeError, Frames};
@@ -145,10 +146,12 @@ impl Envelope {
         ensures fault { IfErr result (λ x. x ≢ EnvelopeError.OutOfMemory →
             Fault profile bytes.now x) }
     {
-        let mut lines = LineReader::new(alloc);
+        let texts = Bump::new(alloc);
+        let mut lines = LineReader::new(alloc, &texts);
         let mut frames = Frames::new(bytes);
         let mut headers = EnvelopeHeaders::new();
-        read_header_line(&mut lines, frames.header_line(), &mut headers)?;
+        let line = frames.header_line();
+        read_header_line(&mut lines, line, &mut headers)?;
         let items = read_items(&mut lines, &mut frames, now, ids)?;
         headers.fill(first_id(&items));
         Ok(Envelope {

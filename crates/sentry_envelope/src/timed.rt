@@ -3,6 +3,7 @@
 ghost use Rattle.sentry_tables.specs.Reading.{ReadsTextAt, ShownAt, RefusedAt};
 ghost use Rattle.sentry_moments.specs.Moments.{moment_cell};
 
+use bumpalo::Bump;
 use rand_core::Rng;
 use sentry_json::Node;
 use sentry_moments::Moment;
@@ -61,5 +62,6 @@ pub fn read_line_at<T: FromTreeAt, R: Rng>(
 ) -> Result<T, TreeError>
     ensures { ReadsTextAt (moment_cell now) T.kind T.cell_of line.now result }
 {
-    read_at(&mut LineReader::new(alloc), line, now, ids)
+    let texts = Bump::new(alloc);
+    read_at(&mut LineReader::new(alloc, &texts), line, now, ids)
 }

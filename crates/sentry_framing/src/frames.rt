@@ -10,6 +10,7 @@ use crate::error::EnvelopeError;
 use crate::header::{ItemHeader, read_fields};
 use crate::lines::{end_line, skip_space, split_line};
 use crate::piece::piece_len;
+use bumpalo::Bump;
 use sentry_tables::LineReader;
 use std::alloc::Global;
 use std::marker::Model;
@@ -130,7 +131,8 @@ impl<'a> Frames<'a> {
         ensures memory { result ≡ Some (Err EnvelopeError.OutOfMemory) → self.new ≡ self.old }
     {
         let mut header = ItemHeader::new();
-        match next_item_into(self, &mut LineReader::new(alloc), &mut header) {
+        let texts = Bump::new(alloc);
+        match next_item_into(self, &mut LineReader::new(alloc, &texts), &mut header) {
             None => None,
             Some(Ok(frame)) => Some(Ok((frame, header))),
             Some(Err(error)) => Some(Err(error)),
@@ -145,9 +147,9 @@ impl<'a> Frames<'a> {
 ///
 /// The errors of [`Frames::next_frame`], with the same effect on `frames`; some fields of `header`
 /// may be set.
-pub fn next_item_into<'a>(
+pub fn next_item_into<'l, 'a: 'l>(
     frames: &mut Frames<'a>,
-    lines: &mut LineReader<'a>,
+    lines: &mut LineReader<'l>,
     header: &mut ItemHeader,
 ) -> Option<Result<ItemFrame<'a>, EnvelopeError>>
     ensures header_line { frames.new.header_line ≡ frames.old.header_line }
@@ -209,8 +211,8 @@ fn split_header(body: &[u8]) -> Result<(&[u8], &[u8]), EnvelopeError>
 }
 
 // Returns the first frame and the bytes after the frame, and parses the item header into `fields`.
-fn first_item<'a>(
-    lines: &mut LineReader<'a>,
+fn first_item<'l, 'a: 'l>(
+    lines: &mut LineReader<'l>,
     body: &'a [u8],
     fields: &mut ItemHeader,
 ) -> Result<(ItemFrame<'a>, &'a [u8]), EnvelopeError>
@@ -222,7 +224,9 @@ fn first_item<'a>(
         → IsFault (stated_length item_words) body.now e) }
 {
     let (header, after) = split_header(body)?;
-    read_fields(lines, header, fields)?;
+    // The frame is returned, and lives longer than what reads its header.
+    let line: &'l [u8] = header;
+    read_fields(lines, line, fields)?;
     let left = end_line(after)?;
     let (payload, tail) = split_payload(fields.length, left)?;
     let rest = end_line(tail)?;

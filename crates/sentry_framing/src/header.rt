@@ -9,6 +9,7 @@ ghost use Rattle.sentry_json.specs.TapeView.{node_data};
 
 use crate::error::EnvelopeError;
 use crate::kind::ItemKind;
+use bumpalo::Bump;
 use sentry_json::{Node, TapeNode};
 use sentry_tables::{LineReader, TreeError, read_tree};
 use std::alloc::Global;
@@ -169,7 +170,8 @@ pub fn read_item_header(alloc: Global, header: &[u8]) -> Result<ItemHeader, Enve
         ⊎ ((e ≡ EnvelopeError.InvalidItemHeader) × (read_header item_words header.now ≡ None))) }
 {
     let mut fields = ItemHeader::new();
-    read_fields(&mut LineReader::new(alloc), header, &mut fields)?;
+    let texts = Bump::new(alloc);
+    read_fields(&mut LineReader::new(alloc, &texts), header, &mut fields)?;
     Ok(fields)
 }
 

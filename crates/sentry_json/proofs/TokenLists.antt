@@ -69,7 +69,6 @@ with_same i j p q (token.Bool x) ts a b = refl
 with_same i j p q (token.Whole n) ts a b = refl
 with_same i j p q (token.Negative z) ts a b = refl
 with_same i j p q (token.Text s) ts a b = refl
-with_same i j p q (token.Unescaped s) ts a b = refl
 with_same i j p q (token.Array n) ts a b = ap array a
 with_same i j p q (token.Object n) ts a b = ap object b
 
@@ -117,7 +116,6 @@ with_array i p (token.Bool x) ts h = absurd cc
 with_array i p (token.Whole n) ts h = absurd cc
 with_array i p (token.Negative z) ts h = absurd cc
 with_array i p (token.Text s) ts h = absurd cc
-with_array i p (token.Unescaped s) ts h = absurd cc
 with_array i p (token.Array n) ts h = refl
 with_array i p (token.Object n) ts h = absurd cc
 
@@ -127,7 +125,6 @@ with_object i p (token.Bool x) ts h = absurd cc
 with_object i p (token.Whole n) ts h = absurd cc
 with_object i p (token.Negative z) ts h = absurd cc
 with_object i p (token.Text s) ts h = absurd cc
-with_object i p (token.Unescaped s) ts h = absurd cc
 with_object i p (token.Array n) ts h = absurd cc
 with_object i p (token.Object n) ts h = refl
 
@@ -234,7 +231,6 @@ with_no_float i p (token.Whole n) ts a b = refl
 with_no_float i p (token.Negative (pos n)) ts a b = refl
 with_no_float i p (token.Negative (negsuc n)) ts a b = refl
 with_no_float i p (token.Text s) ts a b = refl
-with_no_float i p (token.Unescaped s) ts a b = refl
 with_no_float i p (token.Array n) ts a b = a
 with_no_float i p (token.Object n) ts a b = b
 

@@ -70,7 +70,6 @@ text_value (variants.Bool b) s e = absurd (cc)
 text_value (variants.Whole n) s e = absurd (cc)
 text_value (variants.Negative z) s e = absurd (cc)
 text_value (variants.Text x) s e = (ap (option_map string) (sym e), refl)
-text_value (variants.Unescaped x) s e = (ap (option_map string) (sym e), refl)
 text_value (variants.Array n) s e = absurd (cc)
 text_value (variants.Object n) s e = absurd (cc)
 

@@ -1,5 +1,5 @@
 -- What a list of tokens means: each token is a value, and what is inside an array or an object comes behind it.
-use Rattle.std.specs.Prelude.{ℕ, zero, suc, ℤ, pos, negsuc, List, [], ◌∷◌, length, take, drop, Option, Some, None, string_bytes}
+use Rattle.std.specs.Prelude.{ℕ, zero, suc, ℤ, pos, negsuc, List, [], ◌∷◌, length, take, drop, Option, Some, None}
 use Rattle.serde_json.specs.Data.{Num, unsigned, negative, Data, null, boolean, number, string, array, object, Items, no_items, item, Members, no_members, put}
 use Rattle.sentry_json.specs.declared.tape.token.Token.{Token}
 use Rattle.sentry_json.specs.declared.tape.token.Token.TheVariants as token
@@ -11,7 +11,6 @@ width (token.Bool b) = 0
 width (token.Whole n) = 0
 width (token.Negative z) = 0
 width (token.Text s) = 0
-width (token.Unescaped s) = 0
 width (token.Array n) = n
 width (token.Object n) = n
 
@@ -22,7 +21,6 @@ text_of (token.Bool b) = None
 text_of (token.Whole n) = None
 text_of (token.Negative z) = None
 text_of (token.Text s) = Some s.now
-text_of (token.Unescaped s) = Some (string_bytes s.value)
 text_of (token.Array n) = None
 text_of (token.Object n) = None
 
@@ -38,7 +36,6 @@ value_with items members (token.Bool b) ts = boolean b
 value_with items members (token.Whole n) ts = number (unsigned n)
 value_with items members (token.Negative z) ts = number (integer z)
 value_with items members (token.Text s) ts = string s.now
-value_with items members (token.Unescaped s) ts = string (string_bytes s.value)
 value_with items members (token.Array n) ts = array (items ts)
 value_with items members (token.Object n) ts = object (members ts)
 

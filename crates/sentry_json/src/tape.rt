@@ -21,6 +21,7 @@ use crate::tape::number::split_whole;
 use crate::tape::rest::Rest;
 use crate::tape::scalar::split_scalar;
 use crate::tape::token::Token;
+use bumpalo::Bump;
 pub use node::TapeNode;
 use std::alloc::Global;
 
@@ -34,17 +35,21 @@ const BYTES: usize = 8;
 const LEAST: usize = 40;
 
 /// The tokens of a line of JSON, in the order of the line; its memory serves line after line.
+///
+/// What strings with escapes stand for is kept in an arena, beside the lines.
 #[derive(Drop)]
 pub struct Tape<'a> {
     alloc: Global,
+    texts: &'a Bump,
     tokens: Vec<Token<'a>>,
 }
 
 impl<'a> Tape<'a> {
     /// Creates an empty tape, without allocating yet.
-    pub fn new(alloc: Global) -> Tape<'a> {
+    pub fn new(alloc: Global, texts: &'a Bump) -> Tape<'a> {
         Tape {
             alloc,
+            texts,
             tokens: Vec::new(alloc),
         }
     }
@@ -61,7 +66,14 @@ impl<'a> Tape<'a> {
         let text = Rest::new(line)?;
         self.tokens.reserve((line.len() / BYTES).max(LEAST)).ok()?;
         let front = text.skip_space();
-        let rest = take_value(self.alloc, front, false, DEEPEST, &mut self.tokens)?;
+        let rest = take_value(
+            self.alloc,
+            self.texts,
+            front,
+            false,
+            DEEPEST,
+            &mut self.tokens,
+        )?;
         let end = rest.skip_space();
         if !end.text.is_empty() {
             return None;
@@ -70,10 +82,11 @@ impl<'a> Tape<'a> {
     }
 }
 
-// Appends the token of a string, behind its opening quote, and returns what follows it.
+// Appends the token of a string with escapes, behind its opening quote, and returns what follows it.
 #[inline(always)]
 fn take_escaped<'a>(
     alloc: Global,
+    texts: &'a Bump,
     inside: Rest<'a>,
     tokens: &mut Vec<Token<'a>>,
 ) -> Option<Rest<'a>>
@@ -83,9 +96,8 @@ fn take_escaped<'a>(
     ensures shorter { IfSome result (λ rest. length rest.text.now < length inside.entry.text.now) }
 {
     let (text, rest) = split_escaped(alloc, inside)?;
-    tokens
-        .push(Token::Unescaped(Box::new(alloc, text).ok()?))
-        .ok()?;
+    let kept = texts.try_alloc_str(&text).ok()?;
+    tokens.push(Token::Text(kept)).ok()?;
     Some(rest)
 }
 
@@ -107,6 +119,7 @@ fn take_scalar<'a>(text: Rest<'a>, tokens: &mut Vec<Token<'a>>) -> Option<Rest<'
 #[inline(never)]
 fn take_leaf<'a>(
     alloc: Global,
+    texts: &'a Bump,
     text: Rest<'a>,
     key: bool,
     tokens: &mut Vec<Token<'a>>,
@@ -120,7 +133,7 @@ fn take_leaf<'a>(
     ensures shorter { IfSome result (λ rest. length rest.text.now < length text.entry.text.now) }
 {
     if let Some(inside) = text.after(b'"') {
-        return take_escaped(alloc, inside, tokens);
+        return take_escaped(alloc, texts, inside, tokens);
     }
     if key {
         return None;
@@ -137,6 +150,7 @@ fn take_leaf<'a>(
 #[inline(always)]
 fn take_value<'a>(
     alloc: Global,
+    texts: &'a Bump,
     text: Rest<'a>,
     key: bool,
     depth: u8,
@@ -158,10 +172,10 @@ fn take_value<'a>(
     }
     let byte = *text.bytes().first()?;
     if !key && (byte == b'{' || byte == b'[') {
-        let rest = take_inside(alloc, text.after(byte)?, byte == b'{', depth, tokens)?;
+        let rest = take_inside(alloc, texts, text.after(byte)?, byte == b'{', depth, tokens)?;
         return Some(rest);
     }
-    let rest = take_leaf(alloc, text, key, tokens)?;
+    let rest = take_leaf(alloc, texts, text, key, tokens)?;
     Some(rest)
 }
 
@@ -171,6 +185,7 @@ fn take_value<'a>(
 #[inline(never)]
 fn take_inside<'a>(
     alloc: Global,
+    texts: &'a Bump,
     text: Rest<'a>,
     object: bool,
     depth: u8,
@@ -196,7 +211,7 @@ fn take_inside<'a>(
             left = next.skip_space();
             continue;
         }
-        let rest = take_value(alloc, left, key, depth, tokens)?;
+        let rest = take_value(alloc, texts, left, key, depth, tokens)?;
         if key {
             left = rest.after_spaced(b':')?;
             key = false;

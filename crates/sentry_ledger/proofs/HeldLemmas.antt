@@ -13,7 +13,7 @@ use Rattle.sentry_reports.specs.Sums.{lost}
 use Rattle.sentry_reports.specs.declared.category.Category.{Category}
 use Rattle.sentry_reports.specs.declared.item.Item.{Item}
 use Rattle.sentry_reports.specs.declared.item_loss.ItemLoss.{ItemLoss}
-use Rattle.sentry_reports.specs.declared.kept_sums.TheConstants.{SUMS}
+use Rattle.sentry_reports.specs.declared.kept_sums.TheConstants.{PAIRS}
 use Rattle.sentry_reports.specs.declared.reason.Reason.{Reason}
 use Rattle.sentry_reports.proofs.ReportSums.{pair_below, same_place, other_place, pair_at}
 use Rattle.sentry_reports.proofs.Sums.{share, share_here, share_elsewhere}
@@ -22,7 +22,7 @@ use Rattle.sentry_ledger.specs.Held.{Quantities, reason_for, recorded_loss, item
 -- ---- recording
 
 -- in a row, what is held of a pair with one more loss
-pub row_more : (row : List ℕ) (loss : ItemLoss) (given : Reason) (c : Category) (r : Reason) → length row ≡ SUMS
+pub row_more : (row : List ℕ) (loss : ItemLoss) (given : Reason) (c : Category) (r : Reason) → length row ≡ PAIRS
     → get_or (set row (pair_place loss.category (reason_for loss given)) (get_or row (pair_place loss.category (reason_for loss given)) 0 + loss.quantity)) (pair_place c r) 0
     ≡ get_or row (pair_place c r) 0 + share c (Some r) (recorded_loss loss given)
 row_more row loss given c r long = go (eqb_tells (pair_place c r) at)
@@ -42,8 +42,8 @@ row_more row loss given c r long = go (eqb_tells (pair_place c r) at)
         get_or-set_other row at (pair_place c r) _ 0 elsewhere.1 ∙ sym (ap (λ (n : ℕ). get_or row (pair_place c r) 0 + n) adds ∙ omega arith)
 
 -- a row of zeros holds nothing
-pub no_row : (c : Category) (r : Reason) → get_or (replicate {A = ℕ} SUMS 0) (pair_place c r) 0 ≡ 0
-no_row c r = get_or-replicate SUMS (pair_place c r) 0 0 (pair_below c r)
+pub no_row : (c : Category) (r : Reason) → get_or (replicate {A = ℕ} PAIRS 0) (pair_place c r) 0 ≡ 0
+no_row c r = get_or-replicate PAIRS (pair_place c r) 0 0 (pair_below c r)
 
 -- ---- sums over lists in order
 
@@ -93,10 +93,10 @@ reasons_ordered : InOrder reason_index 0 reasons
 reasons_ordered = (refl, (refl, (refl, (refl, (refl, (refl, (refl, (refl, (refl, tt)))))))))
 
 -- nothing is held exactly where each quantity in the row is 0
-pub zeros_hold_nothing : (row : List ℕ) → length row ≡ SUMS → EachIndex row (λ k. get_or row k 0 ≡ 0) → (c : Category) (r : Reason) → get_or row (pair_place c r) 0 ≡ 0
+pub zeros_hold_nothing : (row : List ℕ) → length row ≡ PAIRS → EachIndex row (λ k. get_or row k 0 ≡ 0) → (c : Category) (r : Reason) → get_or row (pair_place c r) 0 ≡ 0
 zeros_hold_nothing row long zeros c r = zeros (pair_place c r) (omega (arith, pair_below c r))
 
-pub nothing_is_zeros : (row : List ℕ) → length row ≡ SUMS → ((c : Category) (r : Reason) → get_or row (pair_place c r) 0 ≡ 0) → EachIndex row (λ k. get_or row k 0 ≡ 0)
+pub nothing_is_zeros : (row : List ℕ) → length row ≡ PAIRS → ((c : Category) (r : Reason) → get_or row (pair_place c r) 0 ≡ 0) → EachIndex row (λ k. get_or row k 0 ≡ 0)
 nothing_is_zeros row long nothing k within = go (pair_at k (omega (arith, long)))
   where
     go : (c : Category) × (r : Reason) × (pair_place c r ≡ k) → get_or row k 0 ≡ 0

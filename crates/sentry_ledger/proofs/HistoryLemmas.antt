@@ -12,7 +12,7 @@ use Rattle.sentry_reports.specs.ReportSums.{pair_place, report_sum}
 use Rattle.sentry_reports.specs.Sums.{lost}
 use Rattle.sentry_reports.specs.declared.category.Category.{Category}
 use Rattle.sentry_reports.specs.declared.item_loss.ItemLoss.{ItemLoss}
-use Rattle.sentry_reports.specs.declared.kept_sums.TheConstants.{SUMS}
+use Rattle.sentry_reports.specs.declared.kept_sums.TheConstants.{PAIRS}
 use Rattle.sentry_reports.specs.declared.reason.Reason.{Reason}
 use Rattle.sentry_reports.specs.declared.report.Report.{Report}
 use Rattle.sentry_reports.proofs.Sums.{share}
@@ -171,7 +171,7 @@ zip-append {A} {B} (a ∷ xs) (b ∷ ys) xs' ys' same = ap (λ (zs : List (A × 
 -- ---- one entry
 
 -- what is held after a loss is recorded in a row
-pub held_recorded : (row : List ℕ) (loss : ItemLoss) (given : Reason) (at sum : ℕ) → length row ≡ SUMS → at ≡ pair_place loss.category (reason_for loss given) → sum ≡ get_or row at 0 + loss.quantity
+pub held_recorded : (row : List ℕ) (loss : ItemLoss) (given : Reason) (at sum : ℕ) → length row ≡ PAIRS → at ≡ pair_place loss.category (reason_for loss given) → sum ≡ get_or row at 0 + loss.quantity
     → (c : Category) (r : Reason) → get_or (set row at sum) (pair_place c r) 0 ≡ held_after (λ d s. get_or row (pair_place d s) 0) ((Add loss given, Accepted) ∷ []) c r
 unfolding held_after accepted
 held_recorded row loss given at sum long here is c r = let more = row_more row loss given c r long in rw (is, here) (more ∙ omega arith)

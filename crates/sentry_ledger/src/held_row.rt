@@ -4,7 +4,7 @@ ghost use Rattle.std.specs.Prelude.{◌≡◌, ◌↔◌, ◌++◌, EachIndex, I
 ghost use Rattle.std.specs.List.{flat_map};
 ghost use Rattle.sentry_reports.specs.ReportSums.{report_sum};
 ghost use Rattle.sentry_reports.specs.declared.category.Category.{Category as Categories};
-ghost use Rattle.sentry_reports.specs.declared.kept_sums.TheConstants.{SUMS};
+ghost use Rattle.sentry_reports.specs.declared.kept_sums.TheConstants.{PAIRS};
 ghost use Rattle.sentry_reports.specs.declared.reason.Reason.{Reason as Reasons};
 ghost use Rattle.sentry_ledger.specs.Held.{HoldsNothing, held_in, items_held, items_of_category, items_of_pair};
 
@@ -21,7 +21,7 @@ fn are_zeros(quantities: &[u64]) -> bool
 
 /// Returns whether a row of 108 sums holds no loss.
 pub fn holds_nothing(row: &[u64]) -> bool
-    requires { length row.now ≡ SUMS }
+    requires { length row.now ≡ PAIRS }
     ensures { IsTrue result ↔ HoldsNothing (held_in row.now) }
 {
     are_zeros(row)
@@ -35,7 +35,7 @@ pub fn holds_nothing(row: &[u64]) -> bool
 /// `AllocError` if an allocation fails.
 #[tactic(auto, unfolding(crate::specs::Held::items_held))]
 pub fn report_items(alloc: Global, row: &[u64]) -> Result<Vec<Item>, AllocError>
-    requires { length row.now ≡ SUMS }
+    requires { length row.now ≡ PAIRS }
     ensures items { IfOk result (λ items. items.items ≡ items_held (held_in row.now)) }
     ensures sums { IfOk result (λ items. (category : Categories) (reason : Reasons) →
         report_sum category reason items.items ≡ held_in row.now category reason) }
@@ -50,7 +50,7 @@ fn push_categories(
     row: &[u64],
     categories: &[Category],
 ) -> Result<(), AllocError>
-    requires { length row.now ≡ SUMS }
+    requires { length row.now ≡ PAIRS }
     ensures { OnOk result (items.new.items ≡ items.old.items
         ++ flat_map (items_of_category (held_in row.now)) categories.now) }
 {
@@ -62,7 +62,7 @@ fn push_categories(
 
 #[tactic(auto, unfolding(crate::specs::Held::items_of_category))]
 fn push_category(items: &mut Vec<Item>, row: &[u64], category: Category) -> Result<(), AllocError>
-    requires { length row.now ≡ SUMS }
+    requires { length row.now ≡ PAIRS }
     ensures { OnOk result (items.new.items ≡ items.old.items
         ++ items_of_category (held_in row.now) category) }
 {
@@ -75,7 +75,7 @@ fn push_reasons(
     category: Category,
     reasons: &[Reason],
 ) -> Result<(), AllocError>
-    requires { length row.now ≡ SUMS }
+    requires { length row.now ≡ PAIRS }
     ensures { OnOk result (items.new.items ≡ items.old.items
         ++ flat_map (items_of_pair (held_in row.now) category) reasons.now) }
 {
@@ -92,7 +92,7 @@ fn push_pair(
     category: Category,
     reason: Reason,
 ) -> Result<(), AllocError>
-    requires { length row.now ≡ SUMS }
+    requires { length row.now ≡ PAIRS }
     ensures { OnOk result (items.new.items ≡ items.old.items
         ++ items_of_pair (held_in row.now) category reason) }
 {

@@ -2,7 +2,7 @@
 
 use crate::held_row::{holds_nothing, report_items};
 use sentry_moments::Moment;
-use sentry_reports::kept_sums::{SUMS, pair_place};
+use sentry_reports::kept_sums::{PAIRS, pair_place};
 use sentry_reports::{Category, ItemLoss, Reason, Report};
 use std::alloc::{AllocError, Global};
 use thiserror::Error;
@@ -17,7 +17,7 @@ pub struct LedgerFull(pub ItemLoss);
 /// A ledger is a value of fixed size, and allocates only in [`Ledger::flush`].
 #[derive(Debug, Drop)]
 pub struct Ledger {
-    row: [u64; SUMS],
+    row: [u64; PAIRS],
 }
 
 impl Ledger {
@@ -32,7 +32,7 @@ impl Ledger {
     pub fn new() -> Ledger
         ensures { HoldsNothing (quantity_held result) }
     {
-        Ledger { row: [0; SUMS] }
+        Ledger { row: [0; PAIRS] }
     }
 
     /// Returns the quantity of a category that was lost for a reason and is not reported yet.
@@ -95,7 +95,7 @@ impl Ledger {
             return Ok(None);
         }
         let items = report_items(alloc, &self.row)?;
-        self.row = [0; SUMS];
+        self.row = [0; PAIRS];
         Ok(Some(Report::new(now, items)))
     }
 }

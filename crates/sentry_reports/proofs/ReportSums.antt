@@ -13,11 +13,11 @@ use Rattle.sentry_reports.specs.declared.category.Category.TheVariants as catego
 use Rattle.sentry_reports.specs.declared.reason.Reason.TheVariants as reason
 use Rattle.sentry_reports.specs.declared.category.Category.{Category}
 use Rattle.sentry_reports.specs.declared.item.Item.{Item}
-use Rattle.sentry_reports.specs.declared.kept_sums.TheConstants.{SUMS}
+use Rattle.sentry_reports.specs.declared.kept_sums.TheConstants.{PAIRS}
 use Rattle.sentry_reports.specs.declared.reason.Reason.{Reason}
 use Rattle.sentry_reports.proofs.Sums.{share, category_below, reason_below, share_here, share_elsewhere}
 
-pub pair_below : (c : Category) (r : Reason) → pair_place c r < SUMS
+pub pair_below : (c : Category) (r : Reason) → pair_place c r < PAIRS
 pair_below c r = omega (arith, category_below c, reason_below r)
 
 -- what one more item adds to the sum of a pair, without bound
@@ -49,9 +49,9 @@ pub other_place : (c d : Category) (r s : Reason) → pair_place c r ≢ pair_pl
 other_place c d r s ne e = ne (omega (arith, reason_below r, reason_below s))
 
 -- nothing is lost with no items
-pub keeps_nothing : KeepsSums (replicate SUMS 0) []
+pub keeps_nothing : KeepsSums (replicate PAIRS 0) []
 unfolding report_sum
-keeps_nothing = record { long = refl; each = λ c r. get_or-replicate SUMS (pair_place c r) 0 0 (pair_below c r) }
+keeps_nothing = record { long = refl; each = λ c r. get_or-replicate PAIRS (pair_place c r) 0 0 (pair_below c r) }
 
 -- one more item in the sum at its place, which is cut, and in no other
 each_more : (sums : List ℕ) (items : List Item) (item : Item) → KeepsSums sums items → (c : Category) (r : Reason)
@@ -113,7 +113,7 @@ reason_at i h =
     (found.0, omega (arith, found.1))
 
 -- each place in the row is that of a pair
-pub pair_at : (i : ℕ) → i < SUMS → (c : Category) × (r : Reason) × (pair_place c r ≡ i)
+pub pair_at : (i : ℕ) → i < PAIRS → (c : Category) × (r : Reason) × (pair_place c r ≡ i)
 pair_at i h =
     let c = category_at (i / 9) (omega arith) in
     let r = reason_at (i % 9) (omega arith) in
@@ -126,7 +126,7 @@ all_at items category.Error reason.SendError = refl
 all_at items _ reason.SendError = refl
 all_at items _ _ = refl
 
-all_long : (items : List Item) → length (all_sums items) ≡ SUMS
+all_long : (items : List Item) → length (all_sums items) ≡ PAIRS
 unfolding all_sums
 all_long items = refl
 

@@ -6,7 +6,7 @@ use Rattle.sentry_reports.specs.Items.{losses_reported}
 use Rattle.sentry_reports.specs.Sums.{shown}
 use Rattle.sentry_reports.specs.declared.category.Category.{Category}
 use Rattle.sentry_reports.specs.declared.item.Item.{Item}
-use Rattle.sentry_reports.specs.declared.kept_sums.TheConstants.{SUMS}
+use Rattle.sentry_reports.specs.declared.kept_sums.TheConstants.{PAIRS}
 use Rattle.sentry_reports.specs.declared.reason.Reason.{Reason}
 
 -- the sum of the quantities of the items of a category and a reason, without bound, cut once at what 64 bits hold
@@ -19,7 +19,7 @@ pair_place category reason = 9 * category_index category + reason_index reason
 
 -- the row has the sum of each category and reason in its place, and nothing else
 pub record KeepsSums (sums : List ℕ) (items : List Item) : Type 0 where
-  pub long : length sums ≡ SUMS
+  pub long : length sums ≡ PAIRS
   pub each : (category : Category) (reason : Reason) → slice_index sums (pair_place category reason) ≡ report_sum category reason items
 
 -- the sums of all categories and reasons, category by category

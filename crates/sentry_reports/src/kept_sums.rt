@@ -9,7 +9,7 @@ use crate::reason::Reason;
 use sentry_words::IndexedEnum;
 
 /// Number of sums that a report keeps: one for each pair of a category and a reason.
-pub const SUMS: usize = 108;
+pub const PAIRS: usize = 108;
 
 // Number of reasons, and of the sums in each category.
 const REASONS: usize = 9;
@@ -17,7 +17,7 @@ const REASONS: usize = 9;
 /// Returns the index of a sum: category by category, and by reason in each category.
 pub fn pair_place(category: Category, reason: Reason) -> usize
     ensures same { result ≡ pair_place category reason }
-    ensures within { result < SUMS }
+    ensures within { result < PAIRS }
 {
     REASONS * category.as_index() + reason.as_index()
 }
@@ -30,10 +30,10 @@ fn add_up(sum: u64, quantity: u64) -> u64
 
 // Returns the sum of each category and reason, saturating at 2^64-1.
 #[tactic(auto, using(crate::proofs::ReportSums::keeps_nothing))]
-pub(crate) fn sums_of(items: &[Item]) -> [u64; SUMS]
+pub(crate) fn sums_of(items: &[Item]) -> [u64; PAIRS]
     ensures { KeepsSums result items.now }
 {
-    let mut sums = [0_u64; SUMS];
+    let mut sums = [0_u64; PAIRS];
     for item in items {
         let place = pair_place(item.category, item.reason);
         sums[place] = add_up(sums[place], item.quantity);

@@ -12,7 +12,7 @@ ghost use Rattle.sentry_reports.specs.ItemTable.{item_kind};
 ghost use Rattle.sentry_reports.specs.Reports.{report_kind, report, AreReportsAlike};
 
 use crate::category::Category;
-use crate::kept_sums::SUMS;
+use crate::kept_sums::PAIRS;
 use crate::reason::Reason;
 use crate::report::Report;
 use sentry_words::IndexedEnum;
@@ -65,7 +65,7 @@ pub fn tables()
 
 /// Returns the number of sums that a report keeps: one for each pair of a category and a reason.
 pub fn sums_of_all_pairs() -> usize
-    ensures kept { result ≡ SUMS }
+    ensures kept { result ≡ PAIRS }
     ensures pairs { result ≡ length categories * length reasons }
 {
     Category::VARIANTS.len() * Reason::VARIANTS.len()

@@ -4,7 +4,7 @@ ghost use Rattle.sentry_reports.specs.Reports.{report_fields, report_in_order};
 
 use crate::category::Category;
 use crate::item::Item;
-use crate::kept_sums::{SUMS, pair_place};
+use crate::kept_sums::{PAIRS, pair_place};
 use crate::reason::Reason;
 use crate::report_rows::ReportRows;
 use rand_core::Rng;
@@ -27,7 +27,7 @@ use std::marker::Model;
 #[derive(Drop)]
 pub struct Report {
     pub(crate) rows: ReportRows,
-    pub(crate) sums: [u64; SUMS],
+    pub(crate) sums: [u64; PAIRS],
 }
 
 impl Model for Report {

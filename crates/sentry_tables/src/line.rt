@@ -12,6 +12,7 @@ ghost use Rattle.sentry_tables.specs.Reading.{Only, LineShows, LineRefused, Read
 use crate::error::TreeError;
 use crate::read::FromTree;
 use crate::tree::has_float;
+use bumpalo::Bump;
 use sentry_json::{Node, Tape, TapeNode};
 use serde_json::Value;
 use std::alloc::Global;
@@ -75,11 +76,11 @@ pub struct LineReader<'a> {
 }
 
 impl<'a> LineReader<'a> {
-    /// Creates a reader, without allocating yet.
-    pub fn new(alloc: Global) -> LineReader<'a> {
+    /// Creates a reader, without allocating yet. `texts` takes what strings with escapes stand for.
+    pub fn new(alloc: Global, texts: &'a Bump) -> LineReader<'a> {
         LineReader {
             alloc,
-            tape: Tape::new(alloc),
+            tape: Tape::new(alloc, texts),
         }
     }
 
@@ -165,5 +166,6 @@ impl<T: FromTree> ReadsNode<T> for Plainly {
 pub fn read_line<T: FromTree>(alloc: Global, line: &[u8]) -> Result<T, TreeError>
     ensures { ReadsText T.kind T.cell_of line.now result }
 {
-    LineReader::new(alloc).read(line)
+    let texts = Bump::new(alloc);
+    LineReader::new(alloc, &texts).read(line)
 }

@@ -11,7 +11,7 @@ use crate::tape::rest::Rest;
 use std::alloc::Global;
 
 // As many bytes are reserved for a string with escapes.
-const USUAL: usize = 64;
+const USUAL: usize = 128;
 
 // The value of a hex digit; `None` for other bytes.
 fn hex_digit(byte: u8) -> Option<u32>

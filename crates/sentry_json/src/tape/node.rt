@@ -192,7 +192,7 @@ impl<'t, 'a> Node for TapeNode<'t, 'a> {
 }
 
 // The most room that is made at once for items or members.
-const USUAL: usize = 16;
+const USUAL: usize = 32;
 
 // Copies the tree at a node. Lists and maps are grown in functions that aren't inlined: a scalar
 // enters no frame that holds one.
@@ -211,7 +211,6 @@ fn grow(node: TapeNode<'_, '_>, alloc: Global) -> Result<Value, AllocError>
         Token::Whole(number) => Ok(Value::from(*number)),
         Token::Negative(number) => Ok(Value::from(*number)),
         Token::Text(text) => Value::try_from_str(alloc, text),
-        Token::Unescaped(text) => Value::try_from_str(alloc, text.as_str()),
         Token::Array(_) => Ok(Value::Array(grow_items(node, alloc)?)),
         Token::Object(_) => Ok(Value::Object(grow_members(node, alloc)?)),
     }

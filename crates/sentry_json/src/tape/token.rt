@@ -8,7 +8,7 @@ ghost use Rattle.sentry_json.specs.Tokens.{text_of, value_of, width};
 /// A token: a value, or the key of a member.
 ///
 /// What is inside an array or an object comes behind it; its number tells how many tokens that are.
-#[derive(Drop)]
+#[derive(Clone, Copy)]
 pub enum Token<'a> {
     /// Null.
     Null,
@@ -18,10 +18,8 @@ pub enum Token<'a> {
     Whole(u64),
     /// An integer with a minus.
     Negative(i64),
-    /// A string or a key that stands in the line as it is.
+    /// A string or a key, which stands in the line; one with escapes there, elsewhere, unescaped.
     Text(&'a str),
-    /// A string or a key that has escapes in the line; boxed, so that a token has 24 bytes.
-    Unescaped(Box<String>),
     /// An array.
     Array(usize),
     /// An object.
@@ -51,7 +49,6 @@ impl<'a> Token<'a> {
     {
         match self {
             Token::Text(text) => Some(text),
-            Token::Unescaped(text) => Some(text.as_str()),
             _ => None,
         }
     }
