@@ -21,7 +21,7 @@ refusal_status refusals.InvalidItemHeader = pos 15
 refusal_status refusals.InvalidItemPayload = pos 16
 refusal_status refusals.OutOfMemory = pos 17
 
--- of a refused DSN; want of memory is that of an envelope
+-- of a refused DSN; a failed allocation has the status of an envelope's
 abbrev pub dsn_status : ParseDsnError → ℤ
 dsn_status dsn.InvalidUrl = pos 20
 dsn_status dsn.InvalidScheme = pos 21

@@ -47,16 +47,12 @@ fn destinations(alloc: Global, dsn: &Dsn) -> Result<Value, AllocError> {
 
 // The authentication of a DSN at second 5 by a client.
 fn authentication(alloc: Global, dsn: &Dsn) -> Result<Value, AllocError> {
-    match Moment::new(5, 0) {
-        Some(now) => {
-            said_of(
-                alloc,
-                dsn.to_auth(alloc, now, Some("sentry-rust/1.0")),
-                shown,
-            )
-        }
-        None => Ok(Value::Null),
-    }
+    let now = Moment::new(5, 0).unwrap();
+    said_of(
+        alloc,
+        dsn.to_auth(alloc, now, Some("sentry-rust/1.0")),
+        shown,
+    )
 }
 
 // Whether a DSN is its copy, and what its text is read as.

@@ -12,9 +12,7 @@ use std::alloc::{AllocError, Global};
 
 /// The envelope that bytes spell at second 0.
 pub fn read(alloc: Global, bytes: &[u8]) -> Result<Envelope, EnvelopeError> {
-    let Some(now) = Moment::new(0, 0) else {
-        return Err(EnvelopeError::OutOfMemory);
-    };
+    let now = Moment::new(0, 0).unwrap();
     Envelope::from_slice(alloc, bytes, now, &mut Pcg32::new(42, 54))
 }
 
@@ -23,7 +21,7 @@ pub fn said_envelope(alloc: Global, envelope: &Envelope) -> Result<Value, AllocE
     let mut out = Vec::new(alloc);
     match envelope.to_writer(alloc, &mut out) {
         Ok(()) => said_bytes(alloc, out.as_slice()),
-        // A vector takes what is written unless memory is refused.
+        // A vector takes what is written unless an allocation fails.
         Err(EnvelopeWriteError::Io) => Err(AllocError),
         Err(error) if out.is_empty() => refused(alloc, &error),
         Err(_) => text(alloc, "a part is written"),
@@ -75,9 +73,7 @@ pub fn said_steady(alloc: Global, envelope: &Envelope) -> Result<Value, AllocErr
 /// What is written of the envelopes that texts spell, one after the other, by one reader and with
 /// one generator of ids.
 pub fn of_reader(alloc: Global, texts: &[Value]) -> Result<Value, AllocError> {
-    let Some(now) = Moment::new(0, 0) else {
-        return text(alloc, "no moment");
-    };
+    let now = Moment::new(0, 0).unwrap();
     let (mut reader, mut ids) = (EnvelopeReader::new(alloc), Pcg32::new(42, 54));
     let mut told = Vec::new(alloc);
     for given in texts {

@@ -42,7 +42,7 @@ fn own<T: FromTree + PartialEq>(
 
 // The value that a tree shows at the moment of reading.
 fn at_now<T: FromTreeAt>(alloc: Global, tree: &Value) -> Result<T, TreeError> {
-    T::from_tree(alloc, tree, now()?, &mut ids())
+    T::from_tree(alloc, tree, now(), &mut ids())
 }
 
 fn own_at<T: FromTreeAt + PartialEq>(

@@ -153,8 +153,8 @@ pub fn cloned<T: FromTree, C: FnOnce(&T) -> Result<T, AllocError>>(
 }
 
 /// The moment at which lines are read: 2020-07-20T14:51:14.296Z.
-pub fn now() -> Result<Moment, TreeError> {
-    Moment::new(1_595_256_674, 296_000_000).ok_or(TreeError::Misfit)
+pub fn now() -> Moment {
+    Moment::new(1_595_256_674, 296_000_000).unwrap()
 }
 
 /// The generator of absent ids.
@@ -164,12 +164,12 @@ pub fn ids() -> Pcg32 {
 
 /// The value that a line shows as a tree of values at the moment of reading.
 pub fn by_tree_at<T: FromTreeAt>(alloc: Global, line: &[u8]) -> Result<T, TreeError> {
-    T::from_tree(alloc, &read_tree(alloc, line)?, now()?, &mut ids())
+    T::from_tree(alloc, &read_tree(alloc, line)?, now(), &mut ids())
 }
 
 /// The value that a line shows at the moment of reading, whatever holds its tree.
 pub fn by_line_at<T: FromTreeAt>(alloc: Global, line: &[u8]) -> Result<T, TreeError> {
-    read_line_at(alloc, line, now()?, &mut ids())
+    read_line_at(alloc, line, now(), &mut ids())
 }
 
 // As `beside_tape`, at the moment of reading.
@@ -178,14 +178,10 @@ fn beside_tape_at<F: ReadCodecAt<T>, T: Drop>(
     line: &[u8],
     told: Value,
 ) -> Result<Value, AllocError> {
-    let Ok(now) = now() else {
-        drop(told);
-        return text(alloc, "no moment");
-    };
     let texts = Bump::new(alloc);
     let mut tape = Tape::new(alloc, &texts);
     let by_tape = match tape.parse(line) {
-        Some(root) => F::from_node(alloc, &root, now, &mut ids()),
+        Some(root) => F::from_node(alloc, &root, now(), &mut ids()),
         None => return Ok(told),
     };
     agreed(alloc, told, answered::<F, T>(alloc, &by_tape))
@@ -207,7 +203,7 @@ fn beside_line_at<T: FromTreeAt>(
 
 // The value that a line shows in a form at the moment of reading, as a tree of values.
 fn by_tree_as_at<F: ReadCodecAt<T>, T: Drop>(alloc: Global, line: &[u8]) -> Result<T, TreeError> {
-    F::from_node(alloc, &&read_tree(alloc, line)?, now()?, &mut ids())
+    F::from_node(alloc, &&read_tree(alloc, line)?, now(), &mut ids())
 }
 
 /// As `form`, at the moment of reading.
@@ -249,7 +245,7 @@ pub fn member<T: TreeMember>(alloc: Global, line: &[u8]) -> Result<Value, AllocE
 }
 
 fn member_of<T: TreeMember>(alloc: Global, line: &[u8]) -> Result<T, TreeError> {
-    T::from_tree(alloc, &read_tree(alloc, line)?, now()?, &mut ids())
+    T::from_tree(alloc, &read_tree(alloc, line)?, now(), &mut ids())
 }
 
 /// The trees that the values of a list write, read at the moment of reading.
@@ -266,7 +262,7 @@ pub fn members<T: TreeMember>(alloc: Global, line: &[u8]) -> Result<Value, Alloc
 }
 
 fn members_of<T: TreeMember>(alloc: Global, line: &[u8]) -> Result<Values<T>, TreeError> {
-    T::values_from_tree(alloc, &read_tree(alloc, line)?, now()?, &mut ids())
+    T::values_from_tree(alloc, &read_tree(alloc, line)?, now(), &mut ids())
 }
 
 /// The `Debug` text of a value that was read.

@@ -107,25 +107,17 @@ fn of_log(
     body: String,
     attributes: Map<String, LogAttribute>,
 ) -> Result<Value, AllocError> {
-    match now() {
-        Ok(timestamp) => {
-            let log = Log {
-                level: LogLevel::Info,
-                body,
-                trace_id: None,
-                timestamp,
-                severity_number: None,
-                attributes,
-            };
-            let told = said_log(alloc, &log);
-            drop(log);
-            told
-        }
-        Err(_) => {
-            drop(attributes);
-            text(alloc, "no moment")
-        }
-    }
+    let log = Log {
+        level: LogLevel::Info,
+        body,
+        trace_id: None,
+        timestamp: now(),
+        severity_number: None,
+        attributes,
+    };
+    let told = said_log(alloc, &log);
+    drop(log);
+    told
 }
 
 // So many arrays, each the one item of the next.
@@ -187,11 +179,11 @@ fn items_of(alloc: Global, trees: &[Value]) -> Result<Vec<Item>, TreeError> {
 
 /// What a report of these items writes, its sums above 0, and what is lost with it.
 pub fn of_report(alloc: Global, trees: &[Value]) -> Result<Value, AllocError> {
-    let (items, now) = match (items_of(alloc, trees), now()) {
-        (Ok(items), Ok(now)) => (items, now),
-        (Err(error), _) | (_, Err(error)) => return refused(alloc, &error),
+    let items = match items_of(alloc, trees) {
+        Ok(items) => items,
+        Err(error) => return refused(alloc, &error),
     };
-    let report = Report::new(now, items);
+    let report = Report::new(now(), items);
     let fields = [
         report.to_tree(alloc),
         said_sums(alloc, &report),
@@ -374,9 +366,7 @@ fn ended(alloc: Global, now: Moment) -> Transaction<'static> {
 // The same whose end is set to second 5.
 fn ended_early(alloc: Global, now: Moment) -> Transaction<'static> {
     let mut transaction = ended(alloc, now);
-    if let Some(end) = Moment::new(5, 0) {
-        transaction.finish_with_timestamp(end);
-    }
+    transaction.finish_with_timestamp(Moment::new(5, 0).unwrap());
     transaction
 }
 
@@ -390,17 +380,13 @@ fn ended_span(alloc: Global, now: Moment) -> Span {
 // The same whose end is set to second 5.
 fn span_ended_early(alloc: Global, now: Moment) -> Span {
     let mut span = ended_span(alloc, now);
-    if let Some(end) = Moment::new(5, 0) {
-        span.finish_with_timestamp(end);
-    }
+    span.finish_with_timestamp(Moment::new(5, 0).unwrap());
     span
 }
 
 /// What a new value of a type writes, made at the moment of reading.
 pub fn of_new(alloc: Global, name: &str) -> Result<Value, AllocError> {
-    let Ok(now) = now() else {
-        return text(alloc, "no moment");
-    };
+    let now = now();
     match name {
         "Breadcrumb" => said_of(alloc, Breadcrumb::new(alloc, now), tree),
         "Event" => said_of(alloc, new_event(alloc), tree),
@@ -419,7 +405,7 @@ pub fn of_new(alloc: Global, name: &str) -> Result<Value, AllocError> {
 
 // A new event.
 fn new_event(alloc: Global) -> Result<Event<'static>, TreeError> {
-    Ok(Event::new(alloc, now()?, &mut ids())?)
+    Ok(Event::new(alloc, now(), &mut ids())?)
 }
 
 // What is written of a new event with a user.

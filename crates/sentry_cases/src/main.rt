@@ -4,7 +4,7 @@
 //!
 //! Each wrong case is printed with its group and with what was answered, and at the end how many
 //! cases there were. The exit status is 0 where all answers are as wanted, 1 where some aren't, 2
-//! where the cases can't be read, and 3 where memory is refused.
+//! where the cases can't be read, and 3 where an allocation fails.
 #![tactic(auto)]
 
 mod answer;

@@ -65,7 +65,7 @@ pub fn maybe_shown<T: Display + Drop>(
     }
 }
 
-/// What a refusal prints, after `!`. Want of memory is no answer.
+/// What a refusal prints, after `!`. A failed allocation is no answer.
 pub fn refused<E: Display>(alloc: Global, error: &E) -> Result<Value, AllocError> {
     let told = format!(in alloc; "!{error}")?;
     match told.as_str() {

@@ -11,9 +11,7 @@ use std::alloc::Global;
 
 /// The envelope that bytes spell at second 0.
 pub(crate) fn read(alloc: Global, bytes: &[u8]) -> Result<Envelope, EnvelopeError> {
-    let Some(now) = Moment::new(0, 0) else {
-        return Err(EnvelopeError::InvalidItemPayload);
-    };
+    let now = Moment::new(0, 0).unwrap();
     Envelope::from_slice(alloc, bytes, now, &mut Pcg32::new(42, 54))
 }
 

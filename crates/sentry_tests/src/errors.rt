@@ -17,7 +17,7 @@ fn prints<E: Display + Drop>(alloc: Global, error: E, text: &str) -> bool {
 }
 
 #[test]
-fn want_of_memory_is_printed(rt: HostRuntime) -> Result<(), Fail> {
+fn failed_allocations_are_printed(rt: HostRuntime) -> Result<(), Fail> {
     let (alloc, text) = (rt.alloc(), "out of memory");
     wanted(
         prints(alloc, TreeError::Memory, text)

@@ -1,4 +1,4 @@
-//! Frames are asked for again after a refusal of memory; a header alone.
+//! Frames are asked for again after a failed allocation; a header alone.
 
 use crate::wanted::wanted;
 use sentry_types::protocol::v7::{EnvelopeError, Frames, ItemKind, read_item_header};

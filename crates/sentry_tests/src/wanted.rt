@@ -58,7 +58,7 @@ pub(crate) fn is_none<T: Drop>(found: Option<T>) -> bool {
     found.is_none()
 }
 
-/// Whether a filter left nothing, and a count beside, unless memory was refused.
+/// Whether a filter left nothing, and a count beside, unless an allocation failed.
 pub(crate) fn told<T: Drop, E: Drop>(filtered: Result<(Option<T>, u64), E>) -> Option<(bool, u64)> {
     match filtered {
         Ok((left, count)) => Some((left.is_none(), count)),

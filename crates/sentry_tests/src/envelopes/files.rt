@@ -10,9 +10,7 @@ use std::test::Fail;
 
 /// The envelope of a file, read at second 0.
 fn envelope_in(rt: &HostRuntime, path: &str) -> Result<Envelope, EnvelopeError> {
-    let Some(now) = Moment::new(0, 0) else {
-        return Err(EnvelopeError::InvalidItemPayload);
-    };
+    let now = Moment::new(0, 0).unwrap();
     Envelope::from_path(rt, path, now, &mut Pcg32::new(42, 54))
 }
 

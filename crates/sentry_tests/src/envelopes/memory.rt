@@ -1,8 +1,8 @@
-//! Memory that is refused, and memory that isn't.
+//! Allocations that fail, and allocations that don't.
 //!
-//! Without a refusal these tests call each function and want its answer. With one request refused,
-//! whichever it is (`rt try --test --fail-alloc N`), they pass too: the answer is then want of
-//! memory, nothing was done, and the next call is answered.
+//! Without a failure these tests call each function and expect its answer. With one failed
+//! allocation, whichever it is (`rt try --test --fail-alloc N`), they pass too: the answer says so,
+//! nothing was done, and the next call is answered.
 
 use super::read;
 use crate::wanted::{holds, is_none, is_same, wanted};
@@ -81,7 +81,7 @@ impl EnvelopeFilter for Calls {
     }
 }
 
-/// The envelope that bytes spell. After a refusal they are read once more.
+/// The envelope that bytes spell. After a failed allocation they are read once more.
 pub(crate) fn read_at_last(alloc: Global, bytes: &[u8]) -> Result<Envelope, EnvelopeError> {
     match read(alloc, bytes) {
         Err(EnvelopeError::OutOfMemory) => read(alloc, bytes),
@@ -89,7 +89,7 @@ pub(crate) fn read_at_last(alloc: Global, bytes: &[u8]) -> Result<Envelope, Enve
     }
 }
 
-/// Whether a page gets the whole text, after a refusal that wrote nothing at the second try.
+/// Whether a page gets the whole text, after a failed allocation, which wrote nothing, at the second try.
 fn is_written_at_last(alloc: Global, envelope: &Envelope) -> bool {
     let mut page = Page {
         bytes: [0; 512],
@@ -105,7 +105,7 @@ fn is_written_at_last(alloc: Global, envelope: &Envelope) -> bool {
     written && page.bytes.get(..page.taken).unwrap_or(&[]) == TEXT.as_bytes()
 }
 
-/// The normal form of an envelope. After a refusal it is asked for once more.
+/// The normal form of an envelope. After a failed allocation it is asked for once more.
 fn normalized_at_last(envelope: &Envelope) -> Result<Envelope, AllocError> {
     match envelope.normalized() {
         Ok(normal) => Ok(normal),
@@ -113,7 +113,7 @@ fn normalized_at_last(envelope: &Envelope) -> Result<Envelope, AllocError> {
     }
 }
 
-/// Whether an envelope and its normal form are written, each after a refusal or at once.
+/// Whether an envelope and its normal form are written, each after a failed allocation or at once.
 fn is_rewritten_at_last(alloc: Global, envelope: &Envelope) -> bool {
     is_written_at_last(alloc, envelope)
         && holds(alloc, normalized_at_last(envelope), is_written_at_last)
@@ -130,7 +130,7 @@ fn is_left<T: Drop, E: Drop>(filtered: Result<Option<T>, E>) -> bool {
     matches!(filtered, Ok(Some(_)))
 }
 
-/// Whether all stays, after a refusal that called nothing and left the envelope as it was at the
+/// Whether all stays, after a failed allocation, which called nothing and left the envelope as it was, at the
 /// second try.
 fn stays_at_last(alloc: Global, envelope: Envelope) -> bool {
     let none = Calls {
@@ -179,7 +179,7 @@ fn are_long(alloc: Global, envelope: &Envelope) -> bool {
     is_long(alloc, envelope) && holds(alloc, envelope.normalized(), is_long)
 }
 
-/// No call wants memory for an envelope of a long attachment.
+/// No allocation fails for an envelope of a long attachment.
 #[test]
 fn none_refused(rt: HostRuntime) -> Result<(), Fail> {
     let alloc = rt.alloc();
