@@ -121,7 +121,8 @@ fn a_client_reports_what_it_drops(rt: HostRuntime) -> Result<(), Fail> {
     wanted(left == Some((false, 0)) && sent)
 }
 
-// Where an allocation fails, the answer says so and all is held as before; the next call is answered.
+// Where an allocation fails, the answer says so and all is held as before; the next call is
+// answered.
 // These tests pass with none refused, and with each request refused in turn (`rt try --test
 // --fail-alloc N`).
 
