@@ -1,9 +1,10 @@
 //! The length of a balanced piece: a `{`, balanced content, and its `}`.
-ghost use Rattle.std.specs.Prelude.{◌≡◌, ◌≤◌, ◌++◌, List, ℕ, IfSome, IfNone, length, take, true};
+ghost use Rattle.std.specs.Prelude.{◌≡◌, ◌≤◌, ◌++◌, ◌==◌, ◌%◌, List, ℕ, IfSome, IfNone, length, take};
 ghost use Rattle.sentry_json.specs.Balanced.{IsBalanced, IsStringEnd};
-ghost use Rattle.sentry_framing.specs.Quotes.{even_from};
+ghost use Rattle.sentry_framing.specs.Quotes.{quotes};
 
 use memchr::memchr3;
+use std::simd::prelude::*;
 
 /// Returns the length of the balanced piece at the front, if any. Any bytes may follow the piece.
 pub fn piece_len(bytes: &[u8]) -> Option<usize>
@@ -32,16 +33,36 @@ fn flat_len(bytes: &[u8]) -> Option<usize>
     }
 }
 
-fn has_even_quotes(bytes: &[u8]) -> bool
-    ensures { result ≡ even_from true bytes.now }
+// The number of quotes in a vector of bytes.
+#[inline(always)]
+fn quotes_in(bytes: u8x16) -> usize
+    ensures { result ≡ quotes bytes }
 {
-    let mut even = true;
-    for &byte in bytes {
-        if byte == b'"' {
-            even = !even;
-        }
+    bytes.simd_eq(u8x16::splat(b'"')).to_bitmask().count_ones() as usize
+}
+
+fn quotes(bytes: &[u8]) -> usize
+    ensures { result ≡ quotes bytes.now }
+{
+    let mut count = 0;
+    let mut i = 0;
+    while bytes.len() - i >= 16 {
+        count += quotes_in(u8x16::from_slice(&bytes[i..]));
+        i += 16;
     }
-    even
+    while i < bytes.len() {
+        if bytes[i] == b'"' {
+            count += 1;
+        }
+        i += 1;
+    }
+    count
+}
+
+fn has_even_quotes(bytes: &[u8]) -> bool
+    ensures { result ≡ (quotes bytes.now % 2 == 0) }
+{
+    quotes(bytes) % 2 == 0
 }
 
 // Finds any balanced piece, byte by byte.
