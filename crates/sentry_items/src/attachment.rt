@@ -34,8 +34,11 @@ pub struct Attachment {
 // The initial capacity of a header line in bytes: enough for default types and a short file name.
 const USUAL_HEADER: usize = 192;
 
+// The attachment type that is written for `ty: None`.
+pub(crate) const USUAL_TYPE: &str = "event.attachment";
+
 // The media type that is written for `content_type: None`.
-const USUAL_CONTENT_TYPE: &str = "application/octet-stream";
+pub(crate) const USUAL_CONTENT_TYPE: &str = "application/octet-stream";
 
 /// The error of [`Attachment::to_writer`].
 #[derive(Debug, Drop, Error)]
@@ -158,7 +161,7 @@ impl Attachment {
     {
         match &self.ty {
             Some(ty) => ty.as_str(),
-            None => "event.attachment",
+            None => USUAL_TYPE,
         }
     }
 
