@@ -19,6 +19,7 @@ use Rattle.sentry_identifiers.proofs.UuidLaws.{hyphenated_laws}
 use Rattle.sentry_event.specs.Events.{event_fields, event_kind}
 use Rattle.sentry_event.specs.Transactions.{transaction_fields, transaction_kind}
 use Rattle.sentry_records.proofs.TableLaws.{sampling_lawful, log_lawful, metric_lawful}
+use Rattle.sentry_items.specs.Containers.{log_content_type, metric_content_type}
 use Rattle.sentry_items.specs.View.{payload_kind}
 use Rattle.sentry_items.proofs.PayloadLaws.{payload_lawful}
 use Rattle.sentry_envelope.specs.Profile.{FormIsLawful, GivesAlike, GivesLawful, ProfileLaws, TypesAreLawful, words}
@@ -56,8 +57,8 @@ word_utf8 k = ascii_text (kind_word k) refl
 form_lawful : (k : ItemKind) → FormIsLawful (form_of k)
 form_lawful kinds.Attachment = tt
 form_lawful kinds.ReplayRecording = tt
-form_lawful kinds.Logs = (log_lawful, ascii_text (codes "application/vnd.sentry.items.log+json") refl)
-form_lawful kinds.Metrics = (metric_lawful, ascii_text (codes "application/vnd.sentry.items.trace-metric+json") refl)
+form_lawful kinds.Logs = (log_lawful, ascii_text log_content_type refl)
+form_lawful kinds.Metrics = (metric_lawful, ascii_text metric_content_type refl)
 form_lawful k = payload_lawful k
 
 gives_lawful : (k : ItemKind) → GivesLawful header_kind fill_id (gives_of k) (form_of k)

@@ -7,6 +7,7 @@ use Rattle.sentry_framing.specs.declared.kind.ItemKind.{ItemKind}
 use Rattle.sentry_framing.specs.declared.kind.ItemKind.TheVariants as kinds
 use Rattle.sentry_records.specs.Logs.{log_kind}
 use Rattle.sentry_records.specs.Metrics.{metric_kind}
+use Rattle.sentry_items.specs.Containers.{log_content_type, metric_content_type}
 use Rattle.sentry_items.specs.View.{payload_kind}
 use Rattle.sentry_envelope.specs.Profile.{Form, attachment_form, opaque_form, json_form, container_form, ItemType, Profile}
 use Rattle.sentry_envelope.specs.HeaderFields.{header_kind, fill_id}
@@ -30,8 +31,8 @@ held_at key _ _ = absent
 abbrev pub form_of : ItemKind → Form
 form_of kinds.Attachment = attachment_form
 form_of kinds.ReplayRecording = opaque_form
-form_of kinds.Logs = container_form (codes "application/vnd.sentry.items.log+json") log_kind
-form_of kinds.Metrics = container_form (codes "application/vnd.sentry.items.trace-metric+json") metric_kind
+form_of kinds.Logs = container_form log_content_type log_kind
+form_of kinds.Metrics = container_form metric_content_type metric_kind
 form_of k = json_form (payload_kind k)
 
 -- the id that a value of a type gives its envelope: an event or a transaction its own, and any other none

@@ -46,7 +46,7 @@ pub(crate) fn write_envelope<'e>(
     let mut line = Vec::with_capacity(alloc, ROOM)?;
     let mut payload = Vec::with_capacity(alloc, ROOM)?;
     for item in items {
-        write_item(alloc, item, &mut line, &mut payload, &mut text)?;
+        write_item(item, &mut line, &mut payload, &mut text)?;
     }
     Ok(text)
 }
@@ -65,7 +65,6 @@ fn write_headers(headers: &EnvelopeHeaders, out: &mut Vec<u8>) -> Result<(), All
 // ahead of what it writes, and more of it after a long text. A JSON payload is built in `payload`,
 // since its length is written before it.
 fn write_item<'e>(
-    alloc: Global,
     item: &'e EnvelopeItem,
     line: &mut Vec<u8>,
     payload: &mut Vec<u8>,
@@ -78,33 +77,30 @@ fn write_item<'e>(
     line.clear();
     match item {
         EnvelopeItem::Attachment(attachment) => {
-            write_header(attachment, alloc, "attachment", line, &mut text.end)?;
+            write_header(attachment, line, &mut text.end)?;
             end_frame(&attachment.buffer, text)
         }
         EnvelopeItem::ReplayRecording(recording) => {
-            write_short_header(alloc, "replay_recording", &recording.buffer, line)?;
+            write_short_header("replay_recording", &recording.buffer, line)?;
             text.end.extend_from_slice(line)?;
             end_frame(&recording.buffer, text)
         }
         EnvelopeItem::ItemContainer(container) => {
             payload.clear();
             write_payload(item, payload)?;
-            write_container_header(alloc, container, line)?;
+            write_container_header(container, line)?;
             write_frame(line, payload, text)
         }
         EnvelopeItem::Raw => Ok(()),
-        _ => write_value(alloc, item, line, payload, text),
+        _ => write_value(item, line, payload, text),
     }
 }
 
-fn write_container_header(
-    alloc: Global,
-    container: &ItemContainer,
-    out: &mut Vec<u8>,
-) -> Result<(), AllocError>
+fn write_container_header(container: &ItemContainer, out: &mut Vec<u8>) -> Result<(), AllocError>
     ensures { OnOk result (out.new.items ≡ out.old.items ++
         header_text (counted_header container.now)) }
 {
+    let alloc = *out.allocator();
     let mut writer = Writer::new(mem::replace(out, Vec::new(alloc)));
     let outcome = write_container_tokens(container, &mut writer);
     *out = writer.into_inner();
@@ -139,7 +135,6 @@ fn write_counted_members(container: &ItemContainer, writer: &mut Writer) -> Resu
 // Appends the header and payload of an item whose payload is one JSON text, each with a line feed;
 // nothing for `Raw`. `line` is empty before.
 fn write_value(
-    alloc: Global,
     item: &EnvelopeItem,
     line: &mut Vec<u8>,
     payload: &mut Vec<u8>,
@@ -154,7 +149,7 @@ fn write_value(
     };
     payload.clear();
     write_payload(item, payload)?;
-    write_short_header(alloc, kind.as_str(), payload, line)?;
+    write_short_header(kind.as_str(), payload, line)?;
     write_frame(line, payload, text)
 }
 

@@ -25,8 +25,8 @@ pub fn skip_space(bytes: &[u8]) -> &[u8]
     &[]
 }
 
-/// Splits the bytes at the first line feed, which the second part begins with, or at the end.
-pub fn split_line(bytes: &[u8]) -> (&[u8], &[u8])
+// Splits the bytes at the first line feed, which the second part begins with, or at the end.
+pub(crate) fn split_line(bytes: &[u8]) -> (&[u8], &[u8])
     ensures parts { bytes.now ≡ result.0.now ++ result.1.now }
     ensures line { HasNoNewline result.0.now }
     ensures ends { (next : List ℕ) × EndsLine result.1.now next }
@@ -34,12 +34,9 @@ pub fn split_line(bytes: &[u8]) -> (&[u8], &[u8])
     bytes.split_at(memchr(b'\n', bytes).unwrap_or(bytes.len()))
 }
 
-/// Returns the bytes after the line feed at the front; none at the end.
-///
-/// # Errors
-///
-/// `MissingNewline` if the first byte isn't a line feed.
-pub fn end_line(bytes: &[u8]) -> Result<&[u8], EnvelopeError>
+// Returns the bytes after the line feed at the front; none at the end. `MissingNewline` if the
+// first byte isn't a line feed.
+pub(crate) fn end_line(bytes: &[u8]) -> Result<&[u8], EnvelopeError>
     ensures found { IfOk result (λ next. EndsLine bytes.now next.now) }
     ensures missing { IfErr result (λ e. (e ≡ EnvelopeError.MissingNewline) × GoesOn bytes.now) }
 {

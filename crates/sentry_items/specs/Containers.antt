@@ -37,10 +37,17 @@ abbrev pub container_len : ItemContainer → ℕ
 container_len (container.Logs logs) = length logs.items
 container_len (container.Metrics metrics) = length metrics.items
 
+-- the content types of logs and of metrics
+abbrev pub log_content_type : List ℕ
+log_content_type = codes "application/vnd.sentry.items.log+json"
+
+abbrev pub metric_content_type : List ℕ
+metric_content_type = codes "application/vnd.sentry.items.trace-metric+json"
+
 -- the content type that the item's header states
 abbrev pub content_type : ItemContainer → List ℕ
-content_type (container.Logs logs) = codes "application/vnd.sentry.items.log+json"
-content_type (container.Metrics metrics) = codes "application/vnd.sentry.items.trace-metric+json"
+content_type (container.Logs logs) = log_content_type
+content_type (container.Metrics metrics) = metric_content_type
 
 -- ---- the payload as a table of one row
 

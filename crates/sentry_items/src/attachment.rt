@@ -1,6 +1,6 @@
 //! Attachments: files that are sent in an envelope.
 
-ghost use Rattle.std.specs.Prelude.{◌≡◌, ◌++◌, ℕ, List, IfOk, OnOk};
+ghost use Rattle.std.specs.Prelude.{◌≡◌, ◌++◌, ℕ, List, codes, IfOk, OnOk};
 ghost use Rattle.sentry_items.specs.Attached.{attachment_header};
 ghost use Rattle.sentry_items.specs.HeaderTokens.{header_text};
 ghost use Rattle.sentry_items.specs.View.{attachment_view};
@@ -34,8 +34,11 @@ pub struct Attachment {
 // The initial capacity of a header line in bytes: enough for default types and a short file name.
 const USUAL_HEADER: usize = 192;
 
+// The attachment type that is written for `ty: None`.
+pub(crate) const USUAL_TYPE: &str = "event.attachment";
+
 // The media type that is written for `content_type: None`.
-const USUAL_CONTENT_TYPE: &str = "application/octet-stream";
+pub(crate) const USUAL_CONTENT_TYPE: &str = "application/octet-stream";
 
 /// The error of [`Attachment::to_writer`].
 #[derive(Debug, Drop, Error)]
@@ -49,7 +52,7 @@ pub enum AttachmentWriteError {
 }
 
 impl Attachment {
-    ghost use Rattle.std.specs.Prelude.{◌≡◌, ℕ, List, ◌∷◌, ◌++◌, [], None, IfOk, OnOk, IsTrue, option_map, string_bytes};
+    ghost use Rattle.std.specs.Prelude.{◌≡◌, ℕ, List, ◌∷◌, ◌++◌, [], None, codes, IfOk, OnOk, IsTrue, option_map, string_bytes};
     ghost use Rattle.std.specs.Io.KnownBytes.{Appends, Keeps};
     ghost use Rattle.json.specs.Print.{escape};
     ghost use Rattle.json.specs.Token.{begin_object};
@@ -158,7 +161,7 @@ impl Attachment {
     {
         match &self.ty {
             Some(ty) => ty.as_str(),
-            None => "event.attachment",
+            None => USUAL_TYPE,
         }
     }
 
@@ -172,11 +175,12 @@ impl Attachment {
         }
     }
 
-    // Writes the item header; `word` is its `type`.
+    // Writes the item header.
     #[tactic(auto, unfolding(crate::specs::HeaderTokens::member_tokens))]
-    fn write_tokens(&self, word: &str, writer: &mut Writer) -> Result<(), AllocError>
+    fn write_tokens(&self, writer: &mut Writer) -> Result<(), AllocError>
         ensures ok { OnOk result (writer.new.tokens ≡ writer.old.tokens ++
-            begin_object ∷ member_tokens (attachment_header word.now (attachment_view self.now))) }
+            begin_object ∷
+            member_tokens (attachment_header (codes "attachment") (attachment_view self.now))) }
         ensures before { writer.new.before ≡ writer.old.before }
     {
         writer.begin_object()?;
@@ -186,7 +190,7 @@ impl Attachment {
         writer.string(self.written_content_type())?;
         writer.key("filename")?;
         writer.string(self.filename.as_str())?;
-        write_last_members(word, &self.buffer, writer)
+        write_last_members("attachment", &self.buffer, writer)
     }
 
     // Whether none of the header's texts needs an escape.
@@ -219,18 +223,14 @@ impl Attachment {
     }
 
     // Appends the header by a JSON writer, for any types and file name.
-    fn write_any_header(
-        &self,
-        alloc: Global,
-        word: &str,
-        out: &mut Vec<u8>,
-    ) -> Result<(), AllocError>
+    fn write_any_header(&self, out: &mut Vec<u8>) -> Result<(), AllocError>
         ensures ok { OnOk result (out.new.items ≡ out.old.items ++
-            header_text (attachment_header word.now (attachment_view self.now))) }
+            header_text (attachment_header (codes "attachment") (attachment_view self.now))) }
         ensures kept { (part : List ℕ) × (out.new.items ≡ out.old.items ++ part) }
     {
+        let alloc = *out.allocator();
         let mut writer = Writer::new(mem::replace(out, Vec::new(alloc)));
-        let outcome = self.write_tokens(word, &mut writer);
+        let outcome = self.write_tokens(&mut writer);
         *out = writer.into_inner();
         outcome
     }
@@ -242,7 +242,7 @@ impl Attachment {
     {
         let mut line = Vec::with_capacity(alloc, USUAL_HEADER)?;
         let mut unusual = Vec::new(alloc);
-        write_header(self, alloc, "attachment", &mut unusual, &mut line)?;
+        write_header(self, &mut unusual, &mut line)?;
         line.push(b'\n')?;
         Ok(line)
     }
@@ -277,26 +277,24 @@ impl Attachment {
     }
 }
 
-/// Appends the item header of an attachment; `word` is its `type`.
+/// Appends the item header of an attachment.
 ///
-/// The header is first built in `line`, in place of the contents of `line`, unless `word` is
-/// `attachment` and no text needs an escape: a JSON writer clears memory ahead of what it writes.
+/// If a text needs an escape, the header is first built in `line`, in place of the contents of
+/// `line`: a JSON writer clears memory ahead of what it writes.
 ///
 /// # Errors
 ///
 /// `AllocError` if an allocation fails; a part of the header may have been appended.
 pub fn write_header(
     attachment: &Attachment,
-    alloc: Global,
-    word: &str,
     line: &mut Vec<u8>,
     out: &mut Vec<u8>,
 ) -> Result<(), AllocError>
     ensures ok { OnOk result (out.new.items ≡ out.old.items ++
-        header_text (attachment_header word.now (attachment_view attachment.now))) }
+        header_text (attachment_header (codes "attachment") (attachment_view attachment.now))) }
     ensures kept { (part : List ℕ) × (out.new.items ≡ out.old.items ++ part) }
 {
-    if word == "attachment" && attachment.has_plain_texts() {
+    if attachment.has_plain_texts() {
         write_plain_header(
             attachment.written_type(),
             attachment.written_content_type(),
@@ -306,7 +304,7 @@ pub fn write_header(
         )
     } else {
         line.clear();
-        attachment.write_any_header(alloc, word, line)?;
+        attachment.write_any_header(line)?;
         out.extend_from_slice(line)
     }
 }

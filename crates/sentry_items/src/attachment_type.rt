@@ -106,14 +106,10 @@ impl Spelled for AttachmentType {
         match way {
             Way::Same => self.clone(),
             Way::Normal(_) => match self {
-                AttachmentType::Attachment => Ok(AttachmentType::Attachment),
-                AttachmentType::Minidump => Ok(AttachmentType::Minidump),
-                AttachmentType::AppleCrashReport => Ok(AttachmentType::AppleCrashReport),
-                AttachmentType::UnrealContext => Ok(AttachmentType::UnrealContext),
-                AttachmentType::UnrealLogs => Ok(AttachmentType::UnrealLogs),
                 AttachmentType::Custom(text) => {
                     AttachmentType::from_text(*text.allocator(), text.as_str())
                 }
+                known => known.clone(),
             },
         }
     }

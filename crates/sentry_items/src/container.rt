@@ -1,6 +1,6 @@
 //! Containers: items that hold many logs or many metrics.
 
-ghost use Rattle.std.specs.Prelude.{◌≡◌, ◌++◌, IfOk, OnOk, false};
+ghost use Rattle.std.specs.Prelude.{◌≡◌, ◌++◌, [], IfOk, OnErr, OnOk, false};
 ghost use Rattle.serde_json.specs.Written.{compact_text, has_float};
 ghost use Rattle.sentry_tables.specs.Written.{tree};
 ghost use Rattle.sentry_tables.specs.Made.{made};
@@ -130,16 +130,18 @@ fn remake_items<T: Member>(items: &Vec<T>, way: Way) -> Result<Vec<T>, AllocErro
 }
 
 // Appends the payload of a container: an object with the values in the array `items`.
+// `AllocError` if an allocation fails; `out` is empty then.
 pub(crate) fn write_container_payload(
     container: &ItemContainer,
     out: &mut Vec<u8>,
 ) -> Result<(), AllocError>
-    ensures { OnOk result (
+    ensures ok { OnOk result (
         has_float (tree (payload_kind (container_type container.now))
         (container_cell container.now)) ≡ false
         → out.new.items ≡ out.old.items ++
         compact_text (tree (payload_kind (container_type container.now))
         (container_cell container.now))) }
+    ensures err { OnErr result (out.new.items ≡ []) }
 {
     let alloc = *out.allocator();
     let mut writer = Writer::new(mem::replace(out, Vec::new(alloc)));

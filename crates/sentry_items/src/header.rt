@@ -5,7 +5,7 @@ ghost use Rattle.sentry_items.specs.Attached.{short_header};
 ghost use Rattle.sentry_items.specs.HeaderTokens.{header_text, member_tokens};
 
 use json::Writer;
-use std::alloc::{AllocError, Global};
+use std::alloc::AllocError;
 use std::mem;
 
 /// Appends an item header with two members: `length`, the size of `payload` in bytes, and `type`,
@@ -14,16 +14,12 @@ use std::mem;
 /// # Errors
 ///
 /// `AllocError` if an allocation fails; a part of the header may have been appended.
-pub fn write_short_header(
-    alloc: Global,
-    word: &str,
-    payload: &[u8],
-    out: &mut Vec<u8>,
-) -> Result<(), AllocError>
+pub fn write_short_header(word: &str, payload: &[u8], out: &mut Vec<u8>) -> Result<(), AllocError>
     ensures ok { OnOk result (out.new.items ≡ out.old.items ++
         header_text (short_header word.now payload.now)) }
     ensures kept { (part : List ℕ) × (out.new.items ≡ out.old.items ++ part) }
 {
+    let alloc = *out.allocator();
     let mut writer = Writer::new(mem::replace(out, Vec::new(alloc)));
     let outcome = write_short_tokens(word, payload, &mut writer);
     *out = writer.into_inner();

@@ -1,6 +1,6 @@
 //! Envelope items.
 
-ghost use Rattle.std.specs.Prelude.{◌≡◌, IfOk, OnOk};
+ghost use Rattle.std.specs.Prelude.{◌≡◌, [], IfOk, OnErr, OnOk};
 ghost use Rattle.sentry_items.specs.Payload.{AppendsPayload};
 ghost use Rattle.sentry_items.specs.View.{item_held};
 
@@ -175,10 +175,11 @@ impl EnvelopeItem {
 ///
 /// # Errors
 ///
-/// `AllocError` if an allocation fails; a part of the payload may have been appended.
+/// `AllocError` if an allocation fails; `out` is empty then.
 #[tactic(auto, unfolding(sentry_tables::specs::Writes::written))]
 pub fn write_payload(item: &EnvelopeItem, out: &mut Vec<u8>) -> Result<(), AllocError>
-    ensures { OnOk result (AppendsPayload (item_held item.now) out.old.items out.new.items) }
+    ensures ok { OnOk result (AppendsPayload (item_held item.now) out.old.items out.new.items) }
+    ensures err { OnErr result (out.new.items ≡ []) }
 {
     match item {
         EnvelopeItem::Event(event) => write_text(event.as_ref(), out),

@@ -22,12 +22,11 @@ pub fn attachment_types_read_back()
     ensures { HasLaws attachment_type_kind }
 {}
 
-/// Returns the default attachment type, `event.attachment`.
-pub fn default_attachment_type() -> AttachmentType
-    ensures { attachment_type_cell result ≡ known (codes "event.attachment") }
-{
-    AttachmentType::default()
-}
+/// The default attachment type is `event.attachment`.
+pub fn default_attachment_type()
+    ensures { (ty : Types) → ⟦<AttachmentType as Default>⟧.is_default ty →
+        attachment_type_cell ty ≡ known (codes "event.attachment") }
+{}
 
 /// `==` on attachment types, attachments, recordings and items compares contents.
 ///

@@ -4,12 +4,13 @@ ghost use Rattle.std.specs.Prelude.{◌≡◌};
 ghost use Rattle.sentry_items.specs.Losses.{loss as lost_without_reason, one_of};
 ghost use Rattle.sentry_reports.specs.declared.category.Category.TheVariants as categories;
 
-use crate::sizes::{Measured, sum_of_sizes};
+use crate::sizes::sum_of_sizes;
 use crate::{Attachment, EnvelopeItem, ItemContainer, ReplayRecording};
 use sentry_event::{Event, Span, Transaction};
 use sentry_records::{Log, Metric, MonitorCheckIn, SessionAggregates, SessionUpdate, UserReport};
 use sentry_reports::{Category, Item, ItemLoss, Report};
 use sentry_words::Sealed;
+use std::slice;
 
 /// An iterator over the losses of a source, in order.
 ///
@@ -45,7 +46,7 @@ fn loss(category: Category, quantity: u64) -> ItemLoss
 impl<'a> SourceLosses<'a> {
     ghost use Rattle.std.specs.Prelude.{◌≡◌, ◌∷◌, []};
     ghost use Rattle.std.specs.Iterator.{YieldsFirst};
-    ghost use Rattle.sentry_items.specs.Losses.{loss, losses_of_container, losses_of_groups, losses_of_item, losses_of_logs, losses_of_metrics, losses_of_report, losses_of_transaction, source_left};
+    ghost use Rattle.sentry_items.specs.Losses.{loss, losses_of_attachment, losses_of_container, losses_of_groups, losses_of_item, losses_of_logs, losses_of_metrics, losses_of_report, losses_of_transaction, source_left};
 
     fn none() -> SourceLosses<'a>
         ensures { source_left result ≡ [] }
@@ -119,6 +120,12 @@ impl<'a> SourceLosses<'a> {
         }
     }
 
+    fn of_attachment(attachment: &Attachment) -> SourceLosses<'a>
+        ensures { source_left result ≡ losses_of_attachment attachment.now }
+    {
+        SourceLosses::single(Category::Attachment, attachment.buffer.len() as u64)
+    }
+
     fn of_report(report: &'a Report) -> SourceLosses<'a>
         ensures { source_left result ≡ losses_of_report report.now }
     {
@@ -133,9 +140,7 @@ impl<'a> SourceLosses<'a> {
             EnvelopeItem::SessionUpdate(_) => SourceLosses::one(Category::Session),
             EnvelopeItem::SessionAggregates(groups) => SourceLosses::of_groups(groups),
             EnvelopeItem::Transaction(transaction) => SourceLosses::of_transaction(transaction),
-            EnvelopeItem::Attachment(attachment) => {
-                SourceLosses::single(Category::Attachment, attachment.buffer.len() as u64)
-            }
+            EnvelopeItem::Attachment(attachment) => SourceLosses::of_attachment(attachment),
             EnvelopeItem::MonitorCheckIn(_) => SourceLosses::one(Category::Monitor),
             EnvelopeItem::UserReport(_) => SourceLosses::one(Category::Feedback),
             EnvelopeItem::ReplayRecording(_) => SourceLosses::one(Category::Replay),
@@ -298,8 +303,7 @@ impl LossSource for Attachment {
     ghost losses_of = { losses_of_attachment };
 
     fn losses(&self) -> ItemLossIter<'_> {
-        let bytes = self.buffer.len() as u64;
-        ItemLossIter::of_source(SourceLosses::single(Category::Attachment, bytes))
+        ItemLossIter::of_source(SourceLosses::of_attachment(self))
     }
 }
 
@@ -333,12 +337,7 @@ impl LossSource for Log {
     ghost losses_of = { losses_of_log };
 
     fn losses(&self) -> ItemLossIter<'_> {
-        ItemLossIter::of_source(SourceLosses::pair(
-            Category::LogItem,
-            1,
-            Category::LogByte,
-            self.size(),
-        ))
+        ItemLossIter::of_source(SourceLosses::of_logs(slice::from_ref(self)))
     }
 }
 
@@ -348,12 +347,7 @@ impl LossSource for Metric {
     ghost losses_of = { losses_of_metric };
 
     fn losses(&self) -> ItemLossIter<'_> {
-        ItemLossIter::of_source(SourceLosses::pair(
-            Category::TraceMetric,
-            1,
-            Category::TraceMetricByte,
-            self.size(),
-        ))
+        ItemLossIter::of_source(SourceLosses::of_metrics(slice::from_ref(self)))
     }
 }
 

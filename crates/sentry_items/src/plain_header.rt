@@ -6,6 +6,7 @@ ghost use Rattle.json.specs.Written.{PlainBetween};
 ghost use Rattle.sentry_items.specs.HeaderTokens.{header_text};
 ghost use Rattle.sentry_items.specs.PlainHeader.{plain_header, types_text};
 
+use crate::attachment::{USUAL_CONTENT_TYPE, USUAL_TYPE};
 use std::alloc::AllocError;
 
 const BEFORE_TYPE: &[u8] = b"{\"attachment_type\":\"";
@@ -45,7 +46,7 @@ fn write_types(ty: &str, content_type: &str, out: &mut Vec<u8>) -> Result<(), Al
     ensures ok { OnOk result (out.new.items ≡ out.old.items ++ types_text ty.now content_type.now) }
     ensures kept { (part : List ℕ) × (out.new.items ≡ out.old.items ++ part) }
 {
-    if ty == "event.attachment" && content_type == "application/octet-stream" {
+    if ty == USUAL_TYPE && content_type == USUAL_CONTENT_TYPE {
         return out.extend_from_slice(USUAL_TYPES);
     }
     out.extend_from_slice(BEFORE_TYPE)?;

@@ -26,7 +26,7 @@ returns-in_ok-extend_from_slice-in-ReplayRecording c =
 pub returns-in_ok-write_container_header-in-ItemContainer : goal.returns-in_ok-write_container_header-in-ItemContainer
 returns-in_ok-write_container_header-in-ItemContainer c =
     container_sent c.write_frame.result c.in-ItemContainer.container c.args.item.now (bytes_of c.args.text.now) (bytes_of c.write_frame.new.text) c.write_container_header.new.out.items c.write_payload.new.out.items c.in-ItemContainer.is
-    (rw c.clear-in-ItemContainer.ensures.items at c.in_ok-write_payload-in-ItemContainer.ensures) (rw c.clear.ensures.items at c.in_ok-write_container_header-in-ItemContainer.ensures)
+    (rw c.clear-in-ItemContainer.ensures.items at c.in_ok-write_payload-in-ItemContainer.ensures.ok) (rw c.clear.ensures.items at c.in_ok-write_container_header-in-ItemContainer.ensures)
     (rw c.deref-in-ItemContainer.ensures.value at c.write_frame.ensures)
 
 pub returns-in_default : goal.returns-in_default
