@@ -9,11 +9,10 @@ ghost use Rattle.sentry_moments.specs.Moments.{moment_cell};
 ghost use Rattle.sentry_moments.specs.Rfc3339.{IsMomentTime};
 ghost use Rattle.sentry_envelope.specs.Envelope.{Spells, envelope_norm, envelope_text};
 ghost use Rattle.sentry_envelope.specs.EnvelopeFault.{Fault};
-ghost use Rattle.sentry_envelope.specs.EnvelopeView.{header_of, structured, text_of};
-ghost use Rattle.sentry_envelope.specs.Filter.{FiltersEnvelope};
+ghost use Rattle.sentry_envelope.specs.EnvelopeView.{structured, text_of};
 ghost use Rattle.sentry_envelope.specs.SentryProfile.{profile};
 ghost use Rattle.sentry_ledger.specs.LossSums.{no_sums};
-ghost use Rattle.sentry_c.specs.Envelopes.{IsLeft, IsNormalText, IsSpelled, LeavesNothing, header_left};
+ghost use Rattle.sentry_c.specs.Envelopes.{IsLeft, IsNormalText, IsSpelled, LeavesNothing};
 ghost use Rattle.sentry_c.specs.Output.{IsTooLong, Puts};
 ghost use Rattle.sentry_c.specs.Statuses.{refusal_status};
 
@@ -23,7 +22,7 @@ use crate::status::{INVALID_ARGUMENT, NO_MOMENT, NO_ROOM, NOTHING_LEFT, OK, of_r
 use rand_core::SeedableRng;
 use rand_pcg::Pcg32;
 use sentry_ledger::loss_sums::SUMS;
-use sentry_types::protocol::v7::{Envelope, EnvelopeError, EnvelopeFilter, Moment};
+use sentry_types::protocol::v7::{Envelope, EnvelopeError, Moment};
 use std::alloc::{AllocError, Global};
 
 fn read(alloc: Global, bytes: &[u8], now: Moment, seed: u64) -> Result<Envelope, EnvelopeError>
@@ -136,23 +135,6 @@ pub extern "C" fn sentry_envelope_check(
     }
 }
 
-fn filter_left<F: EnvelopeFilter>(
-    alloc: Global,
-    envelope: Envelope,
-    keep_headers: bool,
-    filter: &mut F,
-) -> Result<Option<Envelope>, Envelope>
-    requires { F.can_filter filter.old }
-    ensures filtered { IfOk result (FiltersEnvelope (header_left keep_headers (header_of envelope))
-        F.ask F.hand envelope filter.old filter.new) }
-{
-    if keep_headers {
-        envelope.filter_keep_headers(alloc, filter)
-    } else {
-        envelope.filter_by(alloc, filter)
-    }
-}
-
 // Returns what is left of an envelope.
 fn read_left(
     alloc: Global,
@@ -171,7 +153,7 @@ fn read_left(
     ensures fault { IfErr result (λ x. x ≢ EnvelopeError.OutOfMemory → Fault profile bytes.now x) }
 {
     let envelope = read(alloc, bytes, now, seed)?;
-    match filter_left(alloc, envelope, keep_headers, filter) {
+    match envelope.filter_with(alloc, filter, keep_headers) {
         Ok(left) => Ok(left),
         Err(_) => Err(EnvelopeError::OutOfMemory),
     }
