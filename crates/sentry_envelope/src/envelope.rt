@@ -1,7 +1,7 @@
 //! Envelopes.
 use crate::error::EnvelopeWriteError;
 use crate::file::read_file;
-use crate::filtering::{first_event, first_id, gives_id};
+use crate::filtering::{first_event, first_id, id_of};
 use crate::headers::{EnvelopeHeaders, read_header_line};
 use crate::items::{EnvelopeItemIter, IntoItems};
 use crate::plain::items_are_plain;
@@ -225,7 +225,7 @@ impl Envelope {
     {
         match &mut self.contents {
             Contents::Items(items) => {
-                let id = gives_id(&item);
+                let id = id_of(&item);
                 match items.push(item) {
                     Ok(()) => {
                         self.headers.fill(id);
@@ -320,7 +320,7 @@ impl Envelope {
 
     // Returns the text of the envelope: the header line and the items, or the bytes of a raw
     // envelope.
-    fn write_text(&self, alloc: Global) -> Result<Text<'_>, AllocError>
+    fn build_text(&self, alloc: Global) -> Result<Text<'_>, AllocError>
         ensures { IfOk result (λ text.
             PartsAreStoredAndPlain self.now → bytes_of text ≡ text_of self.now) }
     {
@@ -357,7 +357,7 @@ impl Envelope {
         if self.is_unwritable() {
             return Err(EnvelopeWriteError::NotPlain);
         }
-        let Ok(text) = self.write_text(alloc) else {
+        let Ok(text) = self.build_text(alloc) else {
             return Err(EnvelopeWriteError::Memory);
         };
         match text.len() {

@@ -242,7 +242,7 @@ pub(crate) fn first_id(items: &[EnvelopeItem]) -> Option<Uuid>
     ensures { result ≡ first_id_of items.now }
 {
     for item in items {
-        if let Some(id) = gives_id(item) {
+        if let Some(id) = id_of(item) {
             return Some(id);
         }
     }
@@ -264,12 +264,12 @@ pub(crate) fn first_event(items: &[EnvelopeItem]) -> Option<&Event<'static>>
 fn is_main(item: &EnvelopeItem) -> bool
     ensures { result ≡ is_main item.now }
 {
-    gives_id(item).is_some()
+    id_of(item).is_some()
 }
 
 // The id that an event or a transaction gives its envelope.
 #[tactic(auto, unfolding(crate::specs::Filter::id_of, sentry_event::specs::Events::event_fields, sentry_event::specs::Transactions::transaction_fields))]
-pub(crate) fn gives_id(item: &EnvelopeItem) -> Option<Uuid>
+pub(crate) fn id_of(item: &EnvelopeItem) -> Option<Uuid>
     ensures { result ≡ id_of item.now }
 {
     match item {
