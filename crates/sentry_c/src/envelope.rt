@@ -59,10 +59,7 @@ fn normal_form(
     ensures fault { IfErr result (λ x. x ≢ EnvelopeError.OutOfMemory → Fault profile bytes.now x) }
 {
     let envelope = read(alloc, bytes, now, seed)?;
-    match text_of(alloc, &envelope) {
-        Ok(text) => Ok(text),
-        Err(_) => Err(EnvelopeError::OutOfMemory),
-    }
+    Ok(text_of(alloc, &envelope)?)
 }
 
 /// Parses an envelope and writes its normal form to `out`.
@@ -179,10 +176,7 @@ fn text_left(
     let Some(left) = read_left(alloc, bytes, now, seed, keep_headers, filter)? else {
         return Ok(None);
     };
-    match text_of(alloc, &left) {
-        Ok(text) => Ok(Some(text)),
-        Err(_) => Err(EnvelopeError::OutOfMemory),
-    }
+    Ok(Some(text_of(alloc, &left)?))
 }
 
 /// Parses an envelope, removes items by their type, and writes what is left to `out`.

@@ -91,10 +91,8 @@ impl Envelope {
         ensures memory { IfErr result (λ refused. refused ≡ AddRefused.Memory item) }
     {
         let mut envelope = Envelope::new(alloc);
-        match envelope.add_item(item) {
-            Ok(()) => Ok(envelope),
-            Err(refused) => Err(refused),
-        }
+        envelope.add_item(item)?;
+        Ok(envelope)
     }
 
     /// Creates a raw envelope, with bytes that are kept unread. The result is always `Ok`.
