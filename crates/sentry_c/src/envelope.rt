@@ -65,6 +65,14 @@ fn normal_form(
 }
 
 /// Parses an envelope and writes its normal form to `out`.
+///
+/// # Returns
+///
+/// - `OK` if the text was written; `needed` is its length.
+/// - `NO_ROOM` if the text is longer than `out`; `needed` is its length.
+/// - `NO_MOMENT` if the seconds and nanoseconds are no moment.
+/// - The status of the error of `Envelope::from_slice` ([`status_of_envelope_error`]) if the bytes
+///   are refused; `OUT_OF_MEMORY`, which is one of them, if an allocation fails.
 #[unsafe(no_mangle)]
 pub extern "C" fn sentry_envelope_normalize(
     alloc: Global,
@@ -109,6 +117,13 @@ fn checked(alloc: Global, bytes: &[u8], now: Moment, seed: u64) -> Result<(), En
 }
 
 /// Parses an envelope, and writes nothing.
+///
+/// # Returns
+///
+/// - `OK` if the bytes are an envelope.
+/// - `NO_MOMENT` if the seconds and nanoseconds are no moment.
+/// - The status of the error of `Envelope::from_slice` ([`status_of_envelope_error`]) if the bytes
+///   are refused; `OUT_OF_MEMORY`, which is one of them, if an allocation fails.
 #[unsafe(no_mangle)]
 pub extern "C" fn sentry_envelope_check(
     alloc: Global,
@@ -185,6 +200,18 @@ fn text_left(
 ///
 /// `losses` is set to the sums of what is lost with the removed items, in each category for no
 /// reason and for each reason.
+///
+/// # Returns
+///
+/// - `OK` if what is left was written; `needed` is its length, and `losses` is set.
+/// - `NO_ROOM` if the text of what is left is longer than `out`; `needed` is its length, and
+///   `losses` is set.
+/// - `NOTHING_LEFT` if no item is left; `losses` is set.
+/// - `INVALID_ARGUMENT` if `losses` has another length than [`SUMS`], or `kinds` a bit that is no
+///   item type's.
+/// - `NO_MOMENT` if the seconds and nanoseconds are no moment.
+/// - The status of the error of `Envelope::from_slice` ([`status_of_envelope_error`]) if the bytes
+///   are refused; `OUT_OF_MEMORY`, which is one of them, if an allocation fails.
 #[unsafe(no_mangle)]
 pub extern "C" fn sentry_envelope_filter(
     alloc: Global,

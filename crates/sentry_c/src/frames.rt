@@ -96,6 +96,15 @@ fn placed(bytes: &[u8], body: &[u8], item: &ItemFrame<'_>, kind: ItemKind) -> Se
 ///
 /// `offset` is 0 at first, which skips the header line, and then what the last call has set. The
 /// header line and payloads aren't parsed.
+///
+/// # Returns
+///
+/// - `OK` if `frame` was set; `offset` is where the next item begins.
+/// - `NOTHING_LEFT` after the last item.
+/// - `INVALID_ARGUMENT` if `offset` isn't 0, isn't the number of bytes, and isn't directly behind a
+///   line feed.
+/// - The status of the error of `Frames::next_item` ([`status_of_envelope_error`]) if the item is
+///   refused; `OUT_OF_MEMORY`, which is one of them, if an allocation fails.
 #[unsafe(no_mangle)]
 pub extern "C" fn sentry_frames_next(
     alloc: Global,
