@@ -5,7 +5,7 @@ use Rattle.sentry_tables.specs.Cell.{Cell}
 use Rattle.sentry_items.specs.declared.item.EnvelopeItem.{EnvelopeItem}
 use Rattle.sentry_envelope.specs.Envelope.{Spells, envelope_text}
 use Rattle.sentry_envelope.specs.EnvelopeView.{items as held_items, held_in, item_view, header_of, structured, structured_by, text_by, text_of}
-use Rattle.sentry_envelope.specs.Filter.{Call, Hand, Run, asks, calls, chosen, first_id_of, handed, kept, orphans, asked_in, structured_in, FiltersEnvelope, LeavesOf}
+use Rattle.sentry_envelope.specs.Filter.{Call, Hand, Run, asks, calls, chosen, first_id_of, handed, header_left, kept, orphans, asked_in, structured_in, FiltersEnvelope, LeavesOf}
 use Rattle.sentry_envelope.specs.HeaderFields.{put_id}
 use Rattle.sentry_envelope.specs.SentryProfile.{profile}
 use Rattle.sentry_envelope.specs.declared.envelope.Contents.{Contents}
@@ -13,7 +13,7 @@ use Rattle.sentry_envelope.specs.declared.envelope.Contents.TheVariants.{Items, 
 use Rattle.sentry_envelope.specs.declared.envelope.Envelope.{Envelope}
 use Rattle.sentry_ledger.specs.LossSums.{no_sums}
 use Rattle.sentry_ledger.proofs.SumLemmas.{sums_of_run}
-use Rattle.sentry_c.specs.Envelopes.{IsLeft, Leaves, LeavesNothing, header_left, left_model}
+use Rattle.sentry_c.specs.Envelopes.{IsLeft, Leaves, LeavesNothing, left_model}
 use Rattle.sentry_c.specs.Filtering.{AddsLosses, AnswersByBits}
 use Rattle.sentry_c.specs.Kinds.{answers, is_wanted}
 use Rattle.sentry_c.specs.Losses.{SumsItemLosses}

@@ -1,10 +1,10 @@
 -- What calls on envelopes write.
-use Rattle.std.specs.Prelude.{◌≡◌, ℕ, Bool, List, [], ◌∷◌, map, if◌then◌else◌}
+use Rattle.std.specs.Prelude.{◌≡◌, ℕ, Bool, List, [], ◌∷◌, map}
 use Rattle.sentry_tables.specs.Cell.{Cell}
 use Rattle.sentry_items.specs.declared.item.EnvelopeItem.{EnvelopeItem}
 use Rattle.sentry_envelope.specs.Envelope.{Envelope as Model, Spells, envelope_norm, envelope_text}
-use Rattle.sentry_envelope.specs.EnvelopeView.{item_view, no_fields}
-use Rattle.sentry_envelope.specs.Filter.{chosen, first_id_of, handed, kept}
+use Rattle.sentry_envelope.specs.EnvelopeView.{item_view}
+use Rattle.sentry_envelope.specs.Filter.{chosen, first_id_of, handed, header_left, kept}
 use Rattle.sentry_envelope.specs.HeaderFields.{put_id}
 use Rattle.sentry_envelope.specs.SentryProfile.{profile}
 use Rattle.sentry_c.specs.Kinds.{answers}
@@ -24,10 +24,6 @@ pub record IsNormalText (bytes : List ℕ) (now : Cell) (text : List ℕ) : Type
 -- an envelope with this header and these items
 abbrev pub model : Cell → List EnvelopeItem → Model
 model header items = record { header = header; items = map item_view items }
-
--- the header of what is left, but for its id
-abbrev pub header_left : Bool → Cell → Cell
-header_left keep header = if keep then header else no_fields
 
 -- what is left, below this header with the id of the first event or transaction that is left
 abbrev pub left_model : Cell → List EnvelopeItem → Model

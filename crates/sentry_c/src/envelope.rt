@@ -9,21 +9,22 @@ ghost use Rattle.sentry_moments.specs.Moments.{moment_cell};
 ghost use Rattle.sentry_moments.specs.Rfc3339.{IsMomentTime};
 ghost use Rattle.sentry_envelope.specs.Envelope.{Spells, envelope_norm, envelope_text};
 ghost use Rattle.sentry_envelope.specs.EnvelopeFault.{Fault};
-ghost use Rattle.sentry_envelope.specs.EnvelopeView.{header_of, structured, text_of};
-ghost use Rattle.sentry_envelope.specs.Filter.{FiltersEnvelope};
+ghost use Rattle.sentry_envelope.specs.EnvelopeView.{structured, text_of};
 ghost use Rattle.sentry_envelope.specs.SentryProfile.{profile};
 ghost use Rattle.sentry_ledger.specs.LossSums.{no_sums};
-ghost use Rattle.sentry_c.specs.Envelopes.{IsLeft, IsNormalText, IsSpelled, LeavesNothing, header_left};
+ghost use Rattle.sentry_c.specs.Envelopes.{IsLeft, IsNormalText, IsSpelled, LeavesNothing};
 ghost use Rattle.sentry_c.specs.Output.{IsTooLong, Puts};
 ghost use Rattle.sentry_c.specs.Statuses.{refusal_status};
 
 use crate::filter::{KindFilter, are_kinds};
 use crate::output::deliver;
-use crate::status::{INVALID_ARGUMENT, NO_MOMENT, NO_ROOM, NOTHING_LEFT, OK, of_refusal};
+use crate::status::{
+    INVALID_ARGUMENT, NO_MOMENT, NO_ROOM, NOTHING_LEFT, OK, status_of_envelope_error,
+};
 use rand_core::SeedableRng;
 use rand_pcg::Pcg32;
 use sentry_ledger::loss_sums::SUMS;
-use sentry_types::protocol::v7::{Envelope, EnvelopeError, EnvelopeFilter, Moment};
+use sentry_types::protocol::v7::{Envelope, EnvelopeError, Moment};
 use std::alloc::{AllocError, Global};
 
 fn read(alloc: Global, bytes: &[u8], now: Moment, seed: u64) -> Result<Envelope, EnvelopeError>
@@ -60,13 +61,18 @@ fn normal_form(
     ensures fault { IfErr result (λ x. x ≢ EnvelopeError.OutOfMemory → Fault profile bytes.now x) }
 {
     let envelope = read(alloc, bytes, now, seed)?;
-    match text_of(alloc, &envelope) {
-        Ok(text) => Ok(text),
-        Err(_) => Err(EnvelopeError::OutOfMemory),
-    }
+    Ok(text_of(alloc, &envelope)?)
 }
 
 /// Parses an envelope and writes its normal form to `out`.
+///
+/// # Returns
+///
+/// - `OK` if the text was written; `needed` is its length.
+/// - `NO_ROOM` if the text is longer than `out`; `needed` is its length.
+/// - `NO_MOMENT` if the seconds and nanoseconds are no moment.
+/// - The status of the error of `Envelope::from_slice` ([`status_of_envelope_error`]) if the bytes
+///   are refused; `OUT_OF_MEMORY`, which is one of them, if an allocation fails.
 #[unsafe(no_mangle)]
 pub extern "C" fn sentry_envelope_normalize(
     alloc: Global,
@@ -97,7 +103,7 @@ pub extern "C" fn sentry_envelope_normalize(
     match normal_form(alloc, bytes, now, seed) {
         Ok(text) if deliver(&text, out, needed) => OK,
         Ok(_) => NO_ROOM,
-        Err(error) => of_refusal(&error),
+        Err(error) => status_of_envelope_error(&error),
     }
 }
 
@@ -111,6 +117,13 @@ fn checked(alloc: Global, bytes: &[u8], now: Moment, seed: u64) -> Result<(), En
 }
 
 /// Parses an envelope, and writes nothing.
+///
+/// # Returns
+///
+/// - `OK` if the bytes are an envelope.
+/// - `NO_MOMENT` if the seconds and nanoseconds are no moment.
+/// - The status of the error of `Envelope::from_slice` ([`status_of_envelope_error`]) if the bytes
+///   are refused; `OUT_OF_MEMORY`, which is one of them, if an allocation fails.
 #[unsafe(no_mangle)]
 pub extern "C" fn sentry_envelope_check(
     alloc: Global,
@@ -132,24 +145,7 @@ pub extern "C" fn sentry_envelope_check(
     };
     match checked(alloc, bytes, now, seed) {
         Ok(()) => OK,
-        Err(error) => of_refusal(&error),
-    }
-}
-
-fn filter_left<F: EnvelopeFilter>(
-    alloc: Global,
-    envelope: Envelope,
-    keep_headers: bool,
-    filter: &mut F,
-) -> Result<Option<Envelope>, Envelope>
-    requires { F.can_filter filter.old }
-    ensures filtered { IfOk result (FiltersEnvelope (header_left keep_headers (header_of envelope))
-        F.ask F.hand envelope filter.old filter.new) }
-{
-    if keep_headers {
-        envelope.filter_keep_headers(alloc, filter)
-    } else {
-        envelope.filter_by(alloc, filter)
+        Err(error) => status_of_envelope_error(&error),
     }
 }
 
@@ -171,7 +167,7 @@ fn read_left(
     ensures fault { IfErr result (λ x. x ≢ EnvelopeError.OutOfMemory → Fault profile bytes.now x) }
 {
     let envelope = read(alloc, bytes, now, seed)?;
-    match filter_left(alloc, envelope, keep_headers, filter) {
+    match envelope.filter_with(alloc, filter, keep_headers) {
         Ok(left) => Ok(left),
         Err(_) => Err(EnvelopeError::OutOfMemory),
     }
@@ -197,16 +193,25 @@ fn text_left(
     let Some(left) = read_left(alloc, bytes, now, seed, keep_headers, filter)? else {
         return Ok(None);
     };
-    match text_of(alloc, &left) {
-        Ok(text) => Ok(Some(text)),
-        Err(_) => Err(EnvelopeError::OutOfMemory),
-    }
+    Ok(Some(text_of(alloc, &left)?))
 }
 
 /// Parses an envelope, removes items by their type, and writes what is left to `out`.
 ///
 /// `losses` is set to the sums of what is lost with the removed items, in each category for no
 /// reason and for each reason.
+///
+/// # Returns
+///
+/// - `OK` if what is left was written; `needed` is its length, and `losses` is set.
+/// - `NO_ROOM` if the text of what is left is longer than `out`; `needed` is its length, and
+///   `losses` is set.
+/// - `NOTHING_LEFT` if no item is left; `losses` is set.
+/// - `INVALID_ARGUMENT` if `losses` has another length than [`SUMS`], or `kinds` a bit that is no
+///   item type's.
+/// - `NO_MOMENT` if the seconds and nanoseconds are no moment.
+/// - The status of the error of `Envelope::from_slice` ([`status_of_envelope_error`]) if the bytes
+///   are refused; `OUT_OF_MEMORY`, which is one of them, if an allocation fails.
 #[unsafe(no_mangle)]
 pub extern "C" fn sentry_envelope_filter(
     alloc: Global,
@@ -254,7 +259,7 @@ pub extern "C" fn sentry_envelope_filter(
     let mut filter = KindFilter::new(kinds, keep);
     let left = match text_left(alloc, bytes, now, seed, keep_headers, &mut filter) {
         Ok(left) => left,
-        Err(error) => return of_refusal(&error),
+        Err(error) => return status_of_envelope_error(&error),
     };
     losses.copy_from_slice(filter.sums());
     match left {

@@ -11,7 +11,7 @@ ghost use Rattle.sentry_c.specs.Frames.{BodyFrom, FindsFrame, IsPlaced, MayBegin
 ghost use Rattle.sentry_c.specs.Places.{EndsWith};
 ghost use Rattle.sentry_c.specs.Statuses.{refusal_status};
 
-use crate::status::{INVALID_ARGUMENT, NOTHING_LEFT, OK, of_refusal};
+use crate::status::{INVALID_ARGUMENT, NOTHING_LEFT, OK, status_of_envelope_error};
 use sentry_framing::lines::skip_space;
 use sentry_types::protocol::v7::{Frames, ItemFrame, ItemKind};
 use std::alloc::Global;
@@ -96,6 +96,15 @@ fn placed(bytes: &[u8], body: &[u8], item: &ItemFrame<'_>, kind: ItemKind) -> Se
 ///
 /// `offset` is 0 at first, which skips the header line, and then what the last call has set. The
 /// header line and payloads aren't parsed.
+///
+/// # Returns
+///
+/// - `OK` if `frame` was set; `offset` is where the next item begins.
+/// - `NOTHING_LEFT` after the last item.
+/// - `INVALID_ARGUMENT` if `offset` isn't 0, isn't the number of bytes, and isn't directly behind a
+///   line feed.
+/// - The status of the error of `Frames::next_item` ([`status_of_envelope_error`]) if the item is
+///   refused; `OUT_OF_MEMORY`, which is one of them, if an allocation fails.
 #[unsafe(no_mangle)]
 pub extern "C" fn sentry_frames_next(
     alloc: Global,
@@ -125,7 +134,7 @@ pub extern "C" fn sentry_frames_next(
             *offset = (bytes.len() - frames.rest().len()) as u64;
             OK
         }
-        Some(Err(error)) => of_refusal(&error),
+        Some(Err(error)) => status_of_envelope_error(&error),
         None => NOTHING_LEFT,
     }
 }

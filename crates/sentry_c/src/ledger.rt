@@ -53,6 +53,13 @@ fn place_in(ledger: &[u64], category: u32, reason: u32) -> Option<usize>
 }
 
 /// Adds a loss to a ledger.
+///
+/// # Returns
+///
+/// - `OK` if the loss was added.
+/// - `LEDGER_FULL` if the sum would exceed 2^64-1.
+/// - `INVALID_ARGUMENT` if the ledger has another length than [`SUMS`], or no category or no reason
+///   has the number.
 #[unsafe(no_mangle)]
 pub extern "C" fn sentry_ledger_record(
     ledger: &mut [u64],
@@ -86,6 +93,12 @@ pub extern "C" fn sentry_ledger_record(
 }
 
 /// Tells what a ledger holds of a category and a reason.
+///
+/// # Returns
+///
+/// - `OK` if `quantity` was set.
+/// - `INVALID_ARGUMENT` if the ledger has another length than [`SUMS`], or no category or no reason
+///   has the number.
 #[unsafe(no_mangle)]
 pub extern "C" fn sentry_ledger_held(
     ledger: &[u64],
@@ -119,11 +132,19 @@ fn report_text(alloc: Global, ledger: &[u64], now: Moment) -> Result<Vec<u8>, Al
     let Ok(envelope) = Envelope::from_item(alloc, EnvelopeItem::ClientReport(report)) else {
         return Err(AllocError);
     };
-    let text = text_of(alloc, &envelope)?;
-    Ok(text)
+    text_of(alloc, &envelope)
 }
 
 /// Moves all losses of a ledger into a client report, in an envelope that is written to `out`.
+///
+/// # Returns
+///
+/// - `OK` if the text was written; `needed` is its length, and the ledger holds nothing.
+/// - `NO_ROOM` if the text is longer than `out`; `needed` is its length.
+/// - `NOTHING_LEFT` if the ledger holds no loss.
+/// - `NO_MOMENT` if the seconds and nanoseconds are no moment.
+/// - `INVALID_ARGUMENT` if the ledger has another length than [`SUMS`].
+/// - `OUT_OF_MEMORY` if an allocation fails.
 #[unsafe(no_mangle)]
 pub extern "C" fn sentry_ledger_flush(
     alloc: Global,

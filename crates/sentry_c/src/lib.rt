@@ -1,7 +1,9 @@
 //! Envelopes, small texts and the ledger, for callers in C.
 //!
-//! Each exported function stands on one call of the crates below and says its clauses again, over
-//! bytes. `bindings/c/curdmesa.h` declares them, and says what a caller owes.
+//! The exported functions for envelopes, frames and small texts are each a few lines over a call of
+//! `sentry_types`, and say that call's clauses again, over bytes. Those of the ledger add, read and
+//! report sums in the caller's memory. `bindings/c/curdmesa.h` declares all of them, and says what a
+//! caller owes.
 #![tactic(auto)]
 
 pub mod envelope;

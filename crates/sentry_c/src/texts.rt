@@ -15,7 +15,8 @@ ghost use Rattle.sentry_c.specs.Texts.{IsAuthAt, IsAuthPrinted, IsDsnAt, IsDsnPr
 
 use crate::output::deliver;
 use crate::status::{
-    INVALID_TEXT, NO_MOMENT, NO_ROOM, NOT_UTF8, OK, OUT_OF_MEMORY, of_auth_error, of_dsn_error,
+    INVALID_TEXT, NO_MOMENT, NO_ROOM, NOT_UTF8, OK, OUT_OF_MEMORY, status_of_auth_error,
+    status_of_dsn_error,
 };
 use sentry_types::protocol::v7::{Moment, validate};
 use sentry_types::{Auth, Dsn, Scheme};
@@ -154,6 +155,14 @@ fn parts_of_dsn(dsn: &Dsn, total: usize) -> SentryDsn
 }
 
 /// Parses a DSN, writes its printed form to `out`, and tells its parts.
+///
+/// # Returns
+///
+/// - `OK` if the text was written; `needed` is its length, and `parts` is set.
+/// - `NO_ROOM` if the text is longer than `out`; `needed` is its length.
+/// - `NOT_UTF8` if the bytes aren't UTF-8.
+/// - The status of the error of `Dsn::from_str` ([`status_of_dsn_error`]) if the text is refused;
+///   `OUT_OF_MEMORY`, which is one of them, if an allocation fails.
 #[unsafe(no_mangle)]
 pub extern "C" fn sentry_dsn_parse(
     alloc: Global,
@@ -178,7 +187,7 @@ pub extern "C" fn sentry_dsn_parse(
     };
     let dsn = match Dsn::from_str(alloc, text) {
         Ok(dsn) => dsn,
-        Err(error) => return of_dsn_error(&error),
+        Err(error) => return status_of_dsn_error(&error),
     };
     let Ok(printed) = dsn.to_string(alloc) else {
         return OUT_OF_MEMORY;
@@ -261,6 +270,14 @@ fn parts_of_auth(auth: &Auth, total: usize) -> SentryAuth
 
 /// Parses the value of an `X-Sentry-Auth` header, writes its printed form to `out`, and tells its
 /// parts.
+///
+/// # Returns
+///
+/// - `OK` if the text was written; `needed` is its length, and `parts` is set.
+/// - `NO_ROOM` if the text is longer than `out`; `needed` is its length.
+/// - `NOT_UTF8` if the bytes aren't UTF-8.
+/// - The status of the error of `Auth::from_str` ([`status_of_auth_error`]) if the text is refused;
+///   `OUT_OF_MEMORY`, which is one of them, if an allocation fails.
 #[unsafe(no_mangle)]
 pub extern "C" fn sentry_auth_parse(
     alloc: Global,
@@ -285,7 +302,7 @@ pub extern "C" fn sentry_auth_parse(
     };
     let auth = match Auth::from_str(alloc, text) {
         Ok(auth) => auth,
-        Err(error) => return of_auth_error(error),
+        Err(error) => return status_of_auth_error(&error),
     };
     let Ok(printed) = auth.to_string(alloc) else {
         return OUT_OF_MEMORY;
@@ -298,6 +315,12 @@ pub extern "C" fn sentry_auth_parse(
 }
 
 /// Parses an RFC 3339 timestamp.
+///
+/// # Returns
+///
+/// - `OK` if `secs` and `nanos` were set.
+/// - `INVALID_TEXT` if the text isn't a timestamp.
+/// - `NOT_UTF8` if the bytes aren't UTF-8.
 #[unsafe(no_mangle)]
 pub extern "C" fn sentry_rfc3339_parse(text: &[u8], secs: &mut u64, nanos: &mut u32) -> i32
     ensures found { result ≡ OK → IsRfc3339 text.now secs.new nanos.new }
@@ -320,6 +343,13 @@ pub extern "C" fn sentry_rfc3339_parse(text: &[u8], secs: &mut u64, nanos: &mut 
 }
 
 /// Writes a moment as RFC 3339 in UTC to `out`.
+///
+/// # Returns
+///
+/// - `OK` if the text was written; `needed` is its length.
+/// - `NO_ROOM` if the text is longer than `out`; `needed` is its length.
+/// - `NO_MOMENT` if the seconds and nanoseconds are no moment.
+/// - `OUT_OF_MEMORY` if an allocation fails.
 #[unsafe(no_mangle)]
 pub extern "C" fn sentry_rfc3339_format(
     alloc: Global,
@@ -351,6 +381,12 @@ pub extern "C" fn sentry_rfc3339_format(
 }
 
 /// Checks that a text is a crontab schedule.
+///
+/// # Returns
+///
+/// - `OK` if the text is a crontab schedule.
+/// - `INVALID_TEXT` if the text isn't a crontab schedule.
+/// - `NOT_UTF8` if the bytes aren't UTF-8.
 #[unsafe(no_mangle)]
 pub extern "C" fn sentry_crontab_check(text: &[u8]) -> i32
     ensures schedule { result ≡ OK → IsCrontab text.now }

@@ -76,22 +76,6 @@ impl EnvelopeFilter for ByKinds<'_> {
     }
 }
 
-// Filters an envelope. The fields of its header stay or go.
-fn filter_left<F: EnvelopeFilter>(
-    alloc: Global,
-    envelope: Envelope,
-    keep: bool,
-    filter: &mut F,
-) -> Result<Option<Envelope>, Envelope>
-    requires { F.can_filter filter.old }
-{
-    if keep {
-        envelope.filter_keep_headers(alloc, filter)
-    } else {
-        envelope.filter_by(alloc, filter)
-    }
-}
-
 /// The text of what is left, or null.
 pub fn said_left(alloc: Global, left: Option<Envelope>) -> Result<Value, AllocError> {
     match left {
@@ -122,11 +106,14 @@ fn said_filtered(
 fn left_by(
     alloc: Global,
     envelope: Envelope,
-    keep: bool,
+    keep_headers: bool,
     words: &str,
 ) -> Result<Value, AllocError> {
     let mut filter = ByKinds::new(alloc, words);
-    let left = said_filtered(alloc, filter_left(alloc, envelope, keep, &mut filter));
+    let left = said_filtered(
+        alloc,
+        envelope.filter_with(alloc, &mut filter, keep_headers),
+    );
     list(alloc, [left, filter.told()])
 }
 
@@ -152,14 +139,14 @@ pub fn of_filter(alloc: Global, words: &str, bytes: &[u8]) -> Result<Value, Allo
             |alloc: Global, envelope: Envelope| { left_by_value(alloc, envelope, words) },
         );
     }
-    let (keep, words) = match words.strip_prefix("-k ") {
+    let (keep_headers, words) = match words.strip_prefix("-k ") {
         Some(words) => (true, words),
         None => (false, words),
     };
     taken(
         alloc,
         read(alloc, bytes),
-        |alloc: Global, envelope: Envelope| { left_by(alloc, envelope, keep, words) },
+        |alloc: Global, envelope: Envelope| { left_by(alloc, envelope, keep_headers, words) },
     )
 }
 
@@ -237,7 +224,7 @@ impl EnvelopeFilter for Scribe<'_> {
 fn answered_by(
     alloc: Global,
     envelope: Envelope,
-    keep: bool,
+    keep_headers: bool,
     answers: &str,
 ) -> Result<Value, AllocError> {
     let mut filter = Scribe {
@@ -246,7 +233,10 @@ fn answered_by(
         calls: Vec::new(alloc),
         failed: false,
     };
-    let left = said_filtered(alloc, filter_left(alloc, envelope, keep, &mut filter));
+    let left = said_filtered(
+        alloc,
+        envelope.filter_with(alloc, &mut filter, keep_headers),
+    );
     list(alloc, [left, filter.told()])
 }
 

@@ -34,21 +34,21 @@ abbrev begins : List ℕ → List (List ℕ) → Bool
 begins word [] = false
 begins word (first ∷ rest) = bytes_eq first word
 
-keep_taken : (rest : List (List ℕ)) (keep : Bool) (path : Option (List ℕ)) (kinds : List ItemKind) → IsCall (codes "-k" ∷ rest) keep path kinds → (keep ≡ true) × IsCall rest false path kinds
+keep_taken : (rest : List (List ℕ)) (keep_headers : Bool) (path : Option (List ℕ)) (kinds : List ItemKind) → IsCall (codes "-k" ∷ rest) keep_headers path kinds → (keep_headers ≡ true) × IsCall rest false path kinds
 keep_taken rest true path kinds call = (refl, record { names = call.names; spelled = cc; named = call.named })
 keep_taken rest false (Some path) kinds call = absurd (false≢true (sym (ap (begins (codes "-k")) call.spelled)))
 keep_taken rest false None kinds call = absurd (NameKinds-unknown (codes "-k") rest kinds refl (rw (sym call.spelled) at call.named))
 
-keep_put : (rest : List (List ℕ)) (keep : Bool) (path : Option (List ℕ)) (kinds : List ItemKind) → (keep ≡ true) × IsCall rest false path kinds → IsCall (codes "-k" ∷ rest) keep path kinds
+keep_put : (rest : List (List ℕ)) (keep_headers : Bool) (path : Option (List ℕ)) (kinds : List ItemKind) → (keep_headers ≡ true) × IsCall rest false path kinds → IsCall (codes "-k" ∷ rest) keep_headers path kinds
 keep_put rest true path kinds call = record { names = call.1.names; spelled = ap (λ words. codes "-k" ∷ words) call.1.spelled; named = call.1.named }
 keep_put rest false path kinds call = cc
 
 -- after `-k` stands a call without it
 pub IsCall-keep : (words : List (List ℕ)) (first : List ℕ) (rest : List (List ℕ)) → words ≡ first ∷ rest → bytes_eq first (codes "-k") ≡ true
-    → (keep : Bool) (path : Option (List ℕ)) (kinds : List ItemKind) → IsCall words keep path kinds ↔ ((keep ≡ true) × IsCall rest false path kinds)
-IsCall-keep words first rest is same keep path kinds =
+    → (keep_headers : Bool) (path : Option (List ℕ)) (kinds : List ItemKind) → IsCall words keep_headers path kinds ↔ ((keep_headers ≡ true) × IsCall rest false path kinds)
+IsCall-keep words first rest is same keep_headers path kinds =
     let first_is : first ≡ codes "-k" = (bytes_eq-Decides first (codes "-k")).0 same in
-    rw (is, first_is) (keep_taken rest keep path kinds, keep_put rest keep path kinds)
+    rw (is, first_is) (keep_taken rest keep_headers path kinds, keep_put rest keep_headers path kinds)
 
 path_taken : (text : List ℕ) (more : List (List ℕ)) (path : Option (List ℕ)) (kinds : List ItemKind) → IsCall (codes "-f" ∷ text ∷ more) false path kinds → (path ≡ Some text) × NameKinds more kinds
 path_taken text more (Some path) kinds call =
@@ -91,8 +91,8 @@ same_path words None None kinds others call also =
     (refl, NameKinds-only also.names kinds others (rw same at call.named) also.named)
 
 -- words are a call in one way at most
-pub IsCall-only : (words : List (List ℕ)) (keep other_keep : Bool) (path other : Option (List ℕ)) (kinds others : List ItemKind) → IsCall words keep path kinds → IsCall words other_keep other others
-    → (keep ≡ other_keep) × (path ≡ other) × (kinds ≡ others)
+pub IsCall-only : (words : List (List ℕ)) (keep_headers other_keep : Bool) (path other : Option (List ℕ)) (kinds others : List ItemKind) → IsCall words keep_headers path kinds → IsCall words other_keep other others
+    → (keep_headers ≡ other_keep) × (path ≡ other) × (kinds ≡ others)
 IsCall-only words true other_keep path other kinds others call also =
     let read = keep_taken (path_words path ++ call.names) other_keep other others (rw call.spelled at also) in
     let same = same_path _ path other kinds others (record { names = call.names; spelled = refl; named = call.named }) read.1 in

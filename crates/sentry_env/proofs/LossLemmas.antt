@@ -6,7 +6,7 @@ use Rattle.sentry_items.specs.Losses.{losses_of_items}
 use Rattle.sentry_items.specs.declared.item.EnvelopeItem.{EnvelopeItem}
 use Rattle.sentry_envelope.specs.Envelope.{Envelope as Model}
 use Rattle.sentry_envelope.specs.EnvelopeView.{items as held_items, held_in, item_view, header_of, structured, structured_by, text_by}
-use Rattle.sentry_envelope.specs.Filter.{Call, Hand, Run, asks, calls, chosen, orphans, handed, asked_in, structured_in, FiltersEnvelope, LeavesOf}
+use Rattle.sentry_envelope.specs.Filter.{Call, Hand, Run, asks, calls, chosen, orphans, handed, header_left, asked_in, structured_in, FiltersEnvelope, LeavesOf}
 use Rattle.sentry_envelope.specs.declared.envelope.Contents.{Contents}
 use Rattle.sentry_envelope.specs.declared.envelope.Contents.TheVariants.{Items, Raw}
 use Rattle.sentry_envelope.specs.declared.envelope.Envelope.{Envelope}
@@ -14,7 +14,7 @@ use Rattle.sentry_ledger.specs.LossSums.{no_sums, sum_at}
 use Rattle.sentry_ledger.proofs.SumLemmas.{sums_of_run}
 use Rattle.sentry_env.specs.Listed.{AnswersFor}
 use Rattle.sentry_env.specs.Losing.{AnswersByKind, AddsLosses}
-use Rattle.sentry_env.specs.Run.{IsDue, dues, header_left, kept_due, left_due, model}
+use Rattle.sentry_env.specs.Run.{IsDue, dues, kept_due, left_due, model}
 use Rattle.sentry_env.specs.Table.{table_by, table_of}
 use Rattle.sentry_env.specs.declared.ending.Outcome.TheVariants.{Written}
 use Rattle.sentry_framing.specs.declared.kind.ItemKind.{ItemKind}
@@ -58,12 +58,12 @@ left_is (Items all) items header envelope (item ∷ rest) (Some left) table is l
     (ap (text_by (header_of left)) (held_structured left.contents (item ∷ rest) leaves.items_are) ∙ ap (λ (h : Cell). text_by h (held_items (map item_view (item ∷ rest)))) leaves.header_is)
 left_is (Raw bytes) items header envelope (item ∷ rest) left table is leaves = cc
 
-pub rest_is_due : (kinds : List ItemKind) (keep : Bool) (envelope : Envelope) (items : List EnvelopeItem) (first last : LossFilter) (left : Option Envelope) (table : List ℕ) → (length kinds == 0) ≡ false
-    → structured_in envelope.contents ≡ Some items → first.kinds.now ≡ kinds → first.sums.row ≡ no_sums → FiltersEnvelope (header_left keep (header_of envelope)) AnswersByKind AddsLosses envelope first last left
-    → table ≡ table_by (sum_at last.sums) → IsDue kinds keep (header_of envelope) items (left_due left table)
-rest_is_due [] keep envelope items first last left table some has is none filtered shown = absurd (let e : true ≡ false = some in cc)
-rest_is_due (kind ∷ kinds) keep envelope items first last left table some has is none filtered shown =
-    let header = header_left keep (header_of envelope) in
+pub rest_is_due : (kinds : List ItemKind) (keep_headers : Bool) (envelope : Envelope) (items : List EnvelopeItem) (first last : LossFilter) (left : Option Envelope) (table : List ℕ) → (length kinds == 0) ≡ false
+    → structured_in envelope.contents ≡ Some items → first.kinds.now ≡ kinds → first.sums.row ≡ no_sums → FiltersEnvelope (header_left keep_headers (header_of envelope)) AnswersByKind AddsLosses envelope first last left
+    → table ≡ table_by (sum_at last.sums) → IsDue kinds keep_headers (header_of envelope) items (left_due left table)
+rest_is_due [] keep_headers envelope items first last left table some has is none filtered shown = absurd (let e : true ≡ false = some in cc)
+rest_is_due (kind ∷ kinds) keep_headers envelope items first last left table some has is none filtered shown =
+    let header = header_left keep_headers (header_of envelope) in
     let filters = rw (asked_structured envelope.contents items has) at filtered.filters in
     record {
       answers = filters.answers;

@@ -14,14 +14,14 @@ use Rattle.sentry_items.specs.declared.item.EnvelopeItem.TheVariants as variants
 use Rattle.sentry_items.proofs.SameLosses.{same_losses}
 use Rattle.sentry_envelope.specs.Envelope.{Envelope as Model, Item, item, raw, attached, opaque, value, given_by, envelope_text}
 use Rattle.sentry_envelope.specs.EnvelopeView.{item_view, placed}
-use Rattle.sentry_envelope.specs.Filter.{Hand, asks, chosen, first_id_of, handed, id_in, id_of, is_main, is_orphan, item_of_hand, kept, orphans}
+use Rattle.sentry_envelope.specs.Filter.{Hand, asks, chosen, first_id_of, handed, header_left, id_in, id_of, is_main, is_orphan, item_of_hand, kept, orphans}
 use Rattle.sentry_envelope.specs.HeaderFields.{put_id}
 use Rattle.sentry_envelope.specs.SentryProfile.{item_types, profile}
 use Rattle.sentry_envelope.proofs.ConservationLemmas.{handed_of_hands}
 use Rattle.sentry_envelope.proofs.OneEnvelope.{one_envelope}
 use Rattle.sentry_envelope.proofs.SentryProfile.{profile_lawful}
 use Rattle.sentry_env.specs.Listed.{AnswersFor, IsOfKinds, kind_of_item}
-use Rattle.sentry_env.specs.Run.{Due, DueIsSettled, IsDue, dues, header_left, kept_due, model}
+use Rattle.sentry_env.specs.Run.{Due, DueIsSettled, IsDue, dues, kept_due, model}
 use Rattle.sentry_env.specs.Table.{table_of}
 use Rattle.sentry_env.specs.declared.ending.Outcome.TheVariants.{Written}
 use Rattle.sentry_framing.specs.declared.kind.ItemKind.{ItemKind}
@@ -198,23 +198,23 @@ due_alike header (i ∷ items) (j ∷ others) table same =
     ap (λ (h : Cell). dues (envelope_text profile (record { header = h; items = map item_view (i ∷ items) })) table Written) (ap (λ d. put_id d header) id)
     ∙ ap (λ (is : List Item). dues (envelope_text profile (record { header = put_id (first_id_of (j ∷ others)) header; items = is })) table Written) same
 
-same_due : (kinds : List ItemKind) (keep : Bool) (header : Cell) (items others : List EnvelopeItem) (due due' : Due) → Alike items others → IsDue kinds keep header items due → IsDue kinds keep header others due' → due ≡ due'
-same_due [] keep header items others due due' same is is' =
+same_due : (kinds : List ItemKind) (keep_headers : Bool) (header : Cell) (items others : List EnvelopeItem) (due due' : Due) → Alike items others → IsDue kinds keep_headers header items due → IsDue kinds keep_headers header others due' → due ≡ due'
+same_due [] keep_headers header items others due due' same is is' =
     is ∙ ap (λ (views : List Item). dues (envelope_text profile (record { header = header; items = views })) [] Written) same ∙ sym is'
-same_due (kind ∷ kinds) keep header items others due due' same is is' =
+same_due (kind ∷ kinds) keep_headers header items others due due' same is is' =
     let answers = answers_alike (kind ∷ kinds) items others is.answers is'.answers same is.by_kind is'.by_kind in
     let left = kept_alike _ _ (chosen_alike items others is'.answers same) in
     let gone = handed_alike items others is'.answers same in
-    is.due_is ∙ rw answers (ap (kept_due (header_left keep header) _) (ap table_of (losses_alike _ _ gone)) ∙ due_alike (header_left keep header) _ _ _ left) ∙ sym is'.due_is
+    is.due_is ∙ rw answers (ap (kept_due (header_left keep_headers header) _) (ap table_of (losses_alike _ _ gone)) ∙ due_alike (header_left keep_headers header) _ _ _ left) ∙ sym is'.due_is
 
-one_due : (kinds : List ItemKind) (keep : Bool) (header header' : Cell) (items others : List EnvelopeItem) (due due' : Due) → model header items ≡ model header' others
-    → IsDue kinds keep header items due → IsDue kinds keep header' others due' → due ≡ due'
-one_due kinds keep header header' items others due due' same is is' =
+one_due : (kinds : List ItemKind) (keep_headers : Bool) (header header' : Cell) (items others : List EnvelopeItem) (due due' : Due) → model header items ≡ model header' others
+    → IsDue kinds keep_headers header items due → IsDue kinds keep_headers header' others due' → due ≡ due'
+one_due kinds keep_headers header header' items others due due' same is is' =
     let header_is : header ≡ header' = ap (λ (m : Model). m.header) same in
     let items_are : map item_view items ≡ map item_view others = ap (λ (m : Model). m.items) same in
-    same_due kinds keep header items others due due' items_are is (rw header_is is')
+    same_due kinds keep_headers header items others due due' items_are is (rw header_is is')
 
 pub due_is_settled : DueIsSettled
 due_is_settled set bytes due due' drawn is is' =
-    one_due set.kinds set.keep is.header is'.header is.items is'.items due due'
+    one_due set.kinds set.keep_headers is.header is'.header is.items is'.items due due'
     (one_envelope profile profile_lawful bytes set.now (model is.header is.items) (model is'.header is'.items) drawn is.spells is'.spells) is.is_due is'.is_due

@@ -36,7 +36,7 @@ refused set old {input} {bytes} x gives same faulty = (record { bytes = bytes; g
 
 -- what is due for the items of an envelope is due for the bytes that it was read from
 pub reads_due : (set : Settings) (due : Due) (envelope : Envelope) {old new : Stream} {bytes given : List ℕ} → GivesAll old new bytes → given ≡ bytes → IsSomeAnd (structured envelope) (Spells profile given set.now)
-    → ((items : List EnvelopeItem) → structured_in envelope.contents ≡ Some items → IsDue set.kinds set.keep (header_of envelope) items due) → Reads old new (IsDueFor set due)
+    → ((items : List EnvelopeItem) → structured_in envelope.contents ≡ Some items → IsDue set.kinds set.keep_headers (header_of envelope) items due) → Reads old new (IsDueFor set due)
 reads_due set due envelope {bytes = bytes} gives same spelled is_due =
     let has = has_items (Spells profile bytes set.now) envelope (rw same at spelled) in
     record { bytes = bytes; gives = gives; meant = record { header = header_of envelope; items = has.0; spells = has.2; is_due = is_due has.0 has.1 } }

@@ -18,7 +18,7 @@ abbrev pub NameKinds : List (List ℕ) → List ItemKind → Type 0
 NameKinds words kinds = map kind_of_word words ≡ map Some kinds
 
 -- the words are a call with these meanings
-pub record IsCall (words : List (List ℕ)) (keep : Bool) (path : Option (List ℕ)) (kinds : List ItemKind) : Type 0 where
+pub record IsCall (words : List (List ℕ)) (keep_headers : Bool) (path : Option (List ℕ)) (kinds : List ItemKind) : Type 0 where
   pub names : List (List ℕ)
-  pub spelled : words ≡ keep_words keep ++ (path_words path ++ names)
+  pub spelled : words ≡ keep_words keep_headers ++ (path_words path ++ names)
   pub named : NameKinds names kinds

@@ -1,12 +1,12 @@
 -- What is due for an envelope, and what a run reads and writes.
-use Rattle.std.specs.Prelude.{◌≡◌, ◌⊎◌, ℕ, ◌+◌, Bool, List, [], ◌∷◌, map, if◌then◌else◌, Option, Some, None, Result, Ok, Err, ⊤}
+use Rattle.std.specs.Prelude.{◌≡◌, ◌⊎◌, ℕ, ◌+◌, Bool, List, [], ◌∷◌, map, Option, Some, None, Result, Ok, Err, ⊤}
 use Rattle.sentry_tables.specs.Cell.{Cell}
 use Rattle.sentry_items.specs.Losses.{losses_of_items}
 use Rattle.sentry_items.specs.declared.item.EnvelopeItem.{EnvelopeItem}
 use Rattle.sentry_envelope.specs.Envelope.{Envelope as Model, Spells, envelope_text}
 use Rattle.sentry_envelope.specs.EnvelopeFault.{Fault}
-use Rattle.sentry_envelope.specs.EnvelopeView.{IsUnwritable, item_view, no_fields, text_of}
-use Rattle.sentry_envelope.specs.Filter.{chosen, kept, handed, first_id_of}
+use Rattle.sentry_envelope.specs.EnvelopeView.{IsUnwritable, item_view, text_of}
+use Rattle.sentry_envelope.specs.Filter.{chosen, kept, handed, first_id_of, header_left}
 use Rattle.sentry_envelope.specs.HeaderFields.{put_id}
 use Rattle.sentry_envelope.specs.OneEnvelope.{NothingDrawnIn}
 use Rattle.sentry_envelope.specs.SentryProfile.{profile}
@@ -26,10 +26,6 @@ use Rattle.sentry_env.specs.declared.ending.RunError.TheVariants.{Refused, Read,
 abbrev pub model : Cell → List EnvelopeItem → Model
 model header items = record { header = header; items = map item_view items }
 
--- the header of what is kept, but for its id: with `-k` as it was, else without fields
-abbrev pub header_left : Bool → Cell → Cell
-header_left keep header = if keep then header else no_fields
-
 -- the texts that the output and the table are to get, and the outcome
 pub record Due : Type 0 where
   pub out : List ℕ
@@ -45,33 +41,33 @@ kept_due header [] table = dues [] table NothingLeft
 kept_due header (item ∷ items) table = dues (envelope_text profile (model (put_id (first_id_of (item ∷ items)) header) (item ∷ items))) table Written
 
 -- The items of these kinds are taken out, and this is due for what is kept, with the table of what is handed over.
-pub record TakesOut (kinds : List ItemKind) (keep : Bool) (header : Cell) (items : List EnvelopeItem) (due : Due) : Type 0 where
+pub record TakesOut (kinds : List ItemKind) (keep_headers : Bool) (header : Cell) (items : List EnvelopeItem) (due : Due) : Type 0 where
   pub answers : List Bool
   pub by_kind : AnswersFor kinds items answers
-  pub due_is : due ≡ kept_due (header_left keep header) (kept (chosen items answers)) (table_of (losses_of_items (handed items answers)))
+  pub due_is : due ≡ kept_due (header_left keep_headers header) (kept (chosen items answers)) (table_of (losses_of_items (handed items answers)))
 
 -- What is due for an envelope with this header and these items: without kinds its own text, and no table.
 abbrev pub IsDue : List ItemKind → Bool → Cell → List EnvelopeItem → Due → Type 0
-IsDue [] keep header items due = due ≡ dues (envelope_text profile (model header items)) [] Written
-IsDue (kind ∷ kinds) keep header items due = TakesOut (kind ∷ kinds) keep header items due
+IsDue [] keep_headers header items due = due ≡ dues (envelope_text profile (model header items)) [] Written
+IsDue (kind ∷ kinds) keep_headers header items due = TakesOut (kind ∷ kinds) keep_headers header items due
 
 -- ---- a run
 
 -- The kinds that a run takes out, whether it keeps the header, and the moment at which it reads.
 pub record Settings : Type 0 where
   pub kinds : List ItemKind
-  pub keep : Bool
+  pub keep_headers : Bool
   pub now : Cell
 
 abbrev pub settings : List ItemKind → Bool → Cell → Settings
-settings kinds keep now = record { kinds = kinds; keep = keep; now = now }
+settings kinds keep_headers now = record { kinds = kinds; keep_headers = keep_headers; now = now }
 
 -- this is due for an envelope that the bytes spell
 pub record IsDueFor (set : Settings) (due : Due) (bytes : List ℕ) : Type 0 where
   pub header : Cell
   pub items : List EnvelopeItem
   pub spells : Spells profile bytes set.now (model header items)
-  pub is_due : IsDue set.kinds set.keep header items due
+  pub is_due : IsDue set.kinds set.keep_headers header items due
 
 -- the input is read, and both writers get the whole of what is due for it
 pub record WritesAll (set : Settings) (old new : Streams) (outcome : Outcome) : Type 0 where

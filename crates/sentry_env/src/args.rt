@@ -18,14 +18,15 @@ pub struct Args {
     /// Item types to remove.
     pub kinds: Vec<Kind>,
     /// Whether the envelope header is kept when items are removed.
-    pub keep: bool,
+    pub keep_headers: bool,
 }
 
 // Splits off a leading `-k`.
 fn split_keep<'a, 'b>(words: &'a [&'b str]) -> (bool, &'a [&'b str])
-    ensures { (keep : Bool) (path : Option (List ℕ)) (kinds : List Kind)
-        → IsCall (map (λ word. word.now) words.now) keep path kinds
-        ↔ ((keep ≡ result.0) × IsCall (map (λ word. word.now) result.1.now) false path kinds) }
+    ensures { (keep_headers : Bool) (path : Option (List ℕ)) (kinds : List Kind)
+        → IsCall (map (λ word. word.now) words.now) keep_headers path kinds
+        ↔ ((keep_headers ≡ result.0) ×
+        IsCall (map (λ word. word.now) result.1.now) false path kinds) }
 {
     let Some((first, rest)) = words.split_first() else {
         return (false, words);
@@ -81,12 +82,13 @@ fn read_kinds(alloc: Global, words: &[&str]) -> Result<Option<Vec<Kind>>, AllocE
 /// `AllocError` if an allocation fails.
 pub fn read_args(alloc: Global, words: &[&str]) -> Result<Option<Args>, AllocError>
     ensures call { IfOk result (λ answer. IfSome answer (λ args.
-        IsCall (map (λ word. word.now) words.now) args.keep
+        IsCall (map (λ word. word.now) words.now) args.keep_headers
         (option_map string_bytes args.path) args.kinds.items)) }
-    ensures no_call { result ≡ Ok None → (keep : Bool) (path : Option (List ℕ)) (kinds : List Kind)
-        → ¬ IsCall (map (λ word. word.now) words.now) keep path kinds }
+    ensures no_call { result ≡ Ok None →
+        (keep_headers : Bool) (path : Option (List ℕ)) (kinds : List Kind)
+        → ¬ IsCall (map (λ word. word.now) words.now) keep_headers path kinds }
 {
-    let (keep, words) = split_keep(words);
+    let (keep_headers, words) = split_keep(words);
     let Some((path, words)) = split_path(words) else {
         return Ok(None);
     };
@@ -97,7 +99,11 @@ pub fn read_args(alloc: Global, words: &[&str]) -> Result<Option<Args>, AllocErr
         Some(text) => Some(String::from_str(alloc, text)?),
         None => None,
     };
-    Ok(Some(Args { path, kinds, keep }))
+    Ok(Some(Args {
+        path,
+        kinds,
+        keep_headers,
+    }))
 }
 
 /// Parses the arguments that the program was started with, as [`read_args`] does. Returns `None`

@@ -30,7 +30,7 @@ use ending::{Outcome, RunError, ending, usage};
 use rand_core::SeedableRng;
 use rand_pcg::Pcg32;
 use run::run;
-pub use sentry_types::protocol::v7::ItemKind as Kind;
+pub(crate) use sentry_types::protocol::v7::ItemKind as Kind;
 use sentry_types::protocol::v7::{CountedReader, CountedWriter};
 use std::alloc::AllocError;
 use std::fs;
@@ -62,7 +62,7 @@ where
         rt.alloc(),
         &mut reader,
         &args.kinds,
-        args.keep,
+        args.keep_headers,
         moment_after(time),
         &mut ids,
         &mut out,

@@ -48,12 +48,12 @@ impl Write for Page {
     }
 }
 
-fn run_on_pages(alloc: Global, kinds: &[Kind], keep: bool) -> Ran<Page> {
+fn run_on_pages(alloc: Global, kinds: &[Kind], keep_headers: bool) -> Ran<Page> {
     run_on(
         alloc,
         INPUT.as_bytes(),
         kinds,
-        keep,
+        keep_headers,
         Page::new(),
         Page::new(),
     )
@@ -66,13 +66,13 @@ fn refused_when_run(rt: HostRuntime) {
         ([].as_slice(), 0, REWRITTEN, ""),
         ([Kind::Attachment].as_slice(), 1, "", "attachment none 10\n"),
     ] {
-        for keep in [false, true] {
-            let mut ran = run_on_pages(alloc, kinds, keep);
+        for keep_headers in [false, true] {
+            let mut ran = run_on_pages(alloc, kinds, keep_headers);
             if ran.answer.is_err() {
                 let ended = ending(&ran.answer) == (4, "sentry_env: out of memory");
                 let nothing = (ran.out.taken, ran.table.taken) == (0, 0);
                 assert!(rt; ended && nothing && ran.failures == (0, 0, 0));
-                ran = run_on_pages(alloc, kinds, keep);
+                ran = run_on_pages(alloc, kinds, keep_headers);
             }
             let wrote = ran.out.text() == text.as_bytes() && ran.table.text() == losses.as_bytes();
             assert!(rt; wrote && ending(&ran.answer) == (status, ""));
@@ -93,9 +93,9 @@ fn none_refused(rt: HostRuntime) -> Result<(), Fail> {
             "attachment none 1000000\n",
         ),
     ] {
-        for keep in [false, true] {
+        for keep_headers in [false, true] {
             let (out, table) = (Vec::new(alloc), Vec::new(alloc));
-            let ran = run_on(alloc, long.as_slice(), kinds, keep, out, table);
+            let ran = run_on(alloc, long.as_slice(), kinds, keep_headers, out, table);
             let whole = (ran.out.len() > long.len()) == kinds.is_empty();
             let wrote = whole && ran.table.as_slice() == losses.as_bytes();
             assert!(rt; wrote && ending(&ran.answer).0 == status);

@@ -1,14 +1,14 @@
 //! A run: reading, filtering and writing.
 
-ghost use Rattle.std.specs.Prelude.{◌≡◌, ◌-◌, ◌^◌, ◌<◌, List, Some, IfErr, IfOk, IsSomeAnd, string_bytes};
+ghost use Rattle.std.specs.Prelude.{◌≡◌, ◌-◌, ◌^◌, ◌<◌, List, Some, IfOk, IsSomeAnd, string_bytes};
 ghost use Rattle.sentry_items.specs.Counted.{reader_failures, writer_failures};
 ghost use Rattle.sentry_items.specs.declared.item.EnvelopeItem.{EnvelopeItem};
 ghost use Rattle.sentry_envelope.specs.Envelope.{IsEnvelopePlain};
 ghost use Rattle.sentry_envelope.specs.EnvelopeView.{header_of, structured};
-ghost use Rattle.sentry_envelope.specs.Filter.{FiltersEnvelope, structured_in};
+ghost use Rattle.sentry_envelope.specs.Filter.{structured_in};
 ghost use Rattle.sentry_envelope.specs.SentryProfile.{profile};
 ghost use Rattle.sentry_moments.specs.Moments.{moment_cell};
-ghost use Rattle.sentry_env.specs.Run.{IsDue, IsWritable, Runs, Sends, header_left, left_due, left_outcome, left_text, settings};
+ghost use Rattle.sentry_env.specs.Run.{IsDue, IsWritable, Runs, Sends, left_due, left_outcome, left_text, settings};
 ghost use Rattle.sentry_env.specs.Streams.{streams, writer_stream};
 
 use crate::Kind;
@@ -18,7 +18,7 @@ use crate::read_all::read_all;
 use rand_core::Rng;
 use sentry_items::counted::send;
 use sentry_types::protocol::v7::{
-    CountedReader, CountedWriter, Envelope, EnvelopeFilter, EnvelopeWriteError, Moment,
+    CountedReader, CountedWriter, Envelope, EnvelopeWriteError, Moment,
 };
 use std::alloc::{AllocError, Global};
 use std::io::{Read, Write};
@@ -30,36 +30,17 @@ struct Rewritten {
     losses: String,
 }
 
-fn filter_left<F: EnvelopeFilter>(
-    alloc: Global,
-    envelope: Envelope,
-    keep: bool,
-    filter: &mut F,
-) -> Result<Option<Envelope>, Envelope>
-    requires { F.can_filter filter.old }
-    ensures filtered { IfOk result
-        (FiltersEnvelope (header_left keep (header_of envelope)) F.ask F.hand envelope filter.old
-        filter.new) }
-    ensures refused { IfErr result (λ back. (back ≡ envelope) × (filter.new ≡ filter.old)) }
-{
-    if keep {
-        envelope.filter_keep_headers(alloc, filter)
-    } else {
-        envelope.filter_by(alloc, filter)
-    }
-}
-
 // Removes items by type; without types the whole envelope is left.
 fn rewrite(
     alloc: Global,
     kinds: &[Kind],
-    keep: bool,
+    keep_headers: bool,
     envelope: Envelope,
 ) -> Result<Rewritten, AllocError>
     requires { IsSomeAnd (structured envelope) (IsEnvelopePlain profile) }
     ensures due { IfOk result (λ rewritten. (items : List EnvelopeItem) →
         structured_in envelope.contents ≡ Some items
-        → IsDue kinds.now keep (header_of envelope) items
+        → IsDue kinds.now keep_headers (header_of envelope) items
         (left_due rewritten.left (string_bytes rewritten.losses))) }
     ensures writable { IfOk result (λ rewritten. IsWritable rewritten.left) }
 {
@@ -70,7 +51,7 @@ fn rewrite(
         });
     }
     let mut filter = LossFilter::new(kinds);
-    let Ok(left) = filter_left(alloc, envelope, keep, &mut filter) else {
+    let Ok(left) = envelope.filter_with(alloc, &mut filter, keep_headers) else {
         return Err(AllocError);
     };
     let losses = filter.table(alloc)?;
@@ -110,9 +91,9 @@ fn write_left<W: Write>(
 /// Reads an envelope, writes it without the items of these types, and then writes the table of the
 /// losses of the removed items.
 ///
-/// An attachment is also removed if no event and no transaction is left. With `keep` the header's
-/// fields other than the id are kept. Without types the whole envelope is written, and no table.
-/// All texts are built before the first byte is written.
+/// An attachment is also removed if no event and no transaction is left. With `keep_headers` the
+/// header's fields other than the id are kept. Without types the whole envelope is written, and no
+/// table. All texts are built before the first byte is written.
 ///
 /// # Errors
 ///
@@ -125,7 +106,7 @@ pub fn run<R: Read, W: Write, T: Write, G: Rng>(
     alloc: Global,
     reader: &mut CountedReader<R>,
     kinds: &[Kind],
-    keep: bool,
+    keep_headers: bool,
     now: Moment,
     ids: &mut G,
     out: &mut CountedWriter<W>,
@@ -134,7 +115,7 @@ pub fn run<R: Read, W: Write, T: Write, G: Rng>(
     requires reader_counts { reader_failures reader.old < 2 ^ 64 - 1 }
     requires out_counts { writer_failures out.old < 2 ^ 64 - 1 }
     requires table_counts { writer_failures table.old < 2 ^ 64 - 1 }
-    ensures { Runs (settings kinds.now keep (moment_cell now))
+    ensures { Runs (settings kinds.now keep_headers (moment_cell now))
         (streams R.remaining W.contents T.contents reader.old out.old table.old)
         (streams R.remaining W.contents T.contents reader.new out.new table.new) result }
 {
@@ -142,7 +123,7 @@ pub fn run<R: Read, W: Write, T: Write, G: Rng>(
     let envelope = Envelope::from_slice(alloc, &bytes, now, ids)?;
     // The envelope borrows nothing: its text takes the place of the input.
     drop(bytes);
-    let rewritten = rewrite(alloc, kinds, keep, envelope)?;
+    let rewritten = rewrite(alloc, kinds, keep_headers, envelope)?;
     write_left(alloc, &rewritten.left, out)?;
     send(rewritten.losses.as_bytes(), table)?;
     Ok(outcome_of(&rewritten.left))

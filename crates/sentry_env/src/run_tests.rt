@@ -126,7 +126,7 @@ fn wrote(ran: &Ran<Full>, out: &[u8], table: &[u8]) -> bool {
 struct Row {
     input: &'static str,
     kinds: &'static [Kind],
-    keep: bool,
+    keep_headers: bool,
     ending: (u8, &'static str),
     out: &'static str,
     table: &'static str,
@@ -136,7 +136,7 @@ const ROWS: &[Row] = &[
     Row {
         input: INPUT,
         kinds: &[],
-        keep: false,
+        keep_headers: false,
         ending: (0, ""),
         out: REWRITTEN,
         table: "",
@@ -144,7 +144,7 @@ const ROWS: &[Row] = &[
     Row {
         input: INPUT,
         kinds: &[],
-        keep: true,
+        keep_headers: true,
         ending: (0, ""),
         out: REWRITTEN,
         table: "",
@@ -152,7 +152,7 @@ const ROWS: &[Row] = &[
     Row {
         input: INPUT,
         kinds: &[Kind::Attachment],
-        keep: false,
+        keep_headers: false,
         ending: (1, ""),
         out: "",
         table: "attachment none 10\n",
@@ -160,7 +160,7 @@ const ROWS: &[Row] = &[
     Row {
         input: TWO,
         kinds: &[Kind::Attachment, Kind::Attachment],
-        keep: false,
+        keep_headers: false,
         ending: (0, ""),
         out: RECORDING,
         table: "attachment none 12\n",
@@ -168,7 +168,7 @@ const ROWS: &[Row] = &[
     Row {
         input: TWO,
         kinds: &[Kind::Event, Kind::Attachment],
-        keep: false,
+        keep_headers: false,
         ending: (0, ""),
         out: RECORDING,
         table: "attachment none 12\n",
@@ -177,7 +177,7 @@ const ROWS: &[Row] = &[
     Row {
         input: TWO,
         kinds: &[Kind::Logs],
-        keep: false,
+        keep_headers: false,
         ending: (0, ""),
         out: RECORDING,
         table: "attachment none 12\n",
@@ -185,7 +185,7 @@ const ROWS: &[Row] = &[
     Row {
         input: TWO,
         kinds: &[Kind::ReplayRecording],
-        keep: true,
+        keep_headers: true,
         ending: (1, ""),
         out: "",
         table: "attachment none 12\nreplay none 1\n",
@@ -193,7 +193,7 @@ const ROWS: &[Row] = &[
     Row {
         input: "{}\n",
         kinds: &[Kind::Logs],
-        keep: false,
+        keep_headers: false,
         ending: (1, ""),
         out: "",
         table: "",
@@ -201,7 +201,7 @@ const ROWS: &[Row] = &[
     Row {
         input: HEADED,
         kinds: &[Kind::Attachment],
-        keep: true,
+        keep_headers: true,
         ending: (0, ""),
         out: HEADED_RECORDING,
         table: "attachment none 2\n",
@@ -209,7 +209,7 @@ const ROWS: &[Row] = &[
     Row {
         input: HEADED,
         kinds: &[Kind::Attachment],
-        keep: false,
+        keep_headers: false,
         ending: (0, ""),
         out: RECORDING,
         table: "attachment none 2\n",
@@ -217,7 +217,7 @@ const ROWS: &[Row] = &[
     Row {
         input: ATTACHED,
         kinds: &[Kind::Event],
-        keep: false,
+        keep_headers: false,
         ending: (1, ""),
         out: "",
         table: "error none 1\nattachment none 12\n",
@@ -225,7 +225,7 @@ const ROWS: &[Row] = &[
     Row {
         input: ATTACHED,
         kinds: &[Kind::Attachment],
-        keep: false,
+        keep_headers: false,
         ending: (0, ""),
         out: EVENT,
         table: "attachment none 12\n",
@@ -233,7 +233,7 @@ const ROWS: &[Row] = &[
     Row {
         input: REPORT,
         kinds: &[Kind::ClientReport],
-        keep: false,
+        keep_headers: false,
         ending: (1, ""),
         out: "",
         table: "error before_send 3\n",
@@ -241,7 +241,7 @@ const ROWS: &[Row] = &[
     Row {
         input: FOUR,
         kinds: &[Kind::Event, Kind::Transaction, Kind::Logs, Kind::Metrics],
-        keep: false,
+        keep_headers: false,
         ending: (1, ""),
         out: "",
         table: "error none 1\ntransaction none 1\nspan none 3\nlog_item none 1\nlog_byte none 9\ntrace_metric none 1\ntrace_metric_byte none 24\n",
@@ -249,7 +249,7 @@ const ROWS: &[Row] = &[
     Row {
         input: SAID,
         kinds: &[Kind::UserReport],
-        keep: false,
+        keep_headers: false,
         ending: (1, ""),
         out: "",
         table: "feedback none 1\n",
@@ -257,7 +257,7 @@ const ROWS: &[Row] = &[
     Row {
         input: WITH_SESSION,
         kinds: &[Kind::Event],
-        keep: true,
+        keep_headers: true,
         ending: (0, ""),
         out: HEADED_SESSION,
         table: "error none 1\n",
@@ -265,7 +265,7 @@ const ROWS: &[Row] = &[
     Row {
         input: WITH_SESSION,
         kinds: &[Kind::Event],
-        keep: false,
+        keep_headers: false,
         ending: (0, ""),
         out: SESSION,
         table: "error none 1\n",
@@ -273,7 +273,7 @@ const ROWS: &[Row] = &[
     Row {
         input: "{}\n{\"type\":\"attachment\",\"length\":4}\nabc",
         kinds: &[Kind::Attachment],
-        keep: false,
+        keep_headers: false,
         ending: (2, "sentry_env: unexpected end of file"),
         out: "",
         table: "",
@@ -281,7 +281,7 @@ const ROWS: &[Row] = &[
     Row {
         input: "{",
         kinds: &[],
-        keep: false,
+        keep_headers: false,
         ending: (2, "sentry_env: invalid envelope header"),
         out: "",
         table: "",
@@ -294,7 +294,7 @@ fn runs_end_as_they_should(rt: HostRuntime) {
     for row in ROWS {
         let source = row.input.as_bytes();
         let (out, table) = (Full::endless(alloc), Full::endless(alloc));
-        let ran = run_on(alloc, source, row.kinds, row.keep, out, table);
+        let ran = run_on(alloc, source, row.kinds, row.keep_headers, out, table);
         let wrote = wrote(&ran, row.out.as_bytes(), row.table.as_bytes());
         let ended = ending(&ran.answer) == row.ending;
         assert!(rt; ended && wrote && ran.failures == (0, 0, 0));

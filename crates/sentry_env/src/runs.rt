@@ -30,7 +30,7 @@ pub fn run_on<R: Read, W: Write>(
     alloc: Global,
     source: R,
     kinds: &[Kind],
-    keep: bool,
+    keep_headers: bool,
     out: W,
     table: W,
 ) -> Ran<W>
@@ -46,7 +46,7 @@ where
         alloc,
         &mut reader,
         kinds,
-        keep,
+        keep_headers,
         moment_after(Duration::ZERO),
         &mut ids,
         &mut out,

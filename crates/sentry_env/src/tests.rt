@@ -36,7 +36,7 @@ fn words_name_kinds(rt: HostRuntime) {
 }
 
 // Whether these words are a call, and it asks for this.
-fn asks_for(call: &Option<Args>, keep: bool, path: Option<&str>, kinds: &[Kind]) -> bool {
+fn asks_for(call: &Option<Args>, keep_headers: bool, path: Option<&str>, kinds: &[Kind]) -> bool {
     let Some(args) = call else {
         return false;
     };
@@ -45,7 +45,7 @@ fn asks_for(call: &Option<Args>, keep: bool, path: Option<&str>, kinds: &[Kind])
         (None, None) => true,
         _ => false,
     };
-    args.keep == keep && same_path && args.kinds.as_slice() == kinds
+    args.keep_headers == keep_headers && same_path && args.kinds.as_slice() == kinds
 }
 
 // Words, and what a call of them asks for: whether the headers stay, the path and the kinds.
@@ -114,9 +114,9 @@ const CALLS: &[Call] = &[
 
 #[test]
 fn calls_are_read(rt: HostRuntime) -> Result<(), Fail> {
-    for (words, keep, path, kinds) in CALLS {
+    for (words, keep_headers, path, kinds) in CALLS {
         let call = read_args(rt.alloc(), words)?;
-        assert!(rt; asks_for(&call, *keep, *path, kinds), "{words:?}");
+        assert!(rt; asks_for(&call, *keep_headers, *path, kinds), "{words:?}");
     }
     Ok(())
 }

@@ -2,7 +2,7 @@
 use Rattle.std.proofs.Common.{◌≡◌, ◌+◌, ◌<◌, ℕ, suc, length, get_or, drop, drop-cons, add-one, List, [], ◌∷◌, ◌++◌, Option, Some, None, Result, Ok, Err, false, refl, sym, ap, ap₂, ◌∙◌, subst, append_assoc}
 use Rattle.std.specs.Prelude.{codes, map, OnOk}
 use Rattle.std.proofs.lemmas.Option.{same_Some}
-use Rattle.serde_json.specs.Data.{Data, number, unsigned, string, Members, no_members, member}
+use Rattle.serde_json.specs.Data.{Data, Members}
 use Rattle.serde_json.specs.Written.{compact_text, has_float}
 use Rattle.sentry_json.proofs.Sound.{sound_without_float}
 use Rattle.sentry_json.specs.Line.{newline}
@@ -34,7 +34,7 @@ use Rattle.sentry_envelope.specs.ItemText.{counted_header, value_text, AppendsVa
 use Rattle.sentry_envelope.specs.HeaderFields.{header_kind, fill_id}
 use Rattle.sentry_envelope.specs.Profile.{json_form, container_form, ItemType, Profile, TypesAreLawful}
 use Rattle.sentry_envelope.specs.SentryProfile.{form_of, gives_of, item_types, profile}
-use Rattle.sentry_envelope.specs.Envelope.{Item, item, raw, value, count, container_header, frame_text, frame_of_item, items_text, envelope_text, stored_content, plain_content, ContentDemand, ContentMeetsAt, ItemsMeet}
+use Rattle.sentry_envelope.specs.Envelope.{Item, item, raw, value, count, container_header, counting_header, frame_text, frame_of_item, items_text, envelope_text, stored_content, plain_content, ContentDemand, ContentMeetsAt, ItemsMeet}
 use Rattle.sentry_envelope.proofs.EnvelopeTypes.{IsAt, meets_at, frame_is, lawful_at}
 use Rattle.sentry_envelope.proofs.SentryProfile.{profile_lawful, type_at}
 
@@ -101,7 +101,7 @@ container_tree container = tree (payload_kind (container_type container)) (conta
 
 -- the header of a container that counts so many
 abbrev counted_by : ℕ → ItemContainer → Members
-counted_by n container = member (codes "content_type") (string (content_type container)) (member (codes "item_count") (number (unsigned n)) (member (codes "type") (string (kind_word (container_type container))) no_members))
+counted_by n container = counting_header (kind_word (container_type container)) (content_type container) n
 
 module _ {E : Type 0} (r : Result (Unit {0}) E) where
   abbrev Sends : List ℕ → List ℕ → EnvelopeItem → Type 0

@@ -125,12 +125,16 @@ payload_by (json_form K) (value c) = compact_text (tree K c)
 payload_by (container_form content_type K) (value c) = compact_text (tree (container_kind K) c)
 payload_by _ (value c) = []
 
--- the header of a container: keys in byte order
-abbrev pub container_header : List ℕ → List ℕ → Cell → Members
-container_header word content_type c =
+-- the header of a container of so many items: keys in byte order
+abbrev pub counting_header : List ℕ → List ℕ → ℕ → Members
+counting_header word content_type n =
     member (codes "content_type") (string content_type)
-    (member (codes "item_count") (number (unsigned (item_count c)))
+    (member (codes "item_count") (number (unsigned n))
     (member (codes "type") (string word) no_members))
+
+-- the header of a container
+abbrev pub container_header : List ℕ → List ℕ → Cell → Members
+container_header word content_type c = counting_header word content_type (item_count c)
 
 abbrev pub header_by : List ℕ → Form → Content → Members
 header_by word f (attached a) = attachment_header word a

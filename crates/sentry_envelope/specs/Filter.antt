@@ -7,7 +7,7 @@ use Rattle.sentry_tables.specs.Cell.{Cell, octets}
 use Rattle.sentry_items.specs.declared.item.EnvelopeItem.{EnvelopeItem}
 use Rattle.sentry_items.specs.declared.item.EnvelopeItem.TheVariants as item_variants
 use Rattle.sentry_envelope.specs.Envelope.{given_by}
-use Rattle.sentry_envelope.specs.EnvelopeView.{item_view, header_of}
+use Rattle.sentry_envelope.specs.EnvelopeView.{item_view, header_of, no_fields}
 use Rattle.sentry_envelope.specs.HeaderFields.{put_id}
 use Rattle.sentry_envelope.specs.SentryProfile.{item_types}
 use Rattle.sentry_envelope.specs.declared.envelope.Contents.{Contents}
@@ -113,6 +113,10 @@ asked_items envelope = asked_in envelope.contents
 abbrev pub structured_in : Contents → Option (List EnvelopeItem)
 structured_in (variants.Items items) = Some items.items
 structured_in (variants.Raw bytes) = None
+
+-- the header of what is left, but for its id: as it was, or without fields
+abbrev pub header_left : Bool → Cell → Cell
+header_left keep_headers header = if keep_headers then header else no_fields
 
 -- a structured envelope of these items, in order, with this header, but that its id is that of the first event or transaction among the items
 pub record IsMadeOf (header : Cell) (items : List EnvelopeItem) (envelope : Envelope) : Type 0 where

@@ -1,7 +1,7 @@
 //! Envelopes.
 use crate::error::EnvelopeWriteError;
 use crate::file::read_file;
-use crate::filtering::{first_event, first_id, gives_id};
+use crate::filtering::{first_event, first_id, id_of};
 use crate::headers::{EnvelopeHeaders, read_header_line};
 use crate::items::{EnvelopeItemIter, IntoItems};
 use crate::plain::items_are_plain;
@@ -92,10 +92,8 @@ impl Envelope {
         ensures memory { IfErr result (λ refused. refused ≡ AddRefused.Memory item) }
     {
         let mut envelope = Envelope::new(alloc);
-        match envelope.add_item(item) {
-            Ok(()) => Ok(envelope),
-            Err(refused) => Err(refused),
-        }
+        envelope.add_item(item)?;
+        Ok(envelope)
     }
 
     /// Creates a raw envelope, with bytes that are kept unread. The result is always `Ok`.
@@ -228,7 +226,7 @@ impl Envelope {
     {
         match &mut self.contents {
             Contents::Items(items) => {
-                let id = gives_id(&item);
+                let id = id_of(&item);
                 match items.push(item) {
                     Ok(()) => {
                         self.headers.fill(id);
@@ -323,7 +321,7 @@ impl Envelope {
 
     // Returns the text of the envelope: the header line and the items, or the bytes of a raw
     // envelope.
-    fn write_text(&self, alloc: Global) -> Result<Text<'_>, AllocError>
+    fn build_text(&self, alloc: Global) -> Result<Text<'_>, AllocError>
         ensures { IfOk result (λ text.
             PartsAreStoredAndPlain self.now → bytes_of text ≡ text_of self.now) }
     {
@@ -360,7 +358,7 @@ impl Envelope {
         if self.is_unwritable() {
             return Err(EnvelopeWriteError::NotPlain);
         }
-        let Ok(text) = self.write_text(alloc) else {
+        let Ok(text) = self.build_text(alloc) else {
             return Err(EnvelopeWriteError::Memory);
         };
         match text.len() {

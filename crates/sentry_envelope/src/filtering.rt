@@ -1,10 +1,10 @@
 //! Filtering of envelopes.
 
-ghost use Rattle.std.specs.Prelude.{◌≡◌, ◌≤◌, not, if◌then◌else◌, map, option_map, filter as filter_list, vec_len, vec_capacity, []};
+ghost use Rattle.std.specs.Prelude.{◌≡◌, ◌≤◌, not, map, option_map, filter as filter_list, vec_len, vec_capacity, []};
 ghost use Rattle.std.specs.List.{list_any};
-ghost use Rattle.sentry_envelope.specs.EnvelopeView.{first_event, no_fields};
+ghost use Rattle.sentry_envelope.specs.EnvelopeView.{first_event};
 ghost use Rattle.sentry_envelope.specs.HeaderFields.{headers_cell, put_id};
-ghost use Rattle.sentry_envelope.specs.Filter.{Asks, Run, Hand, Filters, is_main, is_orphan, id_of, first_id_of};
+ghost use Rattle.sentry_envelope.specs.Filter.{Asks, Run, Hand, Filters, header_left, is_main, is_orphan, id_of, first_id_of};
 
 use crate::envelope::{Contents, Envelope};
 use crate::filter::EnvelopeFilter;
@@ -15,9 +15,9 @@ use std::alloc::Global;
 use uuid::Uuid;
 
 impl Envelope {
-    ghost use Rattle.std.specs.Prelude.{◌≡◌, if◌then◌else◌, IfOk, IfErr};
+    ghost use Rattle.std.specs.Prelude.{◌≡◌, IfOk, IfErr};
     ghost use Rattle.sentry_envelope.specs.EnvelopeView.{header_of, no_fields};
-    ghost use Rattle.sentry_envelope.specs.Filter.{FiltersEnvelope};
+    ghost use Rattle.sentry_envelope.specs.Filter.{FiltersEnvelope, header_left};
 
     /// Removes the items that a filter rejects.
     ///
@@ -95,17 +95,22 @@ impl Envelope {
         self.filter_with(alloc, filter, true)
     }
 
-    // `keep` tells whether the headers other than the event id stay.
-    fn filter_with<F: EnvelopeFilter>(
+    /// Removes items as [`Envelope::filter_by`] does; `keep_headers` tells whether the headers
+    /// other than the event id stay, as by [`Envelope::filter_keep_headers`].
+    ///
+    /// # Errors
+    ///
+    /// The envelope, unchanged, if an allocation fails; the filter was not called.
+    pub fn filter_with<F: EnvelopeFilter>(
         self,
         alloc: Global,
         filter: &mut F,
-        keep: bool,
+        keep_headers: bool,
     ) -> Result<Option<Envelope>, Envelope>
         requires { F.can_filter filter.old }
         ensures filtered { IfOk result
-            (FiltersEnvelope
-            (if keep then header_of self else no_fields) F.ask F.hand self filter.old filter.new) }
+            (FiltersEnvelope (header_left keep_headers (header_of self))
+            F.ask F.hand self filter.old filter.new) }
         ensures refused { IfErr result (λ envelope. (envelope ≡ self) × (filter.new ≡ filter.old)) }
         ensures callable { F.can_filter filter.new }
     {
@@ -133,7 +138,7 @@ impl Envelope {
         if kept.is_empty() {
             return Ok(None);
         }
-        let headers = header_left(headers, keep, first_id(&kept));
+        let headers = header_left(headers, keep_headers, first_id(&kept));
         let contents = Contents::Items(kept);
         Ok(Some(Envelope { headers, contents }))
     }
@@ -216,12 +221,16 @@ fn has_main(items: &[EnvelopeItem]) -> bool
     items.iter().any(is_main)
 }
 
-// Replaces the event id; `keep` tells whether the other headers stay.
-fn header_left(headers: EnvelopeHeaders, keep: bool, event_id: Option<Uuid>) -> EnvelopeHeaders
+// Replaces the event id; `keep_headers` tells whether the other headers stay.
+fn header_left(
+    headers: EnvelopeHeaders,
+    keep_headers: bool,
+    event_id: Option<Uuid>,
+) -> EnvelopeHeaders
     ensures { headers_cell result ≡
-        put_id event_id (if keep then headers_cell headers else no_fields) }
+        put_id event_id (header_left keep_headers (headers_cell headers)) }
 {
-    if keep {
+    if keep_headers {
         headers.with_id(event_id)
     } else {
         EnvelopeHeaders::new().with_id(event_id)
@@ -233,7 +242,7 @@ pub(crate) fn first_id(items: &[EnvelopeItem]) -> Option<Uuid>
     ensures { result ≡ first_id_of items.now }
 {
     for item in items {
-        if let Some(id) = gives_id(item) {
+        if let Some(id) = id_of(item) {
             return Some(id);
         }
     }
@@ -255,12 +264,12 @@ pub(crate) fn first_event(items: &[EnvelopeItem]) -> Option<&Event<'static>>
 fn is_main(item: &EnvelopeItem) -> bool
     ensures { result ≡ is_main item.now }
 {
-    gives_id(item).is_some()
+    id_of(item).is_some()
 }
 
 // The id that an event or a transaction gives its envelope.
 #[tactic(auto, unfolding(crate::specs::Filter::id_of, sentry_event::specs::Events::event_fields, sentry_event::specs::Transactions::transaction_fields))]
-pub(crate) fn gives_id(item: &EnvelopeItem) -> Option<Uuid>
+pub(crate) fn id_of(item: &EnvelopeItem) -> Option<Uuid>
     ensures { result ≡ id_of item.now }
 {
     match item {

@@ -4,8 +4,6 @@ ghost use Rattle.std.specs.Prelude.{◌≡◌, IfOk, map};
 ghost use Rattle.sentry_envelope.specs.EnvelopeMade.{stands, items_made, header_made};
 ghost use Rattle.sentry_envelope.specs.EnvelopeView.{item_view};
 ghost use Rattle.sentry_envelope.specs.HeaderFields.{headers_cell};
-ghost use Rattle.sentry_items.specs.Made.{item_made};
-ghost use Rattle.sentry_items.specs.View.{item_held};
 
 use crate::envelope::{Contents, Envelope};
 use crate::filtering::first_id;
@@ -110,20 +108,10 @@ fn remake_items(
     let mut made = Vec::with_capacity(alloc, items.len())?;
     for item in items {
         if stands(item, way) {
-            made.push(remake_item(item, way)?)?;
+            made.push(item.remake(way)?)?;
         }
     }
     Ok(made)
-}
-
-#[tactic(auto, unfolding(sentry_items::specs::Made::item_made))]
-fn remake_item(item: &EnvelopeItem, way: Way) -> Result<EnvelopeItem, AllocError>
-    ensures { IfOk result (λ made. item_held made ≡ item_made way (item_held item.now)) }
-{
-    match way {
-        Way::Same => item.clone(),
-        Way::Normal(alloc) => item.normalized(alloc),
-    }
 }
 
 // A normal form has no `Raw`, which is never written.

@@ -116,9 +116,9 @@ impl EnvelopeItem {
         }
     }
 
-    // Copies the item, or makes its normal form.
+    /// Clones the item, or makes its normal form, by `way`. `AllocError` if an allocation fails.
     #[tactic(auto, using(crate::proofs::Made::value_made, crate::proofs::Made::attachment_made, crate::proofs::Made::recording_made, crate::proofs::Made::raw_made))]
-    fn remake(&self, way: Way) -> Result<EnvelopeItem, AllocError>
+    pub fn remake(&self, way: Way) -> Result<EnvelopeItem, AllocError>
         ensures { IfOk result (λ item. item_held item ≡ item_made way (item_held self.now)) }
     {
         Ok(match self {

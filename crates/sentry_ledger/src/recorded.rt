@@ -79,6 +79,8 @@ impl<F: EnvelopeFilter> EnvelopeFilter for RecordingFilter<F> {
 /// Returns what is left of the envelope, and the number of losses that the ledger refused because a
 /// quantity would exceed 2^64-1; that number is capped at 2^64-1. A refused loss is not recorded.
 ///
+/// The filter is dropped afterwards, also if an allocation fails.
+///
 /// # Errors
 ///
 /// The envelope, unchanged, if an allocation fails; the filter was not called, and the ledger is

@@ -10,13 +10,13 @@ pub returns-in_err-envelope : goal.returns-in_err-envelope
 returns-in_err-envelope g c =
     let exit = err_from_is_err_and c.from_residual-in_err-envelope.result c.from_residual-in_err-envelope.ensures.1 in
     rw (exit.1, exit.2)
-    (refused (settings c.args.kinds.now c.args.keep (moment_cell c.args.now))
+    (refused (settings c.args.kinds.now c.args.keep_headers (moment_cell c.args.now))
     (streams g.R.Read.remaining g.W.Write.contents g.T.Write.contents c.args.reader.now c.args.out.now c.args.table.now) _ c.in_ok-bytes.ensures.all c.deref.ensures.value c.in_err-envelope.ensures.fault)
 
 pub returns-in_err-write_left : goal.returns-in_err-write_left
 returns-in_err-write_left g c =
     let exit = err_from_is_err_and c.from_residual-in_err-write_left.result c.from_residual-in_err-write_left.ensures.1 in
-    let set = settings c.args.kinds.now c.args.keep (moment_cell c.args.now) in
+    let set = settings c.args.kinds.now c.args.keep_headers (moment_cell c.args.now) in
     let due = left_due c.in_ok-rewritten.rewritten.left _ in
     let reads = reads_due set due c.in_ok-envelope.envelope c.in_ok-bytes.ensures.all c.deref.ensures.value c.in_ok-envelope.ensures.spelled c.in_ok-rewritten.ensures.due in
     rw (exit.1, exit.2)
