@@ -10,6 +10,6 @@ returns c =
     let now = c.args.now in
     let at = c.new-report.ensures.timestamp in
     IfOk-weaker c.text_of.result _ _ (λ text is.
-      report_text_is (held_in c.args.ledger.now) now.secs now.nanos c.new-report.result c.in-Ok.envelope text.items c.in-Ok.ensures.ok
-      (ap (λ (m : Moment). m.secs) at) (ap (λ (m : Moment). m.nanos) at) (c.new-report.ensures.items ∙ c.in_ok-report_items.ensures.items) is)
+    report_text_is (held_in c.args.ledger.now) now.secs now.nanos c.new-report.result c.in-Ok.envelope text.items c.in-Ok.ensures.ok
+    (ap (λ (m : Moment). m.secs) at) (ap (λ (m : Moment). m.nanos) at) (c.new-report.ensures.items ∙ c.in_ok-report_items.ensures.items) is)
     c.text_of.ensures
