@@ -61,7 +61,10 @@ fn normal_form(
     ensures fault { IfErr result (λ x. x ≢ EnvelopeError.OutOfMemory → Fault profile bytes.now x) }
 {
     let envelope = read(alloc, bytes, now, seed)?;
-    Ok(text_of(alloc, &envelope)?)
+    match text_of(alloc, &envelope) {
+        Ok(text) => Ok(text),
+        Err(_) => Err(EnvelopeError::OutOfMemory),
+    }
 }
 
 /// Parses an envelope and writes its normal form to `out`.
@@ -193,7 +196,10 @@ fn text_left(
     let Some(left) = read_left(alloc, bytes, now, seed, keep_headers, filter)? else {
         return Ok(None);
     };
-    Ok(Some(text_of(alloc, &left)?))
+    match text_of(alloc, &left) {
+        Ok(text) => Ok(Some(text)),
+        Err(_) => Err(EnvelopeError::OutOfMemory),
+    }
 }
 
 /// Parses an envelope, removes items by their type, and writes what is left to `out`.

@@ -132,7 +132,8 @@ fn report_text(alloc: Global, ledger: &[u64], now: Moment) -> Result<Vec<u8>, Al
     let Ok(envelope) = Envelope::from_item(alloc, EnvelopeItem::ClientReport(report)) else {
         return Err(AllocError);
     };
-    text_of(alloc, &envelope)
+    let text = text_of(alloc, &envelope)?;
+    Ok(text)
 }
 
 /// Moves all losses of a ledger into a client report, in an envelope that is written to `out`.

@@ -92,8 +92,10 @@ impl Envelope {
         ensures memory { IfErr result (λ refused. refused ≡ AddRefused.Memory item) }
     {
         let mut envelope = Envelope::new(alloc);
-        envelope.add_item(item)?;
-        Ok(envelope)
+        match envelope.add_item(item) {
+            Ok(()) => Ok(envelope),
+            Err(refused) => Err(refused),
+        }
     }
 
     /// Creates a raw envelope, with bytes that are kept unread. The result is always `Ok`.

@@ -1,5 +1,5 @@
 use Rattle.sentry_envelope.specs.EnvelopeView.{empty}
 use Rattle.sentry_envelope.proofs.envelope.Envelope.from_item.Goals as goal
 
-pub returns-clause-ok : goal.returns-clause-ok
-returns-clause-ok c = c.in_ok-add_item.ensures.added empty c.new-envelope.ensures
+pub returns-in-Ok-clause-ok : goal.returns-in-Ok-clause-ok
+returns-in-Ok-clause-ok c = c.in-Ok.ensures.added empty c.new-envelope.ensures
