@@ -18,9 +18,7 @@ ghost use Rattle.sentry_c.specs.Statuses.{refusal_status};
 
 use crate::filter::{KindFilter, are_kinds};
 use crate::output::deliver;
-use crate::status::{
-    INVALID_ARGUMENT, NO_MOMENT, NO_ROOM, NOTHING_LEFT, OK, status_of_envelope_error,
-};
+use crate::status::{INVALID_ARGUMENT, NO_MOMENT, NO_ROOM, NOTHING_LEFT, OK, of_refusal};
 use rand_core::SeedableRng;
 use rand_pcg::Pcg32;
 use sentry_ledger::loss_sums::SUMS;
@@ -106,7 +104,7 @@ pub extern "C" fn sentry_envelope_normalize(
     match normal_form(alloc, bytes, now, seed) {
         Ok(text) if deliver(&text, out, needed) => OK,
         Ok(_) => NO_ROOM,
-        Err(error) => status_of_envelope_error(&error),
+        Err(error) => of_refusal(&error),
     }
 }
 
@@ -148,7 +146,7 @@ pub extern "C" fn sentry_envelope_check(
     };
     match checked(alloc, bytes, now, seed) {
         Ok(()) => OK,
-        Err(error) => status_of_envelope_error(&error),
+        Err(error) => of_refusal(&error),
     }
 }
 
@@ -265,7 +263,7 @@ pub extern "C" fn sentry_envelope_filter(
     let mut filter = KindFilter::new(kinds, keep);
     let left = match text_left(alloc, bytes, now, seed, keep_headers, &mut filter) {
         Ok(left) => left,
-        Err(error) => return status_of_envelope_error(&error),
+        Err(error) => return of_refusal(&error),
     };
     losses.copy_from_slice(filter.sums());
     match left {
