@@ -22,8 +22,8 @@ use sentry_moments::Moment;
 use sentry_tables::LineReader;
 use std::alloc::{AllocError, Global};
 
-pub(crate) fn read_items<'a, R: Rng>(
-    lines: &mut LineReader<'a>,
+pub(crate) fn read_items<'l, 'a: 'l, R: Rng>(
+    lines: &mut LineReader<'l>,
     frames: &mut Frames<'a>,
     now: Moment,
     ids: &mut R,
@@ -37,7 +37,7 @@ pub(crate) fn read_items<'a, R: Rng>(
     let mut items = Vec::with_capacity(lines.alloc(), 1)?;
     let mut header = ItemHeader::new();
     while let Some(answer) = next_item_into(frames, lines, &mut header) {
-        let frame = answer?;
+        let frame: ItemFrame<'l> = answer?;
         add_item(lines, &frame, &mut header, now, ids, &mut items)?;
     }
     Ok(items)
