@@ -72,7 +72,7 @@ fn normal_form(
 /// - `OK` if the text was written; `needed` is its length.
 /// - `NO_ROOM` if the text is longer than `out`; `needed` is its length.
 /// - `NO_MOMENT` if the seconds and nanoseconds are no moment.
-/// - The status of the error of `Envelope::from_slice` ([`status_of_envelope_error`]) if the bytes
+/// - The status of the error of `Envelope::from_slice` if the bytes
 ///   are refused; `OUT_OF_MEMORY`, which is one of them, if an allocation fails.
 #[unsafe(no_mangle)]
 pub extern "C" fn sentry_envelope_normalize(
@@ -123,7 +123,7 @@ fn checked(alloc: Global, bytes: &[u8], now: Moment, seed: u64) -> Result<(), En
 ///
 /// - `OK` if the bytes are an envelope.
 /// - `NO_MOMENT` if the seconds and nanoseconds are no moment.
-/// - The status of the error of `Envelope::from_slice` ([`status_of_envelope_error`]) if the bytes
+/// - The status of the error of `Envelope::from_slice` if the bytes
 ///   are refused; `OUT_OF_MEMORY`, which is one of them, if an allocation fails.
 #[unsafe(no_mangle)]
 pub extern "C" fn sentry_envelope_check(
@@ -214,7 +214,7 @@ fn text_left(
 /// - `INVALID_ARGUMENT` if `losses` has another length than [`SUMS`], or `kinds` a bit that is no
 ///   item type's.
 /// - `NO_MOMENT` if the seconds and nanoseconds are no moment.
-/// - The status of the error of `Envelope::from_slice` ([`status_of_envelope_error`]) if the bytes
+/// - The status of the error of `Envelope::from_slice` if the bytes
 ///   are refused; `OUT_OF_MEMORY`, which is one of them, if an allocation fails.
 #[unsafe(no_mangle)]
 pub extern "C" fn sentry_envelope_filter(

@@ -103,7 +103,7 @@ fn placed(bytes: &[u8], body: &[u8], item: &ItemFrame<'_>, kind: ItemKind) -> Se
 /// - `NOTHING_LEFT` after the last item.
 /// - `INVALID_ARGUMENT` if `offset` isn't 0, isn't the number of bytes, and isn't directly behind a
 ///   line feed.
-/// - The status of the error of `Frames::next_item` ([`status_of_envelope_error`]) if the item is
+/// - The status of the error of `Frames::next_item` if the item is
 ///   refused; `OUT_OF_MEMORY`, which is one of them, if an allocation fails.
 #[unsafe(no_mangle)]
 pub extern "C" fn sentry_frames_next(

@@ -58,7 +58,7 @@ fn place_in(ledger: &[u64], category: u32, reason: u32) -> Option<usize>
 ///
 /// - `OK` if the loss was added.
 /// - `LEDGER_FULL` if the sum would exceed 2^64-1.
-/// - `INVALID_ARGUMENT` if the ledger has another length than [`SUMS`], or no category or no reason
+/// - `INVALID_ARGUMENT` if the ledger has another length than [`PAIRS`], or no category or no reason
 ///   has the number.
 #[unsafe(no_mangle)]
 pub extern "C" fn sentry_ledger_record(
@@ -97,7 +97,7 @@ pub extern "C" fn sentry_ledger_record(
 /// # Returns
 ///
 /// - `OK` if `quantity` was set.
-/// - `INVALID_ARGUMENT` if the ledger has another length than [`SUMS`], or no category or no reason
+/// - `INVALID_ARGUMENT` if the ledger has another length than [`PAIRS`], or no category or no reason
 ///   has the number.
 #[unsafe(no_mangle)]
 pub extern "C" fn sentry_ledger_held(
@@ -144,7 +144,7 @@ fn report_text(alloc: Global, ledger: &[u64], now: Moment) -> Result<Vec<u8>, Al
 /// - `NO_ROOM` if the text is longer than `out`; `needed` is its length.
 /// - `NOTHING_LEFT` if the ledger holds no loss.
 /// - `NO_MOMENT` if the seconds and nanoseconds are no moment.
-/// - `INVALID_ARGUMENT` if the ledger has another length than [`SUMS`].
+/// - `INVALID_ARGUMENT` if the ledger has another length than [`PAIRS`].
 /// - `OUT_OF_MEMORY` if an allocation fails.
 #[unsafe(no_mangle)]
 pub extern "C" fn sentry_ledger_flush(

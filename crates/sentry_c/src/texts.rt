@@ -160,7 +160,7 @@ fn parts_of_dsn(dsn: &Dsn, total: usize) -> SentryDsn
 /// - `OK` if the text was written; `needed` is its length, and `parts` is set.
 /// - `NO_ROOM` if the text is longer than `out`; `needed` is its length.
 /// - `NOT_UTF8` if the bytes aren't UTF-8.
-/// - The status of the error of `Dsn::from_str` ([`status_of_dsn_error`]) if the text is refused;
+/// - The status of the error of `Dsn::from_str` if the text is refused;
 ///   `OUT_OF_MEMORY`, which is one of them, if an allocation fails.
 #[unsafe(no_mangle)]
 pub extern "C" fn sentry_dsn_parse(
@@ -275,7 +275,7 @@ fn parts_of_auth(auth: &Auth, total: usize) -> SentryAuth
 /// - `OK` if the text was written; `needed` is its length, and `parts` is set.
 /// - `NO_ROOM` if the text is longer than `out`; `needed` is its length.
 /// - `NOT_UTF8` if the bytes aren't UTF-8.
-/// - The status of the error of `Auth::from_str` ([`status_of_auth_error`]) if the text is refused;
+/// - The status of the error of `Auth::from_str` if the text is refused;
 ///   `OUT_OF_MEMORY`, which is one of them, if an allocation fails.
 #[unsafe(no_mangle)]
 pub extern "C" fn sentry_auth_parse(
