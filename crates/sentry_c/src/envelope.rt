@@ -18,7 +18,9 @@ ghost use Rattle.sentry_c.specs.Statuses.{refusal_status};
 
 use crate::filter::{KindFilter, are_kinds};
 use crate::output::deliver;
-use crate::status::{INVALID_ARGUMENT, NO_MOMENT, NO_ROOM, NOTHING_LEFT, OK, of_refusal};
+use crate::status::{
+    INVALID_ARGUMENT, NO_MOMENT, NO_ROOM, NOTHING_LEFT, OK, status_of_envelope_error,
+};
 use rand_core::SeedableRng;
 use rand_pcg::Pcg32;
 use sentry_ledger::loss_sums::SUMS;
@@ -59,10 +61,7 @@ fn normal_form(
     ensures fault { IfErr result (λ x. x ≢ EnvelopeError.OutOfMemory → Fault profile bytes.now x) }
 {
     let envelope = read(alloc, bytes, now, seed)?;
-    match text_of(alloc, &envelope) {
-        Ok(text) => Ok(text),
-        Err(_) => Err(EnvelopeError::OutOfMemory),
-    }
+    Ok(text_of(alloc, &envelope)?)
 }
 
 /// Parses an envelope and writes its normal form to `out`.
@@ -104,7 +103,7 @@ pub extern "C" fn sentry_envelope_normalize(
     match normal_form(alloc, bytes, now, seed) {
         Ok(text) if deliver(&text, out, needed) => OK,
         Ok(_) => NO_ROOM,
-        Err(error) => of_refusal(&error),
+        Err(error) => status_of_envelope_error(&error),
     }
 }
 
@@ -146,7 +145,7 @@ pub extern "C" fn sentry_envelope_check(
     };
     match checked(alloc, bytes, now, seed) {
         Ok(()) => OK,
-        Err(error) => of_refusal(&error),
+        Err(error) => status_of_envelope_error(&error),
     }
 }
 
@@ -194,10 +193,7 @@ fn text_left(
     let Some(left) = read_left(alloc, bytes, now, seed, keep_headers, filter)? else {
         return Ok(None);
     };
-    match text_of(alloc, &left) {
-        Ok(text) => Ok(Some(text)),
-        Err(_) => Err(EnvelopeError::OutOfMemory),
-    }
+    Ok(Some(text_of(alloc, &left)?))
 }
 
 /// Parses an envelope, removes items by their type, and writes what is left to `out`.
@@ -263,7 +259,7 @@ pub extern "C" fn sentry_envelope_filter(
     let mut filter = KindFilter::new(kinds, keep);
     let left = match text_left(alloc, bytes, now, seed, keep_headers, &mut filter) {
         Ok(left) => left,
-        Err(error) => return of_refusal(&error),
+        Err(error) => return status_of_envelope_error(&error),
     };
     losses.copy_from_slice(filter.sums());
     match left {

@@ -11,7 +11,7 @@ ghost use Rattle.sentry_c.specs.Frames.{BodyFrom, FindsFrame, IsPlaced, MayBegin
 ghost use Rattle.sentry_c.specs.Places.{EndsWith};
 ghost use Rattle.sentry_c.specs.Statuses.{refusal_status};
 
-use crate::status::{INVALID_ARGUMENT, NOTHING_LEFT, OK, of_refusal};
+use crate::status::{INVALID_ARGUMENT, NOTHING_LEFT, OK, status_of_envelope_error};
 use sentry_framing::lines::skip_space;
 use sentry_types::protocol::v7::{Frames, ItemFrame, ItemKind};
 use std::alloc::Global;
@@ -134,7 +134,7 @@ pub extern "C" fn sentry_frames_next(
             *offset = (bytes.len() - frames.rest().len()) as u64;
             OK
         }
-        Some(Err(error)) => of_refusal(&error),
+        Some(Err(error)) => status_of_envelope_error(&error),
         None => NOTHING_LEFT,
     }
 }

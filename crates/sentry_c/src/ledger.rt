@@ -132,8 +132,7 @@ fn report_text(alloc: Global, ledger: &[u64], now: Moment) -> Result<Vec<u8>, Al
     let Ok(envelope) = Envelope::from_item(alloc, EnvelopeItem::ClientReport(report)) else {
         return Err(AllocError);
     };
-    let text = text_of(alloc, &envelope)?;
-    Ok(text)
+    text_of(alloc, &envelope)
 }
 
 /// Moves all losses of a ledger into a client report, in an envelope that is written to `out`.

@@ -27,7 +27,7 @@ pub const LEDGER_FULL: i32 = 7;
 pub const OUT_OF_MEMORY: i32 = 17;
 
 /// Returns the status of a refused envelope: ten and the place of the error among its variants.
-pub fn of_refusal(error: &EnvelopeError) -> i32
+pub fn status_of_envelope_error(error: &EnvelopeError) -> i32
     ensures status { result ≡ refusal_status error.now }
     ensures only { (x : Refusal) → result ≡ refusal_status x → x ≡ error.now }
     ensures not_ok { result ≢ OK }
@@ -49,7 +49,7 @@ pub fn of_refusal(error: &EnvelopeError) -> i32
 }
 
 /// Returns the status of a refused DSN.
-pub fn of_dsn_error(error: &ParseDsnError) -> i32
+pub fn status_of_dsn_error(error: &ParseDsnError) -> i32
     ensures status { result ≡ dsn_status error.now }
     ensures not_ok { result ≢ OK }
     ensures not_room { result ≢ NO_ROOM }
@@ -66,8 +66,8 @@ pub fn of_dsn_error(error: &ParseDsnError) -> i32
 }
 
 /// Returns the status of refused client authentication.
-pub fn of_auth_error(error: ParseAuthError) -> i32
-    ensures status { result ≡ auth_status error }
+pub fn status_of_auth_error(error: &ParseAuthError) -> i32
+    ensures status { result ≡ auth_status error.now }
     ensures not_ok { result ≢ OK }
     ensures not_room { result ≢ NO_ROOM }
     ensures not_utf8 { result ≢ NOT_UTF8 }

@@ -15,7 +15,8 @@ ghost use Rattle.sentry_c.specs.Texts.{IsAuthAt, IsAuthPrinted, IsDsnAt, IsDsnPr
 
 use crate::output::deliver;
 use crate::status::{
-    INVALID_TEXT, NO_MOMENT, NO_ROOM, NOT_UTF8, OK, OUT_OF_MEMORY, of_auth_error, of_dsn_error,
+    INVALID_TEXT, NO_MOMENT, NO_ROOM, NOT_UTF8, OK, OUT_OF_MEMORY, status_of_auth_error,
+    status_of_dsn_error,
 };
 use sentry_types::protocol::v7::{Moment, validate};
 use sentry_types::{Auth, Dsn, Scheme};
@@ -186,7 +187,7 @@ pub extern "C" fn sentry_dsn_parse(
     };
     let dsn = match Dsn::from_str(alloc, text) {
         Ok(dsn) => dsn,
-        Err(error) => return of_dsn_error(&error),
+        Err(error) => return status_of_dsn_error(&error),
     };
     let Ok(printed) = dsn.to_string(alloc) else {
         return OUT_OF_MEMORY;
@@ -301,7 +302,7 @@ pub extern "C" fn sentry_auth_parse(
     };
     let auth = match Auth::from_str(alloc, text) {
         Ok(auth) => auth,
-        Err(error) => return of_auth_error(error),
+        Err(error) => return status_of_auth_error(&error),
     };
     let Ok(printed) = auth.to_string(alloc) else {
         return OUT_OF_MEMORY;

@@ -11,8 +11,7 @@ use crate::made::{of_custom, of_new, of_other_unit, of_parts};
 use crate::numbers::of_numbers;
 use crate::said::{text, unknown};
 use crate::texts::of_text;
-use sentry_tables::read_tree;
-use sentry_types::protocol::v7::Value;
+use sentry_types::protocol::v7::{Value, read_tree};
 use sentry_types::{Auth, Dsn};
 use std::alloc::{AllocError, Global};
 

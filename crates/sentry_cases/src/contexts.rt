@@ -2,10 +2,9 @@
 
 use crate::form::{by_tree, by_tree_at, cloned, cloned_at, form_at};
 use crate::said::{list, refused, text};
-use sentry_rows::AsCaseMap;
 use sentry_types::protocol::v7::{
-    AppContext, BrowserContext, Context, DeviceContext, GpuContext, Map, Member, OsContext,
-    OtelContext, ResponseContext, RuntimeContext, TraceContext, TreeError, Value,
+    AppContext, AsCaseMap, BrowserContext, Context, DeviceContext, GpuContext, Map, Member,
+    OsContext, OtelContext, ResponseContext, RuntimeContext, TraceContext, TreeError, Value,
 };
 use std::alloc::{AllocError, Global};
 

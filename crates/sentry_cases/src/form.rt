@@ -4,11 +4,10 @@ use crate::said::{debug, list, refused, text};
 use bumpalo::Bump;
 use rand_pcg::Pcg32;
 use sentry_json::Tape;
-use sentry_tables::read_tree;
 use sentry_types::protocol::v7::value::Writer;
 use sentry_types::protocol::v7::{
     Codec, FromTree, FromTreeAt, Member, Moment, Node, Own, ReadCodec, ReadCodecAt, TreeError,
-    TreeMember, Value, Values, Way, read_line, read_line_at,
+    TreeMember, Value, Values, Way, read_line, read_line_at, read_tree,
 };
 use std::alloc::{AllocError, Global};
 use std::fmt::Debug;

@@ -4,12 +4,11 @@ use crate::asked::taken;
 use crate::envelopes::{read, said_loss};
 use crate::filters::{ByKinds, said_left};
 use crate::said::{as_tree, list, text};
-use sentry_tables::Word;
 use sentry_types::IndexedEnum;
 use sentry_types::protocol::v7::client_report::{
     Category, ItemLoss, Ledger, Reason, Step, StepAnswer, filter_recorded, run_steps,
 };
-use sentry_types::protocol::v7::{Envelope, Member, Moment, Value};
+use sentry_types::protocol::v7::{Envelope, Member, Moment, Value, Word};
 use std::alloc::{AllocError, Global};
 
 // `flush SECONDS`, or `add CATEGORY QUANTITY REASON`, after which the loss's own reason may stand.

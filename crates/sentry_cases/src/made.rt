@@ -6,12 +6,11 @@ use crate::envelopes::said_losses;
 use crate::events::{said_event, said_fields};
 use crate::form::{ids, now, written};
 use crate::said::{as_tree, debug, list, refused, shown, text, tree, unknown};
-use sentry_tables::text_of;
 use sentry_types::IndexedEnum;
 use sentry_types::protocol::v7::{
     Attachment, AttachmentType, Breadcrumb, Category, Context, Event, FromTree, GpuContext, Item,
     Log, LogAttribute, LogLevel, Map, Member, Metric, Moment, OsContext, Own, Reason, Report, Span,
-    SpanId, TraceContext, TraceId, Transaction, TreeError, Unit, User, Value,
+    SpanId, TraceContext, TraceId, Transaction, TreeError, Unit, User, Value, text_of,
 };
 use std::alloc::{AllocError, Global};
 use std::borrow::CowStr;

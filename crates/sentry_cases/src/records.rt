@@ -2,11 +2,10 @@
 //! lines of JSON show.
 
 use crate::form::{answered_by, cloned, cloned_at, own};
-use sentry_tables::read_tree;
 use sentry_types::protocol::v7::{
     DynamicSamplingContext, Item, Log, LogAttribute, Metric, MonitorCheckIn, MonitorConfig,
     MonitorSchedule, Report, SessionAggregateItem, SessionAggregates, SessionAttributes,
-    SessionUpdate, UserReport, Value,
+    SessionUpdate, UserReport, Value, read_tree,
 };
 use std::alloc::{AllocError, Global};
 

@@ -18,7 +18,7 @@ pub struct Args {
     /// Item types to remove.
     pub kinds: Vec<Kind>,
     /// Whether the envelope header is kept when items are removed.
-    pub keep_headers: bool,
+    pub keep: bool,
 }
 
 // Splits off a leading `-k`.
@@ -82,7 +82,7 @@ fn read_kinds(alloc: Global, words: &[&str]) -> Result<Option<Vec<Kind>>, AllocE
 /// `AllocError` if an allocation fails.
 pub fn read_args(alloc: Global, words: &[&str]) -> Result<Option<Args>, AllocError>
     ensures call { IfOk result (λ answer. IfSome answer (λ args.
-        IsCall (map (λ word. word.now) words.now) args.keep_headers
+        IsCall (map (λ word. word.now) words.now) args.keep
         (option_map string_bytes args.path) args.kinds.items)) }
     ensures no_call { result ≡ Ok None →
         (keep_headers : Bool) (path : Option (List ℕ)) (kinds : List Kind)
@@ -102,7 +102,7 @@ pub fn read_args(alloc: Global, words: &[&str]) -> Result<Option<Args>, AllocErr
     Ok(Some(Args {
         path,
         kinds,
-        keep_headers,
+        keep: keep_headers,
     }))
 }
 

@@ -8,8 +8,8 @@ use sentry_items::counted::SendFailed;
 use sentry_types::protocol::v7::EnvelopeError;
 use std::alloc::AllocError;
 
-// The message for a usage error.
-const USAGE: &str = "usage: sentry_env [-k] [-f PATH] KIND..";
+/// The message for a usage error.
+pub const USAGE: &str = "usage: sentry_env [-k] [-f PATH] KIND..";
 
 /// How a run succeeded.
 #[derive(Clone, Copy, Debug, PartialEq, Eq)]

@@ -62,7 +62,7 @@ where
         rt.alloc(),
         &mut reader,
         &args.kinds,
-        args.keep_headers,
+        args.keep,
         moment_after(time),
         &mut ids,
         &mut out,

@@ -45,7 +45,7 @@ fn asks_for(call: &Option<Args>, keep_headers: bool, path: Option<&str>, kinds: 
         (None, None) => true,
         _ => false,
     };
-    args.keep_headers == keep_headers && same_path && args.kinds.as_slice() == kinds
+    args.keep == keep_headers && same_path && args.kinds.as_slice() == kinds
 }
 
 // Words, and what a call of them asks for: whether the headers stay, the path and the kinds.

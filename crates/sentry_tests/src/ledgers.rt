@@ -9,13 +9,12 @@ ghost use Rattle.sentry_ledger.specs.Held.{quantity_held};
 use crate::envelopes::memory::read_at_last;
 use crate::envelopes::read;
 use crate::wanted::{told, wanted};
-use sentry_tables::text_of;
 use sentry_types::IndexedEnum;
 use sentry_types::protocol::v7::client_report::{
     Category, ItemLoss, Ledger, LedgerFull, Reason, Report, Step, StepAnswer, filter_recorded,
     run_steps,
 };
-use sentry_types::protocol::v7::{Envelope, EnvelopeItem, Moment};
+use sentry_types::protocol::v7::{Envelope, EnvelopeItem, Moment, text_of};
 use std::alloc::{AllocError, Global};
 use std::test::Fail;
 

@@ -49,13 +49,15 @@ pub use sentry_words::{
 pub use url::Url;
 pub use uuid::Uuid;
 
-// Types as trees of JSON: the traits of their calls, and the forms of those that have several.
+// Types as trees of JSON: the traits of their calls, and the forms that types have.
 pub use sentry_identifiers::{Hyphenated, Simple};
 pub use sentry_json::{Named, Node};
 pub use sentry_moments::{Rfc3339, Seconds};
-pub use sentry_rows::{FromTreeAt, ReadCodecAt};
+pub use sentry_rows::values::AsValues;
+pub use sentry_rows::{AsCase, AsCaseMap, AsKept, AsTable, FromTreeAt, ReadCodecAt};
 pub use sentry_tables::{
-    Codec, Drawn, Formed, FromTree, Member, Own, ReadCodec, TreeError, Way, read_line, whole,
+    AsBoxed, AsText, AsWord, Codec, Drawn, Formed, FromTree, Member, Own, ReadCodec, TreeError, Way,
+    Word, read_line, read_tree, text_of, whole,
 };
 pub use sentry_text::{IpText, OrganizationText, UrlText};
 pub use sentry_words::Sampled;
