@@ -3,9 +3,12 @@
 use crate::asked::{is_copy, said_of, taken};
 use crate::envelopes::{read, said_envelope};
 use crate::filters::word_of;
+use crate::form::{ids, now};
 use crate::said::{as_tree, list, maybe_shown, text};
+use sentry_types::Uuid;
 use sentry_types::protocol::v7::{
-    AddRefused, Attachment, Envelope, EnvelopeError, EnvelopeItem, EnvelopeItemIter, Log, Metric,
+    AddRefused, Attachment, Envelope, EnvelopeError, EnvelopeItem, EnvelopeItemIter, Event, Log,
+    Metric, Moment, MonitorCheckIn, MonitorCheckInStatus, MonitorConfig, MonitorSchedule,
     ReplayRecording, Value,
 };
 use std::alloc::{AllocError, Global};
@@ -20,17 +23,81 @@ pub fn begun(alloc: Global, word: &str, bytes: &[u8]) -> Result<Envelope, Envelo
     }
 }
 
-// An attachment of these bytes.
-fn attachment(alloc: Global, buffer: Vec<u8>) -> EnvelopeItem {
+// An attachment of these bytes and this name.
+fn attachment(alloc: Global, buffer: &[u8], filename: &str) -> Result<EnvelopeItem, AllocError> {
+    let buffer = buffer.to_vec(alloc)?;
+    let filename = String::from_str(alloc, filename)?;
     let mut attachment = Attachment::default_in(alloc);
     attachment.buffer = buffer;
-    EnvelopeItem::from(attachment)
+    attachment.filename = filename;
+    Ok(EnvelopeItem::from(attachment))
 }
 
-// An item of this type, or else a placeholder.
+// The id of the events and check-ins that are made here.
+fn id() -> Uuid {
+    Uuid::from_u128(0x22d00b3f_d1b1_4b5d_8d20_49d138cd8a9c)
+}
+
+// A schedule of a crontab expression.
+fn schedule(alloc: Global) -> Result<MonitorSchedule, AllocError> {
+    MonitorSchedule::from_crontab(alloc, "12 0 * * *")
+        .ok()
+        .ok_or(AllocError)
+}
+
+// A monitor with each of its fields.
+fn monitor(alloc: Global) -> Result<MonitorConfig, AllocError> {
+    let timezone = String::from_str(alloc, "UTC")?;
+    Ok(MonitorConfig {
+        schedule: schedule(alloc)?,
+        checkin_margin: Some(5),
+        max_runtime: Some(30),
+        timezone: Some(timezone),
+        failure_issue_threshold: Some(4),
+        recovery_threshold: Some(7),
+    })
+}
+
+// A check-in with each of its fields.
+fn check_in(alloc: Global) -> Result<MonitorCheckIn, AllocError> {
+    let monitor_slug = String::from_str(alloc, "my-monitor")?;
+    let environment = String::from_str(alloc, "production")?;
+    Ok(MonitorCheckIn {
+        check_in_id: id(),
+        monitor_slug,
+        status: MonitorCheckInStatus::Ok,
+        duration: Some(123),
+        environment: Some(environment),
+        monitor_config: Some(monitor(alloc)?),
+    })
+}
+
+// A new event whose id and moment are set.
+fn event(alloc: Global) -> Result<Event<'static>, AllocError> {
+    let mut event = Event::new(alloc, Moment::new(0, 0).unwrap(), &mut ids())?;
+    event.event_id = id();
+    event.timestamp = now();
+    Ok(event)
+}
+
+// An event as an item.
+fn boxed(alloc: Global, event: Event<'static>) -> Result<EnvelopeItem, AllocError> {
+    match EnvelopeItem::event(alloc, event) {
+        Ok(item) => Ok(item),
+        Err(event) => {
+            drop(event);
+            Err(AllocError)
+        }
+    }
+}
+
+// The item that a word names, or else a placeholder.
 fn item_of(alloc: Global, word: &str) -> Result<EnvelopeItem, AllocError> {
     Ok(match word {
-        "attachment" => attachment(alloc, b"helloworld".to_vec(alloc)?),
+        "attachment" => attachment(alloc, b"helloworld", "")?,
+        "check_in" => EnvelopeItem::from(check_in(alloc)?),
+        "event" => boxed(alloc, event(alloc)?)?,
+        "file" => attachment(alloc, b"some content", "file.txt")?,
         "log" => EnvelopeItem::from(Vec::<Log>::new(alloc)),
         "replay_recording" => EnvelopeItem::from(ReplayRecording::default_in(alloc)),
         "trace_metric" => EnvelopeItem::from(Vec::<Metric>::new(alloc)),
@@ -153,8 +220,8 @@ fn said_built(alloc: Global, mut envelope: Envelope, words: &str) -> Result<Valu
     told
 }
 
-/// What an envelope is that items of some types were added to, and the words of those that it hands
-/// back. The first word tells which envelope they are added to.
+/// What an envelope is that some items were added to, and the words of those that it hands back. The
+/// first word tells which envelope they are added to, and the others name the items.
 pub fn of_built(alloc: Global, words: &str, bytes: &[u8]) -> Result<Value, AllocError> {
     let (first, words) = words.split_once(' ').unwrap_or((words, ""));
     taken(

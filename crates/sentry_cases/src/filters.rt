@@ -110,10 +110,12 @@ fn left_by(
     words: &str,
 ) -> Result<Value, AllocError> {
     let mut filter = ByKinds::new(alloc, words);
-    let left = said_filtered(
-        alloc,
-        envelope.filter_with(alloc, &mut filter, keep_headers),
-    );
+    let left = if keep_headers {
+        envelope.filter_keep_headers(alloc, &mut filter)
+    } else {
+        envelope.filter_by(alloc, &mut filter)
+    };
+    let left = said_filtered(alloc, left);
     list(alloc, [left, filter.told()])
 }
 
