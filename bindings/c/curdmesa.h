@@ -129,7 +129,8 @@ enum {
  * Parses an envelope and writes its normal form to `out`.
  *
  * The moment `now`, in seconds and nanoseconds since 1970-01-01T00:00:00Z, fills absent
- * timestamps; absent ids are drawn from a generator seeded with `seed`.
+ * timestamps; absent ids are drawn from a generator seeded with `seed` alone, so hand in another
+ * random number with each envelope.
  *
  * SENTRY_OK, SENTRY_NO_ROOM, SENTRY_NO_MOMENT, SENTRY_UNEXPECTED_EOF to SENTRY_OUT_OF_MEMORY.
  */
