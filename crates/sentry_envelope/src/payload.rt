@@ -171,8 +171,8 @@ pub(crate) fn add_json_item<'a, R: Rng>(
         }
         ItemKind::MonitorCheckIn => add_value::<MonitorCheckIn>(lines, frame, items),
         ItemKind::UserReport => add_value::<UserReport>(lines, frame, items),
-        ItemKind::Logs => add_value::<Listed<Log>>(lines, frame, items),
-        ItemKind::Metrics => add_value::<Listed<Metric>>(lines, frame, items),
+        ItemKind::Logs => add_container::<Log>(lines, frame, items),
+        ItemKind::Metrics => add_container::<Metric>(lines, frame, items),
         ItemKind::ClientReport => add_value_at::<ReportRows, R>(lines, frame, now, ids, items),
         ItemKind::Attachment | ItemKind::ReplayRecording => unreachable!(),
     }
@@ -198,6 +198,24 @@ fn add_value<'a, T: FromTree + Payload>(
     };
     value.push_to(items)?;
     Ok(())
+}
+
+#[inline(never)]
+fn add_container<'a, T: FromTree>(
+    lines: &mut LineReader<'a>,
+    frame: &ItemFrame<'a>,
+    items: &mut Vec<EnvelopeItem>,
+) -> Result<(), EnvelopeError>
+where
+    Listed<T>: Payload,
+{
+    match lines.read_items::<T>("items", frame.payload) {
+        Some(values) => {
+            Listed { items: values }.push_to(items)?;
+            Ok(())
+        }
+        None => add_value::<Listed<T>>(lines, frame, items),
+    }
 }
 
 // The same of a payload whose absent moments and ids are filled.

@@ -20,6 +20,7 @@ pub mod WordsAndTexts
 pub mod Lexemes
 pub mod Escapes
 pub mod SoFar
+pub mod Lists
 pub mod RunLengths
 pub mod StopMasks
 pub mod Spaces

@@ -1,5 +1,6 @@
 pub mod Balanced
 pub mod Line
+pub mod Lists
 pub mod Sound
 pub mod Keys
 pub mod Nodes

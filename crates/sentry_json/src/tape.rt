@@ -1,6 +1,7 @@
 //! A tape of a line of JSON: one pass over the text, a token for each value and each key.
 
 mod escape;
+mod list;
 mod node;
 mod number;
 mod rest;
@@ -22,6 +23,7 @@ use crate::tape::rest::Rest;
 use crate::tape::scalar::split_scalar;
 use crate::tape::token::Token;
 use bumpalo::Bump;
+pub use list::Visitor;
 pub use node::TapeNode;
 use std::alloc::Global;
 

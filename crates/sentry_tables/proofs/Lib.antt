@@ -22,6 +22,7 @@ pub mod WrittenAs
 pub mod Collections
 pub mod Equal
 pub mod ListsShown
+pub mod Listed
 pub mod ScalarsShown
 pub mod Sorted
 pub mod SoundTrees

@@ -1,19 +1,22 @@
 //! Reading of values from lines of JSON.
 
-ghost use Rattle.std.specs.Prelude.{◌≡◌, ◌↔◌, IsTrue, IfOk, IfErr, IfSome, Some, None, false};
-ghost use Rattle.serde_json.specs.Data.{Data};
+ghost use Rattle.std.specs.Prelude.{◌≡◌, ◌↔◌, ◌++◌, ◌∷◌, [], IsTrue, IfOk, IfErr, IfSome, Some, None, false};
+ghost use Rattle.serde_json.specs.Data.{Data, no_members};
 ghost use Rattle.serde_json.specs.View.{view};
 ghost use Rattle.serde_json.specs.Written.{has_float};
 ghost use Rattle.sentry_json.specs.Line.{tree_of};
 ghost use Rattle.sentry_json.specs.Sound.{IsSound};
 ghost use Rattle.sentry_json.specs.TapeView.{node_data};
-ghost use Rattle.sentry_tables.specs.Reading.{Only, LineShows, LineRefused, ReadsText, Shown, Refused};
+ghost use Rattle.sentry_tables.specs.Cell.{fields, no_cells, cell};
+ghost use Rattle.sentry_tables.specs.Cells.{list_cell};
+ghost use Rattle.sentry_tables.specs.Kind.{list, must, ignored, table, no_rows, row};
+ghost use Rattle.sentry_tables.specs.Reading.{Only, LineShows, LineRefused, ReadsText, Shown, Refused, TextShown};
 
 use crate::error::TreeError;
 use crate::read::FromTree;
 use crate::tree::has_float;
 use bumpalo::Bump;
-use sentry_json::{Node, Tape, TapeNode};
+use sentry_json::{Node, Tape, TapeNode, Visitor};
 use serde_json::Value;
 use std::alloc::Global;
 
@@ -76,7 +79,7 @@ pub struct LineReader<'a> {
 }
 
 impl<'a> LineReader<'a> {
-    /// Creates a reader, without allocating yet. `texts` takes what strings with escapes stand for.
+    /// Creates a reader, without allocating yet. `texts` visits what strings with escapes stand for.
     pub fn new(alloc: Global, texts: &'a Bump) -> LineReader<'a> {
         LineReader {
             alloc,
@@ -125,6 +128,43 @@ impl<'a> LineReader<'a> {
         ensures { ReadsText T.kind T.cell_of line.now result }
     {
         self.read_by(line, Plainly)
+    }
+
+    /// Reads the values of a line that is an object of one member, an array at `key`. The tape holds
+    /// one value at a time.
+    ///
+    /// `None` if it isn't such a line, if one of its items is not a value of the type, or if an
+    /// allocation fails: [`LineReader::read`] decides then.
+    pub fn read_list<T: FromTree>(&mut self, key: &str, line: &'a [u8]) -> Option<Vec<T>>
+        ensures { IfSome result (λ values. TextShown
+            (table (row key.now must (list T.kind) no_rows) ignored) line.now
+            (fields (cell (list_cell T.cell_of values.items) no_cells) no_members)) }
+    {
+        let mut visitor = ListVisitor {
+            alloc: self.alloc,
+            values: Vec::new(self.alloc),
+        };
+        self.tape.parse_list(line, key, &mut visitor)?;
+        Some(visitor.values)
+    }
+}
+
+// A visitor that keeps the values of a list.
+#[derive(Drop)]
+struct ListVisitor<T: Drop> {
+    alloc: Global,
+    values: Vec<T>,
+}
+
+impl<T: FromTree> Visitor for ListVisitor<T> {
+    ghost visits = { λ before d after. (v : T)
+        × (after.values.items ≡ before.values.items ++ v ∷ []) × Shown T.kind d (T.cell_of v) };
+
+    fn visit<N: Node>(&mut self, node: &N) -> bool {
+        match T::from_node(self.alloc, node) {
+            Ok(value) => self.values.push(value).is_ok(),
+            Err(_) => false,
+        }
     }
 }
 

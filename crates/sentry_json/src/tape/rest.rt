@@ -7,6 +7,9 @@ ghost use Rattle.sentry_json.specs.Spelled.{IsBehind, IsQuoted, IsSpaced};
 use crate::tape::run::run_len;
 use std::str;
 
+// Shorter lines, as item headers are, are mostly ASCII, which takes less to see.
+const SHORT: usize = 64;
+
 /// What is left of a line, as a text. It is cut without asking again where a character ends: that
 /// it ends there is proved.
 #[derive(Clone, Copy)]
@@ -20,6 +23,11 @@ impl<'a> Rest<'a> {
         ensures text { IfSome result (λ rest. rest.text.now ≡ line.now) }
         ensures utf8 { IfSome result (λ rest. IsUtf8 line.now) }
     {
+        if line.len() < SHORT && line.is_ascii() {
+            // SAFETY: ASCII is UTF-8.
+            let text = unsafe { str::from_utf8_unchecked(line) };
+            return Some(Rest { text });
+        }
         match simdutf8::basic::from_utf8(line) {
             Ok(text) => Some(Rest { text }),
             Err(_) => None,
