@@ -12,6 +12,7 @@ ghost use Rattle.sentry_framing.specs.declared.kind.ItemKind.TheVariants as kind
 ghost use Rattle.sentry_items.specs.Containers.{container_cell};
 ghost use Rattle.sentry_items.specs.declared.container.ItemContainer.TheVariants as containers;
 ghost use Rattle.sentry_tables.specs.Cell.{Cell};
+ghost use Rattle.sentry_tables.specs.Reading.{ReadsText};
 ghost use Rattle.sentry_envelope.specs.ItemAdded.{IsAdded, IsJson, IsNotAdded, IsOfKind, IsValueAdded};
 ghost use Rattle.sentry_envelope.specs.SentryProfile.{form_of};
 ghost use Rattle.sentry_framing.specs.View.{frame_of};
@@ -21,12 +22,12 @@ use crate::timed::read_at;
 use rand_core::Rng;
 use sentry_event::{Event, Transaction};
 use sentry_framing::{EnvelopeError, ItemFrame, ItemKind};
-use sentry_items::{EnvelopeItem, ItemContainer, Listed};
+use sentry_items::{EnvelopeItem, ItemContainer, Listed, read_listed};
 use sentry_moments::Moment;
 use sentry_records::{Log, Metric, MonitorCheckIn, SessionAggregates, SessionUpdate, UserReport};
 use sentry_reports::ReportRows;
 use sentry_rows::FromTreeAt;
-use sentry_tables::{FromTree, LineReader, TreeError};
+use sentry_tables::{FromTree, LineReader, Member, TreeError};
 use std::alloc::AllocError;
 
 // A type of values that payloads of JSON hold.
@@ -171,8 +172,8 @@ pub(crate) fn add_json_item<'a, R: Rng>(
         }
         ItemKind::MonitorCheckIn => add_value::<MonitorCheckIn>(lines, frame, items),
         ItemKind::UserReport => add_value::<UserReport>(lines, frame, items),
-        ItemKind::Logs => add_container::<Log>(lines, frame, items),
-        ItemKind::Metrics => add_container::<Metric>(lines, frame, items),
+        ItemKind::Logs => add_read(read_listed::<Log>(lines, frame.payload), frame, items),
+        ItemKind::Metrics => add_read(read_listed::<Metric>(lines, frame.payload), frame, items),
         ItemKind::ClientReport => add_value_at::<ReportRows, R>(lines, frame, now, ids, items),
         ItemKind::Attachment | ItemKind::ReplayRecording => unreachable!(),
     }
@@ -192,30 +193,29 @@ fn add_value<'a, T: FromTree + Payload>(
         OnOk result (IsAdded now (frame_of frame.now) items.old.items items.new.items) }
     ensures err { IfErr result (IsNotAdded (frame_of frame.now)) }
 {
-    let value: T = match lines.read(frame.payload) {
+    add_read(lines.read::<T>(frame.payload), frame, items)
+}
+
+// Appends the item of a frame whose payload was read.
+fn add_read<T: Member + Payload>(
+    read: Result<T, TreeError>,
+    frame: &ItemFrame<'_>,
+    items: &mut Vec<EnvelopeItem>,
+) -> Result<(), EnvelopeError>
+    requires of_kind { IsOfKind (frame_of frame.now) T.item_kind }
+    requires fits { IsJson (form_of T.item_kind) T.kind }
+    requires held { (v : T) → T.cell v ≡ T.cell_of v }
+    requires read { ReadsText T.kind T.cell_of frame.now.payload.now read }
+    ensures ok { (now : Cell) →
+        OnOk result (IsAdded now (frame_of frame.now) items.old.items items.new.items) }
+    ensures err { IfErr result (IsNotAdded (frame_of frame.now)) }
+{
+    let value = match read {
         Ok(value) => value,
         Err(error) => return Err(payload_error(error)),
     };
     value.push_to(items)?;
     Ok(())
-}
-
-#[inline(never)]
-fn add_container<'a, T: FromTree>(
-    lines: &mut LineReader<'a>,
-    frame: &ItemFrame<'a>,
-    items: &mut Vec<EnvelopeItem>,
-) -> Result<(), EnvelopeError>
-where
-    Listed<T>: Payload,
-{
-    match lines.read_items::<T>("items", frame.payload) {
-        Some(values) => {
-            Listed { items: values }.push_to(items)?;
-            Ok(())
-        }
-        None => add_value::<Listed<T>>(lines, frame, items),
-    }
 }
 
 // The same of a payload whose absent moments and ids are filled.

@@ -19,7 +19,7 @@ pub use attachment_type::AttachmentType;
 pub use container::ItemContainer;
 pub use counted::{CountedReader, CountedWriter};
 pub use item::EnvelopeItem;
-pub use listed::Listed;
+pub use listed::{Listed, read_listed};
 pub use loss::{ItemLossIter, LossSlice, LossSource};
 pub use replay_recording::ReplayRecording;
 pub use sentry_records::{

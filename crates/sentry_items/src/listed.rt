@@ -1,8 +1,11 @@
 //! The payload of a container: an object with an array `items`.
 
+ghost use Rattle.sentry_items.specs.Containers.{container_kind, items_cell};
+ghost use Rattle.sentry_tables.specs.Reading.{ReadsText};
+
 use sentry_json::Node;
 use sentry_rows::{AsTable, Copier, CopyTable, ReadTable, Reader, Sink, Table};
-use sentry_tables::{Formed, FromTree, Member};
+use sentry_tables::{Formed, FromTree, LineReader, Member, TreeError};
 use std::alloc::AllocError;
 
 /// The payload of a container: an object with its values in the array `items`. Other members are
@@ -42,6 +45,27 @@ impl<T: Member> CopyTable for Listed<T> {
         Ok(Listed {
             items: copies.list(&self.items),
         })
+    }
+}
+
+/// Reads the payload of a container: one value at a time if it has no other member than `items`,
+/// else as a whole.
+///
+/// # Errors
+///
+/// - `Misfit` if the payload is no JSON object without floats, with values of the type in the array
+///   `items`.
+/// - `Memory` if an allocation fails.
+pub fn read_listed<'a, T: FromTree>(
+    lines: &mut LineReader<'a>,
+    payload: &'a [u8],
+) -> Result<Listed<T>, TreeError>
+    ensures { ReadsText (container_kind T.kind) (λ listed.
+        items_cell T.cell_of listed.items.items) payload.now result }
+{
+    match lines.read_list("items", payload) {
+        Some(items) => Ok(Listed { items }),
+        None => lines.read(payload),
     }
 }
 

@@ -93,13 +93,20 @@ pub(crate) fn split_escaped<'a>(alloc: Global, inside: Rest<'a>) -> Option<(Stri
     let mut content = String::with_capacity(alloc, USUAL).ok()?;
     let mut rest = inside;
     loop {
+        if let Some(escape) = rest.after(b'\\') {
+            let (character, after) = split_escape(escape)?;
+            content.push(character).ok()?;
+            rest = after;
+            continue;
+        }
         let (run, stop) = rest.split_run();
         content.push_str(run).ok()?;
         if let Some(after) = stop.after(b'"') {
             return Some((content, after));
         }
-        let (character, after) = split_escape(stop.after(b'\\')?)?;
-        content.push(character).ok()?;
-        rest = after;
+        if run.is_empty() {
+            return None;
+        }
+        rest = stop;
     }
 }

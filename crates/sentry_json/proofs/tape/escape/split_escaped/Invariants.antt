@@ -4,11 +4,11 @@ use Rattle.json.specs.Text.{plain}
 use Rattle.sentry_json.specs.Escaped.{StandsFor}
 use Rattle.sentry_json.proofs.tape.escape.split_escaped.Given as goal
 
-abbrev pub invariant-loop-content : goal.invariant-loop-content
-invariant-loop-content l = record {
+abbrev pub invariant-loop-escape : goal.invariant-loop-escape
+invariant-loop-escape l = record {
   read : StandsFor plain in_string l.fn.inside.text.now (string_bytes l.content) l.rest.text.now;
   within : length l.rest.text.now ≤ length l.fn.inside.text.now;
 }
 
-abbrev pub decreases-loop-content : goal.decreases-loop-content
-decreases-loop-content l = length l.rest.text.now
+abbrev pub decreases-loop-escape : goal.decreases-loop-escape
+decreases-loop-escape l = length l.rest.text.now

@@ -1,7 +1,7 @@
 use Rattle.std.proofs.Common.{rules}
 use Rattle.sentry_framing.specs.View.{frame_of}
 use Rattle.sentry_envelope.proofs.ItemReads.{value_added, value_refused}
-use Rattle.sentry_envelope.proofs.payload.add_value.Goals as goal
+use Rattle.sentry_envelope.proofs.payload.add_read.Goals as goal
 
 pub returns-in-Err-clause-err : goal.returns-in-Err-clause-err
 returns-in-Err-clause-err g c =
