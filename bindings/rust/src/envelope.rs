@@ -58,7 +58,7 @@ where
                 now.secs,
                 now.nanos,
                 seed,
-                out.as_mut_ptr(),
+                out.as_mut_ptr().cast(),
                 out.len(),
                 needed,
             )
@@ -151,7 +151,7 @@ where
                 kinds,
                 keep,
                 keep_headers,
-                out.as_mut_ptr(),
+                out.as_mut_ptr().cast(),
                 out.len(),
                 needed,
                 losses.sums.as_mut_ptr(),

@@ -1,34 +1,38 @@
 //! Texts that the library writes to memory of this crate.
 
 use crate::error::{done, Error};
+use std::mem::MaybeUninit;
 use std::ops::Range;
 
-/// Returns a buffer of zero bytes.
+/// Returns an empty buffer with room for at least `room` bytes.
 fn buffer(room: usize) -> Result<Vec<u8>, Error> {
     let mut out = Vec::new();
     out.try_reserve_exact(room)
         .map_err(|_| Error::OutOfMemory)?;
-    out.resize(room, 0);
     Ok(out)
 }
 
 /// Returns the text that a call writes: with room for `room` bytes at first, and with as much as
 /// the text needs if that is too little.
 ///
-/// `call` gets the room and where to put the text's length, and returns a status.
+/// `call` gets the room and where to put the text's length, and returns a status. If that is `OK`, it
+/// has written a text of that length to the front of the room.
 pub fn text(
     room: usize,
-    mut call: impl FnMut(&mut [u8], &mut u64) -> i32,
+    mut call: impl FnMut(&mut [MaybeUninit<u8>], &mut u64) -> i32,
 ) -> Result<Vec<u8>, Error> {
     let mut needed = 0;
     let mut out = buffer(room)?;
-    let mut status = call(&mut out, &mut needed);
+    let mut status = call(out.spare_capacity_mut(), &mut needed);
     if Error::from_status(status) == Some(Error::NoRoom) {
         out = buffer(usize::try_from(needed).map_err(|_| Error::OutOfMemory)?)?;
-        status = call(&mut out, &mut needed);
+        status = call(out.spare_capacity_mut(), &mut needed);
     }
     done(status)?;
-    out.truncate(usize::try_from(needed).map_err(|_| Error::OutOfMemory)?);
+    let length = usize::try_from(needed).map_err(|_| Error::OutOfMemory)?;
+    assert!(length <= out.capacity());
+    // SAFETY: the call has written so many bytes, for which there is room.
+    unsafe { out.set_len(length) };
     Ok(out)
 }
 

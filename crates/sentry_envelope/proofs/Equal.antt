@@ -19,7 +19,7 @@ use Rattle.sentry_records.specs.contracts.sampling.DynamicSamplingContextPartial
 use Rattle.sentry_records.proofs.Equal.{contexts_decide, ids_decide, moments_decide}
 use Rattle.sentry_items.specs.contracts.item.EnvelopeItemPartialEq.TheImpl.{eq-value as of_items}
 use Rattle.sentry_items.specs.declared.item.EnvelopeItem.{EnvelopeItem}
-use Rattle.sentry_items.proofs.Equal.{items_decide}
+use Rattle.sentry_items.proofs.Items.{items_decide}
 use Rattle.sentry_envelope.specs.contracts.envelope.ContentsPartialEq.TheImpl.{eq-value as of_contents}
 use Rattle.sentry_envelope.specs.contracts.headers.EnvelopeHeadersPartialEq.TheImpl.{eq-value as of_headers}
 use Rattle.sentry_envelope.specs.declared.envelope.Contents.{Contents}

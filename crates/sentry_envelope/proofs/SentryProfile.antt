@@ -21,7 +21,7 @@ use Rattle.sentry_event.specs.Transactions.{transaction_fields, transaction_kind
 use Rattle.sentry_records.proofs.TableLaws.{sampling_lawful, log_lawful, metric_lawful}
 use Rattle.sentry_items.specs.Containers.{log_content_type, metric_content_type}
 use Rattle.sentry_items.specs.View.{payload_kind}
-use Rattle.sentry_items.proofs.PayloadLaws.{payload_lawful}
+use Rattle.sentry_items.proofs.Items.{payload_lawful}
 use Rattle.sentry_envelope.specs.Profile.{FormIsLawful, GivesAlike, GivesLawful, ProfileLaws, TypesAreLawful, words}
 use Rattle.sentry_envelope.specs.HeaderFields.{header_fields, header_kind, fill_id}
 use Rattle.sentry_envelope.specs.SentryProfile.{held_at, form_of, gives_of, item_type, item_types, profile}

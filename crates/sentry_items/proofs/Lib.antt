@@ -1,10 +1,9 @@
 pub mod AttachmentTypes
 pub mod Containers
-pub mod Equal
+pub mod Items
 pub mod HeaderTokens
 pub mod Made
 pub mod Sent
 pub mod PlainHeader
 pub mod Cut
 pub mod SameLosses
-pub mod PayloadLaws

@@ -12,7 +12,7 @@ use Rattle.sentry_items.specs.Made.{attached_made, item_made}
 use Rattle.sentry_items.specs.View.{attachment_type_cell, attachment_view, attachment, replay_recording, value, raw, payload_kind}
 use Rattle.sentry_items.specs.declared.attachment.Attachment.{Attachment}
 use Rattle.sentry_items.specs.declared.attachment_type.AttachmentType.{AttachmentType}
-use Rattle.sentry_items.proofs.Equal.{views_same}
+use Rattle.sentry_items.proofs.Items.{views_same}
 
 -- ---- the types of an attachment
 

@@ -33,7 +33,7 @@ use Rattle.sentry_items.specs.View.{item_held, kind_held}
 use Rattle.sentry_items.specs.declared.container.ItemContainer.TheVariants as container
 use Rattle.sentry_items.specs.declared.item.EnvelopeItem.{EnvelopeItem}
 use Rattle.sentry_items.specs.declared.item.EnvelopeItem.TheVariants as item
-use Rattle.sentry_items.proofs.Equal.{cell_in, attached_in}
+use Rattle.sentry_items.proofs.Items.{cell_in, attached_in}
 
 -- ---- lists of the same cells
 

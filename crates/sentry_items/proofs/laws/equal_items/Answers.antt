@@ -1,4 +1,4 @@
-use Rattle.sentry_items.proofs.Equal.{attachments_decide, items_decide}
+use Rattle.sentry_items.proofs.Items.{attachments_decide, items_decide}
 use Rattle.sentry_items.proofs.laws.equal_items.Goals as goal
 
 pub returns-clause-attachments : goal.returns-clause-attachments

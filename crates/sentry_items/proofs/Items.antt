@@ -1,4 +1,4 @@
--- What `==` says of attachments and of items.
+-- Items by their type: their payloads are lawful, and what `==` says of them.
 use Rattle.std.proofs.Common.{rules, Global, String, ◌≡◌, ℕ, Bool, ◌&&◌, List, [], Option, Some, None, option_map, string_bytes, refl, ap, Decides}
 use Rattle.std.proofs.lemmas.Bool.Decides.{Decides-and, Decides-like, Decides-eqb}
 use Rattle.std.proofs.lemmas.Slice.Eq.{slice_eq-Decides, bytes_eq-Decides}
@@ -14,7 +14,7 @@ use Rattle.sentry_reports.proofs.Alike.{reports_decide as of_clients}
 use Rattle.sentry_framing.specs.declared.kind.ItemKind.{ItemKind}
 use Rattle.sentry_framing.specs.declared.kind.ItemKind.TheVariants as kinds
 use Rattle.sentry_items.specs.Alike.{HasStoredAddress, HoldsNoTree, AreAlike}
-use Rattle.sentry_items.specs.View.{ItemView, attachment, replay_recording, value, attachment_type_cell, attachment_view, item_held, kind_held}
+use Rattle.sentry_items.specs.View.{ItemView, attachment, replay_recording, value, attachment_type_cell, attachment_view, item_held, kind_held, payload_kind}
 use Rattle.sentry_items.specs.declared.attachment.Attachment.{Attachment}
 use Rattle.sentry_items.specs.declared.attachment_type.AttachmentType.{AttachmentType}
 use Rattle.sentry_items.specs.contracts.attachment_type.AttachmentTypePartialEq.TheImpl.{eq-value as of_types}
@@ -22,6 +22,29 @@ use Rattle.sentry_items.specs.contracts.item.EnvelopeItemPartialEq.TheImpl.{eq-v
 use Rattle.sentry_items.specs.declared.item.EnvelopeItem.{EnvelopeItem}
 use Rattle.sentry_items.specs.declared.item.EnvelopeItem.TheVariants as item
 use Rattle.sentry_items.specs.declared.container.ItemContainer.TheVariants as container
+use Rattle.sentry_event.proofs.EventLaws.{event_lawful, transaction_lawful}
+use Rattle.sentry_records.proofs.TableLaws.{session_lawful, groups_lawful, check_in_lawful, user_report_lawful, log_lawful, metric_lawful}
+use Rattle.sentry_records.specs.Logs.{log_kind}
+use Rattle.sentry_records.specs.Metrics.{metric_kind}
+use Rattle.sentry_reports.proofs.TableLaws.{report_lawful}
+use Rattle.sentry_tables.specs.Lawful.{IsLawful}
+use Rattle.sentry_items.proofs.Containers.{container_lawful}
+
+-- the kinds of payloads are lawful
+pub payload_lawful : (k : ItemKind) → IsLawful (payload_kind k)
+payload_lawful kinds.Event = event_lawful
+payload_lawful kinds.SessionUpdate = session_lawful
+payload_lawful kinds.SessionAggregates = groups_lawful
+payload_lawful kinds.Transaction = transaction_lawful
+payload_lawful kinds.Attachment = tt
+payload_lawful kinds.MonitorCheckIn = check_in_lawful
+payload_lawful kinds.UserReport = user_report_lawful
+payload_lawful kinds.ReplayRecording = tt
+payload_lawful kinds.Logs = container_lawful log_kind log_lawful
+payload_lawful kinds.Metrics = container_lawful metric_kind metric_lawful
+payload_lawful kinds.ClientReport = report_lawful
+
+-- ---- what `==` says
 
 strings_decide : (a b : String Global) → Decides (string_eq a b) (string_bytes a ≡ string_bytes b)
 strings_decide a b = bytes_eq-Decides (string_bytes a) (string_bytes b)
