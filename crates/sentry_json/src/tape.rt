@@ -147,6 +147,28 @@ fn take_leaf<'a>(
     take_scalar(text, tokens)
 }
 
+// The same, inlined, so that the call's answer is cleared on this way alone: a place is cleared
+// where the function begins that has it.
+#[inline(always)]
+fn take_rare<'a>(
+    alloc: Global,
+    texts: &'a Bump,
+    text: Rest<'a>,
+    key: bool,
+    tokens: &mut Vec<Token<'a>>,
+) -> Option<Rest<'a>>
+    ensures spelled { IfSome result (λ rest. (token : Token)
+        × (tokens.new.items ≡ tokens.old.items ++ token ∷ [])
+        × Spells text.entry.text.now rest.text.now token [] 0) }
+    ensures string { IfSome result (λ rest. key ≡ true → (name : Token)
+        × (tokens.new.items ≡ tokens.old.items ++ name ∷ [])
+        × SpellsString text.entry.text.now rest.text.now name) }
+    ensures shorter { IfSome result (λ rest. length rest.text.now < length text.entry.text.now) }
+{
+    let rest = take_leaf(alloc, texts, text, key, tokens)?;
+    Some(rest)
+}
+
 // Appends the tokens of the value at the front, and returns what follows it; a key is a string.
 #[cycle(take)]
 #[inline(always)]
@@ -174,15 +196,34 @@ fn take_value<'a>(
     }
     let byte = *text.bytes().first()?;
     if !key && (byte == b'{' || byte == b'[') {
-        let rest = take_inside(alloc, texts, text.after(byte)?, byte == b'{', depth, tokens)?;
-        return Some(rest);
+        return take_nested(alloc, texts, text.after(byte)?, byte == b'{', depth, tokens);
     }
-    let rest = take_leaf(alloc, texts, text, key, tokens)?;
+    take_rare(alloc, texts, text, key, tokens)
+}
+
+// The same of an object or an array, behind its opening bracket; inlined as `take_rare` is.
+#[cycle(take)]
+#[inline(always)]
+fn take_nested<'a>(
+    alloc: Global,
+    texts: &'a Bump,
+    text: Rest<'a>,
+    object: bool,
+    depth: u8,
+    tokens: &mut Vec<Token<'a>>,
+) -> Option<Rest<'a>>
+    ensures spelled { IfSome result (λ rest. (first : Token) × (inside : List Token)
+        × (tokens.new.items ≡ tokens.old.items ++ first ∷ inside)
+        × Spells ((if object then 123 else 91) ∷ text.entry.text.now)
+        rest.text.now first inside depth) }
+    ensures shorter { IfSome result (λ rest. length rest.text.now < length text.entry.text.now) }
+{
+    let rest = take_inside(alloc, texts, text, object, depth, tokens)?;
     Some(rest)
 }
 
-// The same of an object or an array, behind its opening bracket. A key and its value are one turn
-// of the loop each, so that what takes a string stands in it once.
+// The same, not inlined. A key and its value are one turn of the loop each, so that what takes a
+// string stands in it once.
 #[cycle(take)]
 #[inline(never)]
 fn take_inside<'a>(

@@ -91,7 +91,7 @@ impl<'a> Rest<'a> {
     {
         match self.after(byte) {
             Some(rest) => Some(rest),
-            None => self.skip_spaces().after(byte),
+            None => self.skip_space().after(byte),
         }
     }
 

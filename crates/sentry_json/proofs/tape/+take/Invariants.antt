@@ -4,10 +4,13 @@ use Rattle.sentry_json.proofs.SoFar.{bracket, Before}
 use Rattle.sentry_json.proofs.tape.+take.Given as goal
 
 abbrev pub decreases-take_value : goal.decreases-take_value
-decreases-take_value l = 2 * l.depth + 1
+decreases-take_value l = 3 * l.depth + 2
+
+abbrev pub decreases-take_nested : goal.decreases-take_nested
+decreases-take_nested l = 3 * l.depth + 1
 
 abbrev pub decreases-take_inside : goal.decreases-take_inside
-decreases-take_inside l = 2 * l.depth
+decreases-take_inside l = 3 * l.depth
 
 abbrev pub invariant-take_inside-loop-next : goal.invariant-take_inside-loop-next
 invariant-take_inside-loop-next l = (done : List Token) × (l.tokens.items ≡ l.fn.tokens.items ++ bracket l.fn.object 0 ∷ done) × Before l.fn.object l.key l.fn.text.text.now l.left.text.now done l.depth × (length l.left.text.now ≤ length l.fn.text.text.now)
