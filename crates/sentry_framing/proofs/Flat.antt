@@ -1,11 +1,13 @@
 -- A piece without braces and backslashes inside.
-use Rattle.std.proofs.Common.{◌≡◌, ◌≢◌, ℕ, zero, suc, ◌+◌, ◌<◌, ◌≤◌, Bool, true, false, not, cond, ◌==◌, List, [], ◌∷◌, length, take, drop, get_or, ◌-◌, ◌%◌, refl, sym, ap, ap₂, ◌∙◌, arith}
-use Rattle.std.proofs.lemmas.Bool.{eq-eqb, eqb-true, eqb-false, ne_eqb}
+use Rattle.std.proofs.Common.{◌≡◌, ◌≢◌, inl, inr, map, subst, ℕ, zero, suc, ◌+◌, ◌<◌, ◌≤◌, Bool, true, false, not, cond, ◌==◌, List, [], ◌∷◌, length, take, drop, get_or, ◌-◌, ◌%◌, refl, sym, ap, ap₂, ◌∙◌, arith}
+use Rattle.std.proofs.lemmas.Bool.{cases_lt, eq-eqb, eqb-true, eqb-false, ne_eqb}
 use Rattle.std.proofs.lemmas.List.{drop-take, length-take, take-take}
 use Rattle.std.proofs.lemmas.List.Sums.{count_by-le-length, count_by_more_no, count_by_more_yes, sum_by-cons, sum_by-take-drop}
-use lib.Lanes.{chunk}
-use Rattle.memchr.specs.Find.{is_byte3}
-use Rattle.sentry_framing.specs.Quotes.{quotes}
+use Rattle.std.proofs.lemmas.Simd.{length-chunk, none_from_empty_mask, run_in_chunk_fails, run_in_chunk_le, trailing_mask_l}
+use Rattle.std.specs.List.{prefix_len}
+use lib.Count.{count_trailing_zeros}
+use lib.Lanes.{chunk, mask_l}
+use Rattle.sentry_framing.specs.Quotes.{is_stop, quotes}
 use Rattle.sentry_framing.proofs.Machine.{Place, Plain, InString, rest_after, plain_other, plain_quote, string_other, string_quote}
 
 -- whether the quotes are even in number, where those before were even or weren't
@@ -28,16 +30,16 @@ step_of false false b s is o c k = string_other b s 0 (eqb-false b 34 is) k
 
 -- none of the first bytes is a brace or a backslash
 abbrev pub IsFlat : List ℕ → ℕ → Type 0
-IsFlat s i = (k : ℕ) → k < i → is_byte3 123 125 92 (get_or s k 0) ≡ true → ⊥
+IsFlat s i = (k : ℕ) → k < i → is_stop (get_or s k 0) ≡ true → ⊥
 
-no_open : (b : ℕ) → (is_byte3 123 125 92 b ≡ true → ⊥) → b ≢ 123
-no_open b h is = h (ap (is_byte3 123 125 92) is)
+no_open : (b : ℕ) → (is_stop b ≡ true → ⊥) → b ≢ 123
+no_open b h is = h (ap is_stop is)
 
-no_close : (b : ℕ) → (is_byte3 123 125 92 b ≡ true → ⊥) → b ≢ 125
-no_close b h is = h (ap (is_byte3 123 125 92) is)
+no_close : (b : ℕ) → (is_stop b ≡ true → ⊥) → b ≢ 125
+no_close b h is = h (ap is_stop is)
 
-no_escape : (b : ℕ) → (is_byte3 123 125 92 b ≡ true → ⊥) → b ≢ 92
-no_escape b h is = h (ap (is_byte3 123 125 92) is)
+no_escape : (b : ℕ) → (is_stop b ≡ true → ⊥) → b ≢ 92
+no_escape b h is = h (ap is_stop is)
 
 -- flat bytes with even quotes are passed over
 passed : (e : Bool) (s : List ℕ) (i : ℕ) → i ≤ length s → IsFlat s i → even_from e (take i s) ≡ true
@@ -79,25 +81,81 @@ pub flat_passed : (s : List ℕ) (i : ℕ) → i ≤ length s → IsFlat s i →
     → rest_after (drop i s) Plain 0 ≡ rest_after s Plain 0
 flat_passed s i within flat is = sym (passed true s i within flat (by_count true (take i s) ∙ ap (λ b. cond b true false) is))
 
--- ---- quotes that are counted
+-- ---- flat bytes whose quotes are counted
 
-pub few : (s : List ℕ) (i : ℕ) → i ≤ length s → quotes (take i s) ≤ i
+-- the first bytes are flat, and so many of them are quotes
+pub record IsPassed (s : List ℕ) (i count : ℕ) : Type 0 where
+  pub counted : count ≡ quotes (take i s)
+  pub within : i ≤ length s
+  pub flat : IsFlat s i
+
+pub none_passed : (s : List ℕ) → IsPassed s 0 0
+unfolding quotes
+none_passed s = record { counted = refl; within = omega arith; flat = λ k low. absurd (omega arith) }
+
+few : (s : List ℕ) (i : ℕ) → i ≤ length s → quotes (take i s) ≤ i
 unfolding quotes
 few s i within = omega (arith, count_by-le-length (λ b. b == 34) (take i s), length-take i s)
 
+pub few_passed : (s : List ℕ) (i count : ℕ) → IsPassed s i count → count ≤ i
+few_passed s i count h = omega (arith, h.counted, few s i h.within)
+
 -- those of so many bytes more
-pub quotes_more : (s : List ℕ) (i n : ℕ) → quotes (take (i + n) s) ≡ quotes (take i s) + quotes (chunk i n s)
+quotes_more : (s : List ℕ) (i n : ℕ) → quotes (take (i + n) s) ≡ quotes (take i s) + quotes (chunk i n s)
 unfolding quotes
 quotes_more s i n =
     let count = λ (xs : List ℕ). quotes xs in
     sym (sum_by-take-drop (λ b. cond (b == 34) 1 0) (take (i + n) s) i) ∙ ap₂ (λ a b. count a + count b) (take-take i (i + n) s (omega arith)) (drop-take i n s)
 
--- those of one byte more
-module _ (s : List ℕ) (i : ℕ) (within : i < length s) where
-  pub one_quote : get_or s i 0 ≡ 34 → quotes (take (i + 1) s) ≡ quotes (take i s) + 1
-  unfolding quotes
-  one_quote is = count_by_more_yes (λ b. b == 34) s i 0 within (eq-eqb _ _ is)
+-- the front of 16 lanes more
+pub lanes_passed : (s : List ℕ) (i count n : ℕ) → i + 16 ≤ length s → n ≤ 16 → ((k : ℕ) → i ≤ k → k < i + n → is_stop (get_or s k 0) ≡ false)
+    → IsPassed s i count → IsPassed s (i + n) (count + quotes (take n (chunk i 16 s)))
+lanes_passed s i count n room short no_stop h = record {
+  counted = omega (arith, h.counted, quotes_more s i n, ap quotes (take-take n 16 (drop i s) short));
+  within = omega arith;
+  flat = λ k low. elim (cases_lt k i) [
+    | inl before ↦ h.flat k before
+    | inr after ↦ λ is. let e : true ≡ false = sym is ∙ no_stop k after low in cc
+  ];
+}
 
-  pub no_quote : get_or s i 0 ≢ 34 → quotes (take (i + 1) s) ≡ quotes (take i s)
+-- one byte more
+module _ (s : List ℕ) (i count : ℕ) (within : i < length s) (no_stop : is_stop (get_or s i 0) ≡ false) (h : IsPassed s i count) where
+  one_flat : IsFlat s (i + 1)
+  one_flat k low = elim (cases_lt k i) [
+    | inl before ↦ h.flat k before
+    | inr after ↦ λ is. let e : true ≡ false = sym is ∙ ap (λ j. is_stop (get_or s j 0)) (omega arith) ∙ no_stop in cc
+  ]
+
+  pub quote_passed : get_or s i 0 ≡ 34 → IsPassed s (i + 1) (count + 1)
   unfolding quotes
-  no_quote is = count_by_more_no (λ b. b == 34) s i 0 within (ne_eqb _ _ is)
+  quote_passed is = record {
+    counted = omega (arith, h.counted, count_by_more_yes (λ b. b == 34) s i 0 within (eq-eqb _ _ is));
+    within = omega arith;
+    flat = one_flat;
+  }
+
+  pub other_passed : get_or s i 0 ≢ 34 → IsPassed s (i + 1) count
+  unfolding quotes
+  other_passed is = record {
+    counted = omega (arith, h.counted, count_by_more_no (λ b. b == 34) s i 0 within (ne_eqb _ _ is));
+    within = omega arith;
+    flat = one_flat;
+  }
+
+-- 16 lanes, or those before the first stop
+module _ (s : List ℕ) (i count found q : ℕ) (room : i + 16 ≤ length s) (mask : found ≡ mask_l (map is_stop (chunk i 16 s))) where
+  pub all_passed : IsPassed s i count → found ≡ 0 → q ≡ quotes (take 16 (chunk i 16 s)) → IsPassed s (i + 16) (count + q)
+  all_passed h none is = subst (λ n. IsPassed s (i + 16) (count + n)) (sym is) (lanes_passed s i count 16 room (omega arith) (none_from_empty_mask is_stop s i 16 0 room (sym mask ∙ none)) h)
+
+  module _ (some : found ≡ 0 → ⊥) where
+    stops_at : count_trailing_zeros 64 found ≡ prefix_len (λ b. not (is_stop b)) (chunk i 16 s)
+    stops_at = ap (count_trailing_zeros 64) mask ∙ trailing_mask_l is_stop 64 (chunk i 16 s) (omega (arith, length-chunk i 16 s room)) (omega (arith, mask, some))
+
+    pub stop_within : count_trailing_zeros 64 found ≤ 16
+    stop_within = run_in_chunk_le is_stop s i 16 (count_trailing_zeros 64 found) 0 room stops_at
+
+    pub stop_passed : IsPassed s i count → q ≡ quotes (take (count_trailing_zeros 64 found) (chunk i 16 s)) → IsPassed s (i + count_trailing_zeros 64 found) (count + q)
+    stop_passed h is =
+        let n = count_trailing_zeros 64 found in
+        subst (λ m. IsPassed s (i + n) (count + m)) (sym is) (lanes_passed s i count n room stop_within (run_in_chunk_fails is_stop s i 16 n 0 room stops_at) h)

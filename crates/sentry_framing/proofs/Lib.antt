@@ -11,4 +11,5 @@ pub mod Faults
 pub mod StatedLengths
 pub mod Written
 pub mod Flat
+pub mod Stops
 pub mod Words

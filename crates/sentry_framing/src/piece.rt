@@ -1,9 +1,9 @@
 //! The length of a balanced piece: a `{`, balanced content, and its `}`.
-ghost use Rattle.std.specs.Prelude.{◌≡◌, ◌≤◌, ◌++◌, ◌==◌, ◌%◌, List, ℕ, IfSome, IfNone, length, take};
+ghost use Rattle.std.specs.Prelude.{◌≡◌, ◌≤◌, ◌++◌, List, ℕ, IfSome, IfNone, length, map, take};
+ghost use Rattle.std.specs.Simd.Lanes.{mask_l};
 ghost use Rattle.sentry_json.specs.Balanced.{IsBalanced, IsStringEnd};
-ghost use Rattle.sentry_framing.specs.Quotes.{quotes};
+ghost use Rattle.sentry_framing.specs.Quotes.{is_stop, quotes};
 
-use memchr::memchr3;
 use std::simd::prelude::*;
 
 /// Returns the length of the balanced piece at the front, if any. Any bytes may follow the piece.
@@ -17,7 +17,8 @@ pub fn piece_len(bytes: &[u8]) -> Option<usize>
 }
 
 // A fast path for pieces without braces and backslashes inside; `None` for all others, even if
-// these bytes are in a string.
+// these bytes are in a string. The quotes are counted on the way, since a second pass would cost as
+// much as the first.
 fn flat_len(bytes: &[u8]) -> Option<usize>
     ensures within { IfSome result (λ len. len ≤ length bytes.now) }
     ensures found { IfSome result (λ len. IsBalanced (take len bytes.now)) }
@@ -25,44 +26,57 @@ fn flat_len(bytes: &[u8]) -> Option<usize>
     let Some((b'{', inside)) = bytes.split_first() else {
         return None;
     };
-    let end = memchr3(b'{', b'}', b'\\', inside)?;
-    if inside[end] == b'}' && has_even_quotes(&inside[..end]) {
+    let mut quotes = 0;
+    let mut end = 0;
+    while inside.len() - end >= 16 {
+        let lanes = u8x16::from_slice(&inside[end..]);
+        let found = stops(lanes);
+        if found != 0 {
+            let flat = found.trailing_zeros() as usize;
+            quotes += quotes_in(lanes, flat);
+            end += flat;
+            break;
+        }
+        quotes += quotes_in(lanes, 16);
+        end += 16;
+    }
+    while end < inside.len() && !is_stop(inside[end]) {
+        if inside[end] == b'"' {
+            quotes += 1;
+        }
+        end += 1;
+    }
+    if end < inside.len() && inside[end] == b'}' && quotes % 2 == 0 {
         Some(end + 2)
     } else {
         None
     }
 }
 
-// The number of quotes in a vector of bytes.
+fn is_stop(byte: u8) -> bool
+    ensures { result ≡ is_stop byte }
+{
+    matches!(byte, b'{' | b'}' | b'\\')
+}
+
+// The lanes with a brace or a backslash.
 #[inline(always)]
-fn quotes_in(bytes: u8x16) -> usize
-    ensures { result ≡ quotes bytes }
+fn stops(lanes: u8x16) -> u64
+    ensures { result ≡ mask_l (map is_stop lanes) }
 {
-    bytes.simd_eq(u8x16::splat(b'"')).to_bitmask().count_ones() as usize
+    (lanes.simd_eq(u8x16::splat(b'{'))
+        | lanes.simd_eq(u8x16::splat(b'}'))
+        | lanes.simd_eq(u8x16::splat(b'\\'))).to_bitmask()
 }
 
-fn quotes(bytes: &[u8]) -> usize
-    ensures { result ≡ quotes bytes.now }
+// The number of quotes in the first lanes.
+#[inline(always)]
+fn quotes_in(lanes: u8x16, len: usize) -> usize
+    requires { len ≤ 16 }
+    ensures { result ≡ quotes (take len lanes) }
 {
-    let mut count = 0;
-    let mut i = 0;
-    while bytes.len() - i >= 16 {
-        count += quotes_in(u8x16::from_slice(&bytes[i..]));
-        i += 16;
-    }
-    while i < bytes.len() {
-        if bytes[i] == b'"' {
-            count += 1;
-        }
-        i += 1;
-    }
-    count
-}
-
-fn has_even_quotes(bytes: &[u8]) -> bool
-    ensures { result ≡ (quotes bytes.now % 2 == 0) }
-{
-    quotes(bytes) % 2 == 0
+    let found = lanes.simd_eq(u8x16::splat(b'"')).to_bitmask();
+    (found % (1 << len)).count_ones() as usize
 }
 
 // Finds any balanced piece, byte by byte.
