@@ -79,7 +79,7 @@ pub struct LineReader<'a> {
 }
 
 impl<'a> LineReader<'a> {
-    /// Creates a reader, without allocating yet. `texts` visits what strings with escapes stand for.
+    /// Creates a reader, without allocating yet. `texts` takes what strings with escapes stand for.
     pub fn new(alloc: Global, texts: &'a Bump) -> LineReader<'a> {
         LineReader {
             alloc,
