@@ -46,6 +46,10 @@ header_of words d = do
   attachment_type ← optional as_str (get (codes "attachment_type") d)
   Some (record { kind = kind; length = length; content_type = content_type; filename = filename; attachment_type = attachment_type })
 
+-- what stands at the keys of the fields
+abbrev pub at_keys : Data → List (Option Data)
+at_keys d = get (codes "type") d ∷ get (codes "length") d ∷ get (codes "content_type") d ∷ get (codes "filename") d ∷ get (codes "attachment_type") d ∷ []
+
 -- the fields of the header that stands in these bytes, where it is one
 unfoldable pub read_header : List (List ℕ) → List ℕ → Option Header
 read_header words header = tree_of header >>= header_of words

@@ -1,7 +1,8 @@
 //! Item headers.
-ghost use Rattle.std.specs.Prelude.{◌≡◌, [], ◌∷◌, ◌⊎◌, Some, None, IfOk, IfErr, OnOk, option_map, string_bytes};
+ghost use Rattle.std.specs.Prelude.{◌≡◌, [], ◌∷◌, ◌⊎◌, Some, None, IfOk, IfErr, IfSome, OnOk, length, map, option_map, string_bytes};
+ghost use Rattle.serde_json.specs.Data.{Data};
 ghost use Rattle.serde_json.specs.Find.{as_str};
-ghost use Rattle.sentry_framing.specs.ItemHeader.{header_of, kind_of, read_header, optional, whole_number};
+ghost use Rattle.sentry_framing.specs.ItemHeader.{at_keys, header_of, kind_of, read_header, optional, whole_number};
 ghost use Rattle.sentry_framing.specs.ItemWords.{item_words, kind_place};
 ghost use Rattle.sentry_framing.specs.declared.kind.ItemKind.TheVariants as kinds;
 ghost use Rattle.sentry_framing.specs.HeaderView.{header_view};
@@ -10,7 +11,7 @@ ghost use Rattle.sentry_json.specs.TapeView.{node_data};
 use crate::error::EnvelopeError;
 use crate::kind::ItemKind;
 use bumpalo::Bump;
-use sentry_json::{Node, TapeNode};
+use sentry_json::{Node, TapeNode, look_up};
 use sentry_tables::{LineReader, TreeError, read_tree};
 use std::alloc::Global;
 
@@ -95,10 +96,55 @@ fn optional_text<N: Node>(alloc: Global, place: &Option<N>) -> Result<Option<Str
     }
 }
 
-// Reads the fields from a JSON node. `places` is filled with the nodes of the members. Some fields
-// may be set after an error.
+// Reads the fields from the nodes at their keys. Some may be set after an error.
 #[tactic(auto, unfolding(crate::specs::ItemHeader::header_of))]
 fn fill_header<N: Node>(
+    alloc: Global,
+    places: &[Option<N>],
+    fields: &mut ItemHeader,
+) -> Result<(), TreeError>
+    requires { length places.now ≡ 5 }
+    ensures ok { (d : Data) → map (option_map N.data_of) places.now ≡ at_keys d
+        → OnOk result (header_of item_words d ≡ Some (header_view fields.new)) }
+    ensures misfit { (d : Data) → map (option_map N.data_of) places.now ≡ at_keys d
+        → result ≡ Err TreeError.Misfit → header_of item_words d ≡ None }
+{
+    fields.kind = kind(&places[0])?;
+    fields.length = optional_number(&places[1])?;
+    fields.content_type = optional_text(alloc, &places[2])?;
+    fields.filename = optional_text(alloc, &places[3])?;
+    fields.attachment_type = optional_text(alloc, &places[4])?;
+    Ok(())
+}
+
+// The keys of the fields.
+const KEYS: [&str; 5] = [
+    "type",
+    "length",
+    "content_type",
+    "filename",
+    "attachment_type",
+];
+
+// Reads the fields from a flat header, as most are. `None` if it isn't one.
+#[tactic(auto, unfolding(crate::specs::ItemHeader::read_header))]
+fn fill_from_flat(
+    alloc: Global,
+    header: &[u8],
+    fields: &mut ItemHeader,
+) -> Option<Result<(), TreeError>>
+    ensures ok { IfSome result (λ filled.
+        OnOk filled (read_header item_words header.now ≡ Some (header_view fields.new))) }
+    ensures misfit { result ≡ Some (Err TreeError.Misfit)
+        → read_header item_words header.now ≡ None }
+{
+    let mut places = [None, None, None, None, None];
+    look_up(header, &KEYS, &mut places)?;
+    Some(fill_header(alloc, &places, fields))
+}
+
+// Reads the fields from a JSON node. `places` is filled with the nodes of the members.
+fn fill_from_node<N: Node>(
     alloc: Global,
     node: &N,
     places: &mut [Option<N>],
@@ -110,22 +156,8 @@ fn fill_header<N: Node>(
     ensures misfit { result ≡ Err TreeError.Misfit →
         header_of item_words (N.data_of node.now) ≡ None }
 {
-    node.get_each(
-        &[
-            "type",
-            "length",
-            "content_type",
-            "filename",
-            "attachment_type",
-        ],
-        places,
-    );
-    fields.kind = kind(&places[0])?;
-    fields.length = optional_number(&places[1])?;
-    fields.content_type = optional_text(alloc, &places[2])?;
-    fields.filename = optional_text(alloc, &places[3])?;
-    fields.attachment_type = optional_text(alloc, &places[4])?;
-    Ok(())
+    node.get_each(&KEYS, places);
+    fill_header(alloc, places, fields)
 }
 
 fn fill_from_tape<'t, 'a>(
@@ -139,7 +171,7 @@ fn fill_from_tape<'t, 'a>(
         header_of item_words (node_data root.now) ≡ None }
 {
     let mut places: [Option<TapeNode<'t, 'a>>; 5] = [None, None, None, None, None];
-    fill_header(alloc, root, &mut places, fields)
+    fill_from_node(alloc, root, &mut places, fields)
 }
 
 // Reads any line, as a tree of values.
@@ -151,7 +183,25 @@ fn fill_from_tree(alloc: Global, line: &[u8], fields: &mut ItemHeader) -> Result
     ensures misfit { result ≡ Err TreeError.Misfit → read_header item_words line.now ≡ None }
 {
     let tree = read_tree(alloc, line)?;
-    fill_header(alloc, &&tree, &mut [None, None, None, None, None], fields)
+    fill_from_node(alloc, &&tree, &mut [None, None, None, None, None], fields)
+}
+
+// Reads any line, on the tape where that takes it.
+#[inline(never)]
+#[tactic(auto, unfolding(crate::specs::ItemHeader::read_header))]
+fn fill_from_line<'a>(
+    lines: &mut LineReader<'a>,
+    line: &'a [u8],
+    fields: &mut ItemHeader,
+) -> Result<(), TreeError>
+    ensures ok { OnOk result (read_header item_words line.now ≡ Some (header_view fields.new)) }
+    ensures misfit { result ≡ Err TreeError.Misfit → read_header item_words line.now ≡ None }
+{
+    let alloc = lines.alloc();
+    match lines.root(line) {
+        Some(root) => fill_from_tape(alloc, &root, fields),
+        None => fill_from_tree(alloc, line, fields),
+    }
 }
 
 /// Parses an item header. Members that [`ItemHeader`] has no field for are ignored.
@@ -176,7 +226,6 @@ pub fn read_item_header(alloc: Global, header: &[u8]) -> Result<ItemHeader, Enve
 }
 
 // Parses an item header into `fields`; some may be set after an error.
-#[tactic(auto, unfolding(crate::specs::ItemHeader::read_header))]
 pub(crate) fn read_fields<'a>(
     lines: &mut LineReader<'a>,
     header: &'a [u8],
@@ -186,10 +235,9 @@ pub(crate) fn read_fields<'a>(
     ensures err { IfErr result (λ e. (e ≡ EnvelopeError.OutOfMemory)
         ⊎ ((e ≡ EnvelopeError.InvalidItemHeader) × (read_header item_words header.now ≡ None))) }
 {
-    let alloc = lines.alloc();
-    let filled = match lines.root(header) {
-        Some(root) => fill_from_tape(alloc, &root, fields),
-        None => fill_from_tree(alloc, header, fields),
+    let filled = match fill_from_flat(lines.alloc(), header, fields) {
+        Some(filled) => filled,
+        None => fill_from_line(lines, header, fields),
     };
     match filled {
         Ok(()) => Ok(()),

@@ -21,6 +21,7 @@ pub mod Lexemes
 pub mod Escapes
 pub mod SoFar
 pub mod Lists
+pub mod Flat
 pub mod RunLengths
 pub mod StopMasks
 pub mod Spaces

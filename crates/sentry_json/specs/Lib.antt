@@ -1,6 +1,7 @@
 pub mod Balanced
 pub mod Line
 pub mod Lists
+pub mod Scalars
 pub mod Sound
 pub mod Keys
 pub mod Nodes

@@ -1,6 +1,6 @@
 //! Lookup of a key in a list of keys.
 
-ghost use Rattle.std.specs.Prelude.{◌≡◌, ◌<◌, ◌≤◌, ℕ, IfSome, IfNone, false, map, length};
+ghost use Rattle.std.specs.Prelude.{◌≡◌, IfSome, IfNone, false, map};
 ghost use Rattle.std.specs.Str.{bytes_eq};
 ghost use Rattle.sentry_json.specs.Keys.{is_among as among, StandsAt};
 
@@ -13,13 +13,13 @@ pub(crate) fn is_same(key: &str, other: &str) -> bool
     key.len() == other.len() && key == other
 }
 
-fn place_in(keys: &[&str], from: usize, to: usize, key: &str) -> Option<usize>
-    requires { to ≤ length keys.now }
+/// Returns the index of a key in `keys`; `None` if absent.
+#[inline(always)]
+pub fn place(keys: &[&str], key: &str) -> Option<usize>
     ensures found { IfSome result (λ i. StandsAt key.now i (map (λ k. k.now) keys.now)) }
-    ensures none { IfNone result ((i : ℕ) → from ≤ i → i < to
-        → ¬ StandsAt key.now i (map (λ k. k.now) keys.now)) }
+    ensures none { IfNone result (among key.now (map (λ k. k.now) keys.now) ≡ false) }
 {
-    for i in from..to {
+    for i in 0..keys.len() {
         if is_same(key, keys[i]) {
             return Some(i);
         }
@@ -27,30 +27,9 @@ fn place_in(keys: &[&str], from: usize, to: usize, key: &str) -> Option<usize>
     None
 }
 
-// Searches from the index `next` to the end, then from the start.
-pub(crate) fn place_from(keys: &[&str], next: usize, key: &str) -> Option<usize>
-    ensures found { IfSome result (λ i. StandsAt key.now i (map (λ k. k.now) keys.now)) }
-    ensures none { IfNone result (among key.now (map (λ k. k.now) keys.now) ≡ false) }
-{
-    let len = keys.len();
-    let from = if next < len { next } else { 0 };
-    match place_in(keys, from, len, key) {
-        Some(i) => Some(i),
-        None => place_in(keys, 0, from, key),
-    }
-}
-
 /// Returns whether a key is one of `names`.
 pub fn is_among(names: &[&str], key: &str) -> bool
     ensures { result ≡ among key.now (map (λ name. name.now) names.now) }
 {
-    place_from(names, 0, key).is_some()
-}
-
-/// Returns the index of a key in `keys`; `None` if absent.
-pub fn place(keys: &[&str], key: &str) -> Option<usize>
-    ensures found { IfSome result (λ i. StandsAt key.now i (map (λ k. k.now) keys.now)) }
-    ensures none { IfNone result (among key.now (map (λ k. k.now) keys.now) ≡ false) }
-{
-    place_from(keys, 0, key)
+    place(names, key).is_some()
 }

@@ -12,4 +12,4 @@ mod tape;
 pub use keys::is_among;
 pub use node::Node;
 pub use object::{Named, Object};
-pub use tape::{Tape, TapeNode, Visitor};
+pub use tape::{Scalar, Tape, TapeNode, Visitor, look_up, run_len};

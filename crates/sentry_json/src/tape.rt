@@ -1,6 +1,7 @@
 //! A tape of a line of JSON: one pass over the text, a token for each value and each key.
 
 mod escape;
+mod flat;
 mod list;
 mod node;
 mod number;
@@ -23,8 +24,10 @@ use crate::tape::rest::Rest;
 use crate::tape::scalar::split_scalar;
 use crate::tape::token::Token;
 use bumpalo::Bump;
+pub use flat::{Scalar, look_up};
 pub use list::Visitor;
 pub use node::TapeNode;
+pub use run::run_len;
 use std::alloc::Global;
 
 // As deep as a line may nest.

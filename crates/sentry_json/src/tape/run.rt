@@ -29,9 +29,9 @@ fn short_run_end(bytes: &[u8], from: usize) -> usize
     i
 }
 
-// Returns how many bytes stand before the first quote, backslash or control byte.
+/// Returns how many bytes stand before the first quote, backslash or control byte.
 #[inline(always)]
-pub(crate) fn run_len(bytes: &[u8]) -> usize
+pub fn run_len(bytes: &[u8]) -> usize
     ensures value { result ≡ prefix_len is_plain bytes.now }
     ensures within { result ≤ length bytes.now }
 {

@@ -9,4 +9,4 @@ found key ks None at none = sym none
 found key ks (Some i) at none = sym (among key i ks at)
 
 pub returns : goal.returns
-returns c = c.is_some.ensures ∙ found c.args.key.now (map (λ n. n.now) c.args.names.now) c.place_from.result c.place_from.ensures.found c.place_from.ensures.none
+returns c = c.is_some.ensures ∙ found c.args.key.now (map (λ n. n.now) c.args.names.now) c.place.result c.place.ensures.found c.place.ensures.none
