@@ -18,8 +18,8 @@ use Rattle.sentry_framing.specs.declared.kind.ItemKind.TheVariants as kinds
 use Rattle.sentry_records.specs.Logs.{log_cell}
 use Rattle.sentry_records.specs.Metrics.{metric_cell}
 use Rattle.sentry_items.specs.Attached.{attachment_header, short_header}
-use Rattle.sentry_items.specs.Containers.{container_cell, container_kind, container_len, container_type, content_type}
-use Rattle.sentry_items.specs.HeaderTokens.{header_text}
+use Rattle.sentry_items.specs.Containers.{container_cell, container_kind, container_len, container_type, content_type, counted_header, counting_header}
+use Rattle.sentry_items.specs.HeaderText.{header_text}
 use Rattle.sentry_items.specs.Payload.{AppendsPayload}
 use Rattle.sentry_items.specs.View.{ItemView, value as value_view, attachment_view, item_held, kind_held, payload_kind}
 use Rattle.sentry_items.specs.declared.attachment.Attachment.{Attachment}
@@ -30,11 +30,11 @@ use Rattle.sentry_items.specs.declared.item.EnvelopeItem.{EnvelopeItem}
 use Rattle.sentry_items.specs.declared.item.EnvelopeItem.TheVariants as variants
 use Rattle.sentry_items.proofs.Containers.{container_lawful}
 use Rattle.sentry_envelope.specs.EnvelopeView.{item_view, placed, AreStoredAndPlain}
-use Rattle.sentry_envelope.specs.ItemText.{counted_header, value_text, AppendsValue}
+use Rattle.sentry_envelope.specs.ItemText.{value_text, AppendsValue}
 use Rattle.sentry_envelope.specs.HeaderFields.{header_kind, fill_id}
 use Rattle.sentry_envelope.specs.Profile.{json_form, container_form, ItemType, Profile, TypesAreLawful}
 use Rattle.sentry_envelope.specs.SentryProfile.{form_of, gives_of, item_types, profile}
-use Rattle.sentry_envelope.specs.Envelope.{Item, item, raw, value, count, container_header, counting_header, frame_text, frame_of_item, items_text, envelope_text, stored_content, plain_content, ContentDemand, ContentMeetsAt, ItemsMeet}
+use Rattle.sentry_envelope.specs.Envelope.{Item, item, raw, value, count, container_header, frame_text, frame_of_item, items_text, envelope_text, stored_content, plain_content, ContentDemand, ContentMeetsAt, ItemsMeet}
 use Rattle.sentry_envelope.proofs.EnvelopeTypes.{IsAt, meets_at, frame_is, lawful_at}
 use Rattle.sentry_envelope.proofs.SentryProfile.{profile_lawful, type_at}
 
@@ -125,19 +125,20 @@ module _ {E : Type 0} (r : Result (Unit {0}) E) where
   attachment_sent i old before new a is headed sent =
       subst (Sends old new) (sym is) (then_ok r _ _ (λ e both. e) (ended old before new (header_text (attachment_header (codes "attachment") (attachment_view a))) a.buffer.items headed sent))
 
-  pub recording_sent : (i : EnvelopeItem) (old new header : List ℕ) (x : ReplayRecording) → i ≡ variants.ReplayRecording x → header ≡ header_text (short_header (codes "replay_recording") x.buffer.items)
-      → IsSent old new header x.buffer.items → Sends old new i
+  pub recording_sent : (i : EnvelopeItem) (old before new : List ℕ) (x : ReplayRecording) → i ≡ variants.ReplayRecording x → before ≡ old ++ header_text (short_header (codes "replay_recording") x.buffer.items)
+      → IsEnded before new x.buffer.items → Sends old new i
   unfolding profile header_text
-  recording_sent i old new header x is headed sent = subst (Sends old new) (sym is) (then_ok r _ _ (λ e both. e) (subst (λ h. IsSent old new h x.buffer.items) headed sent))
+  recording_sent i old before new x is headed sent =
+      subst (Sends old new) (sym is) (then_ok r _ _ (λ e both. e) (ended old before new (header_text (short_header (codes "replay_recording") x.buffer.items)) x.buffer.items headed sent))
 
   -- a header that states the length of a JSON text, and the text
-  pub value_framed : (v : ItemView) (k : ItemKind) (old new header text : List ℕ) → Some k ≡ kind_held v → AppendsPayload v [] text → header ≡ header_text (short_header (kind_word k) text)
-      → IsSent old new header text → OnOk r (AppendsValue v old new)
-  value_framed (value_view j c) k old new header text is texts headed sent =
+  pub value_framed : (v : ItemView) (k : ItemKind) (old before new text : List ℕ) → Some k ≡ kind_held v → AppendsPayload v [] text → before ≡ old ++ header_text (short_header (kind_word k) text)
+      → IsEnded before new text → OnOk r (AppendsValue v old new)
+  value_framed (value_view j c) k old before new text is texts headed sent =
       then_ok r _ _ (λ e whole.
-      e ∙ ap (λ h. old ++ with_line h (with_line text [])) headed ∙ ap (λ word. old ++ value_text word text) (ap kind_word (same_Some k j is))
-      ∙ ap (λ t. old ++ value_text (kind_word j) t) (texts whole)) sent
-  value_framed _ k old new header text is texts headed sent = then_ok r _ _ (λ e. tt) sent
+      e ∙ ap (λ word. old ++ value_text word text) (ap kind_word (same_Some k j is)) ∙ ap (λ t. old ++ value_text (kind_word j) t) (texts whole))
+      (ended old before new (header_text (short_header (kind_word k) text)) text headed sent)
+  value_framed _ k old before new text is texts headed sent = then_ok r _ _ (λ e. tt) sent
 
   -- of a type whose payload is one JSON text
   json_sent : (k : ItemKind) (c : Cell) (i : EnvelopeItem) (old new : List ℕ) → item_held i ≡ value_view k c → form_of k ≡ json_form (payload_kind k)
@@ -176,12 +177,12 @@ module _ {E : Type 0} (r : Result (Unit {0}) E) where
   counted_sent (containers.Metrics metrics) i old new is sent =
       listed_sent _ _ _ _ _ (type_at kinds.Metrics) i old new _ (ap item_view is) (subst (SendsContainer (containers.Metrics metrics) old new) (sym (count_listed metric_cell metrics.items)) sent)
 
-  pub container_sent : (k : ItemContainer) (i : EnvelopeItem) (old new header text : List ℕ) → i ≡ variants.ItemContainer k → AppendsPayload (item_held i) [] text → header ≡ header_text (counted_header k)
-      → IsSent old new header text → Sends old new i
-  container_sent k i old new header text is texts headed sent =
+  pub container_sent : (k : ItemContainer) (i : EnvelopeItem) (old before new text : List ℕ) → i ≡ variants.ItemContainer k → AppendsPayload (item_held i) [] text → before ≡ old ++ header_text (counted_header k)
+      → IsEnded before new text → Sends old new i
+  container_sent k i old before new text is texts headed sent =
       let own : has_float (container_tree k) ≡ false → text ≡ compact_text (container_tree k) = subst (λ x. AppendsPayload (item_held x) [] text) is texts in
       counted_sent k i old new is
-      (then_ok r _ _ (λ e whole. e ∙ ap₂ (λ h t. old ++ with_line h (with_line t [])) headed (own whole)) sent)
+      (then_ok r _ _ (λ e whole. e ∙ ap (λ t. old ++ with_line (header_text (counted_header k)) (with_line t [])) (own whole)) (ended old before new (header_text (counted_header k)) text headed sent))
 
 -- ---- an envelope
 

@@ -26,13 +26,7 @@ lent_behind ps all p end none more own empty =
 pub end_grows : (parts old new more : List ℕ) → new ≡ old ++ more → parts ++ new ≡ (parts ++ old) ++ more
 end_grows parts old new more is = ap (λ s. parts ++ s) is ∙ sym (append_assoc parts old more)
 
--- a line feed behind a header, a payload, and a line feed
-pub line_sent : (old header begun told all payload : List ℕ) → begun ≡ (old ++ header) ++ newline ∷ [] → told ≡ begun ++ payload → all ≡ told ++ newline ∷ [] → all ≡ old ++ with_line header (with_line payload [])
-line_sent old header begun told all payload is more end =
-    let ended = payload ++ newline ∷ [] in
-    end ∙ ap (λ s. s ++ newline ∷ []) (more ∙ ap (λ s. s ++ payload) is) ∙ append_assoc ((old ++ header) ++ newline ∷ []) payload (newline ∷ []) ∙ append_assoc (old ++ header) (newline ∷ []) ended ∙ append_assoc old header (newline ∷ ended)
-
--- the same of a header that is told
+-- a line feed behind a header that is told, a payload, and a line feed
 pub rest_sent : (old begun told all payload : List ℕ) → begun ≡ old ++ newline ∷ [] → told ≡ begun ++ payload → all ≡ told ++ newline ∷ [] → all ≡ old ++ with_line [] (with_line payload [])
 rest_sent old begun told all payload is more end =
     end ∙ ap (λ s. s ++ newline ∷ []) (more ∙ ap (λ s. s ++ payload) is) ∙ append_assoc (old ++ newline ∷ []) payload (newline ∷ []) ∙ append_assoc old (newline ∷ []) (payload ++ newline ∷ [])

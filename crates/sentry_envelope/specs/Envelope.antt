@@ -1,6 +1,6 @@
 -- Structured envelopes: what bytes spell one, its text and its normal form.
-use Rattle.std.specs.Prelude.{◌≡◌, ◌<◌, ◌≤◌, ◌^◌, ℕ, zero, suc, List, [], ◌∷◌, length, Option, Some, None, option_map, unwrap_or, codes, ⊤}
-use Rattle.serde_json.specs.Data.{number, unsigned, string, object, Members, no_members, member, depth}
+use Rattle.std.specs.Prelude.{◌≡◌, ◌<◌, ◌≤◌, ◌^◌, ℕ, zero, suc, List, [], ◌∷◌, length, Option, Some, None, option_map, unwrap_or, ⊤}
+use Rattle.serde_json.specs.Data.{object, Members, depth}
 use Rattle.serde_json.specs.Written.{compact_text}
 use Rattle.sentry_tables.specs.Cell.{Cell, absent, Cells, no_cells, cell}
 use Rattle.sentry_tables.specs.Kind.{Kind}
@@ -13,7 +13,7 @@ use Rattle.sentry_items.specs.Attached.{Attached, short_header, attachment_heade
 use Rattle.sentry_framing.specs.Framing.{Frame, Reading, IsLineAndBody, IsFirstFrame, with_line}
 use Rattle.sentry_framing.specs.ItemHeader.{Header, read_header, stated_length}
 use Rattle.sentry_envelope.specs.Profile.{Form, attachment_form, opaque_form, json_form, container_form, ItemType, words, Profile}
-use Rattle.sentry_items.specs.Containers.{container_kind}
+use Rattle.sentry_items.specs.Containers.{container_kind, counting_header}
 
 -- ---- values
 
@@ -124,13 +124,6 @@ payload_by f (opaque b) = b
 payload_by (json_form K) (value c) = compact_text (tree K c)
 payload_by (container_form content_type K) (value c) = compact_text (tree (container_kind K) c)
 payload_by _ (value c) = []
-
--- the header of a container of so many items: keys in byte order
-abbrev pub counting_header : List ℕ → List ℕ → ℕ → Members
-counting_header word content_type n =
-    member (codes "content_type") (string content_type)
-    (member (codes "item_count") (number (unsigned n))
-    (member (codes "type") (string word) no_members))
 
 -- the header of a container
 abbrev pub container_header : List ℕ → List ℕ → Cell → Members

@@ -1,20 +1,12 @@
--- The text of an item whose payload is JSON: the header of a container counts its values, and any other states the payload's length.
+-- The text of an item whose payload is JSON, other than a container: its header states the payload's length.
 use Rattle.std.specs.Prelude.{◌≡◌, ℕ, List, [], ◌++◌, false, ⊤}
-use Rattle.serde_json.specs.Data.{Members}
 use Rattle.serde_json.specs.Written.{compact_text, has_float}
 use Rattle.sentry_tables.specs.Written.{tree}
 use Rattle.sentry_framing.specs.Framing.{with_line}
 use Rattle.sentry_framing.specs.ItemWords.{kind_word}
 use Rattle.sentry_items.specs.Attached.{short_header}
-use Rattle.sentry_items.specs.Containers.{container_len, container_type, content_type}
-use Rattle.sentry_items.specs.HeaderTokens.{header_text}
+use Rattle.sentry_items.specs.HeaderText.{header_text}
 use Rattle.sentry_items.specs.View.{ItemView, value, payload_kind}
-use Rattle.sentry_items.specs.declared.container.ItemContainer.{ItemContainer}
-use Rattle.sentry_envelope.specs.Envelope.{counting_header}
-
--- the header of a container
-abbrev pub counted_header : ItemContainer → Members
-counted_header container = counting_header (kind_word (container_type container)) (content_type container) (container_len container)
 
 -- a header that states the payload's length, and the payload, each ended by NL
 abbrev pub value_text : List ℕ → List ℕ → List ℕ

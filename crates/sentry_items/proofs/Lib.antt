@@ -1,9 +1,9 @@
 pub mod AttachmentTypes
 pub mod Containers
 pub mod Items
-pub mod HeaderTokens
+pub mod HeaderText
+pub mod Runs
 pub mod Made
 pub mod Sent
-pub mod PlainHeader
 pub mod Cut
 pub mod SameLosses

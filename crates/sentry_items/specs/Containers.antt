@@ -1,6 +1,6 @@
 -- Containers: many values of one type in one item.
 use Rattle.std.specs.Prelude.{◌≡◌, ℕ, List, [], ◌∷◌, length, codes, true, refl}
-use Rattle.serde_json.specs.Data.{no_members}
+use Rattle.serde_json.specs.Data.{number, unsigned, string, Members, no_members, member}
 use Rattle.sentry_tables.specs.Cell.{Cell, fields, no_cells, cell}
 use Rattle.sentry_tables.specs.Fields.{Field, field, rows_of}
 use Rattle.sentry_tables.specs.Kind.{Kind, list, must, ignored, table, no_rows, row, keys}
@@ -8,6 +8,7 @@ use Rattle.sentry_tables.specs.Written.{in_order}
 use Rattle.sentry_tables.specs.Cells.{list_cell}
 use Rattle.sentry_records.specs.Logs.{log_cell}
 use Rattle.sentry_records.specs.Metrics.{metric_cell}
+use Rattle.sentry_framing.specs.ItemWords.{kind_word}
 use Rattle.sentry_framing.specs.declared.kind.ItemKind.{ItemKind}
 use Rattle.sentry_framing.specs.declared.kind.ItemKind.TheVariants as kinds
 use Rattle.sentry_items.specs.declared.container.ItemContainer.{ItemContainer}
@@ -48,6 +49,17 @@ metric_content_type = codes "application/vnd.sentry.items.trace-metric+json"
 abbrev pub content_type : ItemContainer → List ℕ
 content_type (container.Logs logs) = log_content_type
 content_type (container.Metrics metrics) = metric_content_type
+
+-- the header of a container of so many items: keys in byte order
+abbrev pub counting_header : List ℕ → List ℕ → ℕ → Members
+counting_header word content_type n =
+    member (codes "content_type") (string content_type)
+    (member (codes "item_count") (number (unsigned n))
+    (member (codes "type") (string word) no_members))
+
+-- the header of a container
+abbrev pub counted_header : ItemContainer → Members
+counted_header container = counting_header (kind_word (container_type container)) (content_type container) (container_len container)
 
 -- ---- the payload as a table of one row
 

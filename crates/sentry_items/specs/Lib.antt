@@ -3,11 +3,10 @@ pub mod Attached
 pub mod AttachmentWords
 pub mod Containers
 pub mod Counted
-pub mod HeaderTokens
+pub mod HeaderText
 pub mod Made
 pub mod Meets
 pub mod Payload
-pub mod PlainHeader
 pub mod View
 pub mod Losses
 pub mod Sizes

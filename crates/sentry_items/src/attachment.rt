@@ -1,19 +1,15 @@
 //! Attachments: files that are sent in an envelope.
 
 ghost use Rattle.std.specs.Prelude.{◌≡◌, ◌++◌, ℕ, List, codes, IfOk, OnOk};
-ghost use Rattle.sentry_items.specs.Attached.{attachment_header};
-ghost use Rattle.sentry_items.specs.HeaderTokens.{header_text};
 ghost use Rattle.sentry_items.specs.View.{attachment_view};
 
 use crate::attachment_type::AttachmentType;
 use crate::counted::send_both;
-use crate::header::write_last_members;
-use crate::plain_header::{is_plain, write_plain_header};
-use json::Writer;
+use crate::header::write_attachment_header;
 use sentry_tables::{Member, Way};
 use std::alloc::{AllocError, Global};
+use std::fmt;
 use std::io::Write;
-use std::{fmt, mem};
 use thiserror::Error;
 
 /// A file sent in an envelope, such as a log or a minidump.
@@ -54,14 +50,10 @@ pub enum AttachmentWriteError {
 impl Attachment {
     ghost use Rattle.std.specs.Prelude.{◌≡◌, ℕ, List, ◌∷◌, ◌++◌, [], None, codes, IfOk, OnOk, IsTrue, option_map, string_bytes};
     ghost use Rattle.std.specs.Io.KnownBytes.{Appends, Keeps};
-    ghost use Rattle.json.specs.Print.{escape};
-    ghost use Rattle.json.specs.Token.{begin_object};
     ghost use Rattle.sentry_items.specs.Attached.{attached_type, attached_content_type, attachment_header, attachment_text, attached_norm, IsAttachedStored, IsTypeOption, IsUtf8Option};
     ghost use Rattle.sentry_items.specs.AttachmentWords.{attachment_type_text};
     ghost use Rattle.sentry_items.specs.Counted.{AppendsFront};
-    ghost use Rattle.sentry_items.specs.HeaderTokens.{header_text, member_tokens};
     ghost use Rattle.sentry_items.specs.Made.{attached_made};
-    ghost use Rattle.sentry_items.specs.PlainHeader.{HasPlainTexts};
     ghost use Rattle.sentry_items.specs.View.{attachment_type_cell, attachment_view};
 
     /// Creates an attachment of no bytes, with an empty file name and without types.
@@ -154,7 +146,7 @@ impl Attachment {
         true
     }
 
-    fn written_type(&self) -> &str
+    pub(crate) fn written_type(&self) -> &str
         ensures text { result.now ≡
             attachment_type_text (attached_type (attachment_view self.now)) }
         ensures stored { IsTypeOption (attachment_view self.now).ty }
@@ -165,7 +157,7 @@ impl Attachment {
         }
     }
 
-    fn written_content_type(&self) -> &str
+    pub(crate) fn written_content_type(&self) -> &str
         ensures text { result.now ≡ attached_content_type (attachment_view self.now) }
         ensures stored { IsUtf8Option (attachment_view self.now).content_type }
     {
@@ -175,74 +167,13 @@ impl Attachment {
         }
     }
 
-    // Writes the item header.
-    #[tactic(auto, unfolding(crate::specs::HeaderTokens::member_tokens))]
-    fn write_tokens(&self, writer: &mut Writer) -> Result<(), AllocError>
-        ensures ok { OnOk result (writer.new.tokens ≡ writer.old.tokens ++
-            begin_object ∷
-            member_tokens (attachment_header (codes "attachment") (attachment_view self.now))) }
-        ensures before { writer.new.before ≡ writer.old.before }
-    {
-        writer.begin_object()?;
-        writer.key("attachment_type")?;
-        writer.string(self.written_type())?;
-        writer.key("content_type")?;
-        writer.string(self.written_content_type())?;
-        writer.key("filename")?;
-        writer.string(self.filename.as_str())?;
-        write_last_members("attachment", &self.buffer, writer)
-    }
-
-    // Whether none of the header's texts needs an escape.
-    fn has_plain_texts(&self) -> bool
-        ensures { IsTrue result → HasPlainTexts (attachment_view self.now) }
-    {
-        self.has_plain_type() && self.has_plain_content_type() && is_plain(self.filename.as_bytes())
-    }
-
-    fn has_plain_type(&self) -> bool
-        ensures { IsTrue result →
-            escape (attachment_type_text (attached_type (attachment_view self.now))) ≡
-            attachment_type_text (attached_type (attachment_view self.now)) }
-    {
-        match &self.ty {
-            Some(ty) => is_plain(ty.as_str().as_bytes()),
-            None => true,
-        }
-    }
-
-    fn has_plain_content_type(&self) -> bool
-        ensures { IsTrue result →
-            escape (attached_content_type (attachment_view self.now)) ≡
-            attached_content_type (attachment_view self.now) }
-    {
-        match &self.content_type {
-            Some(text) => is_plain(text.as_bytes()),
-            None => true,
-        }
-    }
-
-    // Appends the header by a JSON writer, for any types and file name.
-    fn write_any_header(&self, out: &mut Vec<u8>) -> Result<(), AllocError>
-        ensures ok { OnOk result (out.new.items ≡ out.old.items ++
-            header_text (attachment_header (codes "attachment") (attachment_view self.now))) }
-        ensures kept { (part : List ℕ) × (out.new.items ≡ out.old.items ++ part) }
-    {
-        let alloc = *out.allocator();
-        let mut writer = Writer::new(mem::replace(out, Vec::new(alloc)));
-        let outcome = self.write_tokens(&mut writer);
-        *out = writer.into_inner();
-        outcome
-    }
-
     // Returns the item header with a line feed at the end.
     fn header_line(&self, alloc: Global) -> Result<Vec<u8>, AllocError>
         ensures { IfOk result (λ line.
             line.items ++ self.now.buffer.items ≡ attachment_text (attachment_view self.now)) }
     {
         let mut line = Vec::with_capacity(alloc, USUAL_HEADER)?;
-        let mut unusual = Vec::new(alloc);
-        write_header(self, &mut unusual, &mut line)?;
+        write_attachment_header(self, &mut line)?;
         line.push(b'\n')?;
         Ok(line)
     }
@@ -274,38 +205,6 @@ impl Attachment {
             Ok(()) => Ok(()),
             Err(_) => Err(AttachmentWriteError::Io),
         }
-    }
-}
-
-/// Appends the item header of an attachment.
-///
-/// If a text needs an escape, the header is first built in `line`, in place of the contents of
-/// `line`: a JSON writer clears memory ahead of what it writes.
-///
-/// # Errors
-///
-/// `AllocError` if an allocation fails; a part of the header may have been appended.
-pub fn write_header(
-    attachment: &Attachment,
-    line: &mut Vec<u8>,
-    out: &mut Vec<u8>,
-) -> Result<(), AllocError>
-    ensures ok { OnOk result (out.new.items ≡ out.old.items ++
-        header_text (attachment_header (codes "attachment") (attachment_view attachment.now))) }
-    ensures kept { (part : List ℕ) × (out.new.items ≡ out.old.items ++ part) }
-{
-    if attachment.has_plain_texts() {
-        write_plain_header(
-            attachment.written_type(),
-            attachment.written_content_type(),
-            attachment.filename.as_str(),
-            attachment.buffer.len(),
-            out,
-        )
-    } else {
-        line.clear();
-        attachment.write_any_header(line)?;
-        out.extend_from_slice(line)
     }
 }
 

@@ -5,12 +5,12 @@ pub mod attachment;
 pub mod attachment_type;
 pub mod container;
 pub mod counted;
+mod escaped;
 pub mod header;
 pub mod item;
 pub mod laws;
 mod listed;
 pub mod loss;
-mod plain_header;
 pub mod replay_recording;
 mod sizes;
 

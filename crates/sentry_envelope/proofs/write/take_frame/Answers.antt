@@ -1,0 +1,12 @@
+use Rattle.sentry_envelope.specs.Texts.{bytes_of, parts_bytes}
+use Rattle.sentry_envelope.proofs.Texts.{end_grows, rest_sent}
+use Rattle.sentry_envelope.proofs.write.take_frame.Goals as goal
+
+pub returns : goal.returns
+returns c =
+    let old = c.args.text.now in
+    let told = c.take.new.self in
+    rest_sent (bytes_of old) _ (bytes_of told) _ c.args.payload.now.items
+    (end_grows (parts_bytes old.parts.items) old.end.items c.push.new.self.items _ c.in_ok-push.ensures.items)
+    c.in_ok-take.ensures
+    (end_grows (parts_bytes told.parts.items) told.end.items c.push-2.new.self.items _ c.in_ok-push-2.ensures.items)
