@@ -33,3 +33,4 @@ pub mod LossLemmas
 pub mod FilterLemmas
 pub mod Equal
 pub mod Accepted
+pub mod HeaderIds

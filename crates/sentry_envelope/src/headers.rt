@@ -1,19 +1,20 @@
 //! Envelope headers.
 
-ghost use Rattle.std.specs.Prelude.{◌≡◌, ◌⊎◌, IfErr, OnOk};
+ghost use Rattle.std.specs.Prelude.{◌≡◌, ◌⊎◌, IfErr, IfSome, OnOk, Some};
 ghost use Rattle.sentry_tables.specs.Reading.{Only, Refused, Shown, TextRefused, TextShown};
 ghost use Rattle.sentry_json.specs.TapeView.{node_data};
-ghost use Rattle.sentry_envelope.specs.HeaderFields.{header_fields, header_in_order, header_kind, headers_cell};
+ghost use Rattle.sentry_envelope.specs.EnvelopeView.{no_fields};
+ghost use Rattle.sentry_envelope.specs.HeaderFields.{header_fields, header_in_order, header_kind, headers_cell, put_id};
 
 use sentry_framing::EnvelopeError;
 use sentry_identifiers::Hyphenated;
-use sentry_json::{Node, TapeNode};
+use sentry_json::{Node, TapeNode, look_up};
 use sentry_keys::Dsn;
 use sentry_moments::{Moment, Rfc3339};
 use sentry_parts::ClientSdkInfo;
 use sentry_records::DynamicSamplingContext;
 use sentry_rows::{AsTable, Copier, CopyTable, ReadTable, Reader, Sink, Table};
-use sentry_tables::{Formed, LineReader, Member, TreeError};
+use sentry_tables::{Formed, LineReader, Member, ReadCodec, TreeError};
 use std::alloc::{AllocError, Global};
 use uuid::Uuid;
 
@@ -247,6 +248,34 @@ pub(crate) fn read_header_line<'a>(
     }
 }
 
+// As long as a header line with an event id alone is, but for white space.
+const ID_ALONE: usize = 64;
+
+// The event id of a header line that has it and no other field, as that of some SDKs: such a line
+// needs no tape. `None` for any other line.
+fn id_alone(alloc: Global, line: &[u8]) -> Option<Uuid>
+    ensures { IfSome result (λ id.
+        TextShown header_kind line.now (put_id (Some id) no_fields)) }
+{
+    if line.len() > ID_ALONE {
+        return None;
+    }
+    let mut places = [None, None, None, None, None];
+    look_up(
+        line,
+        &["event_id", "dsn", "sdk", "sent_at", "trace"],
+        &mut places,
+    )?;
+    let id = places[0]?;
+    if places[1].is_some() || places[2].is_some() || places[3].is_some() || places[4].is_some() {
+        return None;
+    }
+    match Hyphenated::from_node(alloc, &id) {
+        Ok(id) => Some(id),
+        Err(_) => None,
+    }
+}
+
 fn fill_headers<'a>(
     lines: &mut LineReader<'a>,
     line: &'a [u8],
@@ -262,6 +291,10 @@ fn fill_headers<'a>(
         return Ok(());
     }
     let alloc = lines.alloc();
+    if let Some(id) = id_alone(alloc, line) {
+        *headers = EnvelopeHeaders::new().with_id(Some(id));
+        return Ok(());
+    }
     match lines.root(line) {
         Some(root) => fill_from_root(alloc, &root, headers),
         None => fill_from_line(lines, line, headers),

@@ -1,18 +1,24 @@
-use Rattle.std.proofs.Common.{rules, ◌≡◌}
+use Rattle.std.proofs.Common.{rules, ◌≡◌, Some, sym, ap, subst, ◌∙◌}
 use Rattle.std.specs.Prelude.{codes}
 use Rattle.sentry_json.specs.TapeView.{node_data}
+use Rattle.sentry_tables.specs.Reading.{TextShown}
+use Rattle.sentry_envelope.specs.HeaderFields.{header_kind, put_id}
 use Rattle.sentry_envelope.proofs.HeadersFilled.{line_filled, none_filled}
 use Rattle.sentry_envelope.proofs.headers.fill_headers.Goals as goal
 
 pub returns-in-Some-clause-ok : goal.returns-in-Some-clause-ok
 returns-in-Some-clause-ok c =
-    let f = c.fill_from_root in
-    (line_filled c.args.line.now (node_data c.in-Some.root) f.new.headers f.result c.in-Some.ensures f.ensures.ok f.ensures.err).0
+    subst (TextShown header_kind c.args.line.now) (sym (c.with_id.ensures ∙ ap (put_id (Some c.in-Some.id)) c.new-in-Some.ensures)) c.in-Some.ensures
 
-pub returns-in-Some-clause-err : goal.returns-in-Some-clause-err
-returns-in-Some-clause-err c =
+pub returns-in-Some-root-clause-ok : goal.returns-in-Some-root-clause-ok
+returns-in-Some-root-clause-ok c =
     let f = c.fill_from_root in
-    (line_filled c.args.line.now (node_data c.in-Some.root) f.new.headers f.result c.in-Some.ensures f.ensures.ok f.ensures.err).1
+    (line_filled c.args.line.now (node_data c.in-Some-root.root) f.new.headers f.result c.in-Some-root.ensures f.ensures.ok f.ensures.err).0
+
+pub returns-in-Some-root-clause-err : goal.returns-in-Some-root-clause-err
+returns-in-Some-root-clause-err c =
+    let f = c.fill_from_root in
+    (line_filled c.args.line.now (node_data c.in-Some-root.root) f.new.headers f.result c.in-Some-root.ensures f.ensures.ok f.ensures.err).1
 
 pub returns-then-eq-clause-ok : goal.returns-then-eq-clause-ok
 returns-then-eq-clause-ok c =
