@@ -3,7 +3,7 @@
 use crate::said::{debug, list, refused, text};
 use bumpalo::Bump;
 use rand_pcg::Pcg32;
-use sentry_json::Tape;
+use sentry_json::{Scalar, Tape, look_up};
 use sentry_types::protocol::v7::value::Writer;
 use sentry_types::protocol::v7::{
     Codec, FromTree, FromTreeAt, Member, Moment, Node, Own, ReadCodec, ReadCodecAt, TreeError,
@@ -289,5 +289,23 @@ pub fn of_tape(alloc: Global, line: &[u8]) -> Result<Value, AllocError> {
     match read_tree(alloc, line) {
         Ok(tree) if are_alike(alloc, &tree, &root.to_value(alloc)?) => Ok(Value::from(true)),
         _ => text(alloc, "two answers"),
+    }
+}
+
+// A scalar as a tree; null where there is none.
+fn found(alloc: Global, place: &Option<Scalar<'_>>) -> Result<Value, AllocError> {
+    match place {
+        Some(scalar) => scalar.to_value(alloc),
+        None => Ok(Value::Null),
+    }
+}
+
+/// What a line has at the keys `a` and `b` by the way without a tape; `false` if that doesn't take
+/// the line.
+pub fn of_flat(alloc: Global, line: &[u8]) -> Result<Value, AllocError> {
+    let mut places = [None, None];
+    match look_up(line, &["a", "b"], &mut places) {
+        Some(()) => list(alloc, [found(alloc, &places[0]), found(alloc, &places[1])]),
+        None => Ok(Value::from(false)),
     }
 }
