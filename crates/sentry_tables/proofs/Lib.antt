@@ -21,8 +21,10 @@ pub mod ByRows
 pub mod WrittenAs
 pub mod Collections
 pub mod Equal
+pub mod Inserted
 pub mod ListsShown
 pub mod Listed
+pub mod ManyShown
 pub mod ScalarsShown
 pub mod Sorted
 pub mod SoundTrees

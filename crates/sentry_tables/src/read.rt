@@ -1,19 +1,20 @@
 //! Reading of values from JSON trees.
 
-ghost use Rattle.std.specs.Prelude.{◌≡◌, ◌^◌, option_map, option_and_then};
+ghost use Rattle.std.specs.Prelude.{◌≡◌, ◌^◌, option_map, option_and_then, IfOk};
 ghost use Rattle.serde_json.specs.Find.{as_number};
 ghost use Rattle.serde_json.specs.View.{view};
-ghost use Rattle.sentry_json.specs.Nodes.{items_by};
+ghost use Rattle.sentry_json.specs.Nodes.{items_by, named_by};
 ghost use Rattle.sentry_tables.specs.Basic.{signed_at, pair_of};
-ghost use Rattle.sentry_tables.specs.Cell.{whole};
+ghost use Rattle.sentry_tables.specs.Cell.{Cell, whole};
 ghost use Rattle.sentry_tables.specs.Kind.{values as values_kind};
-ghost use Rattle.sentry_tables.specs.Cells.{pair_cell, list_cell};
+ghost use Rattle.sentry_tables.specs.Cells.{pair_cell, list_cell, entries};
 ghost use Rattle.sentry_tables.specs.Reading.{Reads};
+ghost use Rattle.sentry_tables.specs.Shows.{Shows, MembersShow};
 
 use crate::codec::{Codec, Own};
 use crate::error::TreeError;
 use crate::member::{Formed, Member};
-use sentry_json::Node;
+use sentry_json::{Named, Node};
 use serde_json::{Map, Value};
 use std::alloc::Global;
 use std::borrow::CowStr;
@@ -220,6 +221,31 @@ impl<T: FromTree> FromTree for Vec<T> {
     }
 }
 
+// So many members make a map at once: fewer are inserted one by one, which costs less then.
+const MANY: usize = 16;
+
+// Reads the members of an object into a map at once: they are sorted, and the map is built of them.
+//
+// # Errors
+//
+// `Misfit` if a member, which one of the same key may replace, is not a value of the type; `Memory`
+// if an allocation fails.
+#[inline(never)]
+fn read_many<T: FromTree, N: Node>(
+    alloc: Global,
+    members: &[Named<'_, N>],
+) -> Result<Map<String, T>, TreeError>
+    ensures { IfOk result (λ map. (now : Cell) → MembersShow (λ key. Shows T.kind now)
+        (named_by N.data_of members.now) (entries T.cell_of map.entries)) }
+{
+    let mut pairs = Vec::with_capacity(alloc, members.len())?;
+    for member in members {
+        let name = String::from_str(alloc, member.key)?;
+        pairs.push((name, T::from_node(alloc, &member.node)?))?;
+    }
+    Ok(pairs.into_iter().collect(alloc)?)
+}
+
 // Of members with equal keys, the last counts: members are read from the last to the first.
 impl<T: FromTree> FromTree for Map<String, T> {
     fn from_node<N: Node>(alloc: Global, node: &N) -> Result<Map<String, T>, TreeError> {
@@ -227,6 +253,11 @@ impl<T: FromTree> FromTree for Map<String, T> {
             Some(members) => members,
             None => return Err(TreeError::Misfit),
         };
+        if members.len() >= MANY {
+            if let Ok(map) = read_many(alloc, &members) {
+                return Ok(map);
+            }
+        }
         let mut map = Map::new(alloc);
         let mut left = members.len();
         while left > 0 {

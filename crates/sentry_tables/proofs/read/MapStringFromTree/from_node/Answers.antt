@@ -15,6 +15,9 @@ use Rattle.sentry_tables.proofs.read.MapStringFromTree.from_node.Goals as goal
 pub returns-in-None : goal.returns-in-None
 returns-in-None g c = not_map _ _ (search rules)
 
+pub returns-in-Ok : goal.returns-in-Ok
+returns-in-Ok g c = map_shown _ _ _ (named_by g.N.Node.data_of c.deref.result.now) _ (search rules) c.in-Ok.ensures
+
 pub loop-left-init : goal.loop-left-init
 loop-left-init g c = (omega arith, λ now. rw (drop_all c.len-left.result c.in-Some.members.items (omega arith), c.new-map.ensures.empty) tt)
 
