@@ -22,7 +22,7 @@ use sentry_tables::write_text;
 use std::alloc::{AllocError, Global};
 
 // Room for the text of a small envelope: a buffer that has it needn't grow step by step.
-const ROOM: usize = 512;
+const ROOM: usize = 4096;
 
 pub(crate) fn write_envelope<'e>(
     alloc: Global,
