@@ -5,7 +5,6 @@ use Rattle.std.proofs.lemmas.Fmt.{length-decimal-le}
 use Rattle.sentry_tables.specs.Spelling.{FitsRoom}
 use Rattle.sentry_moments.specs.Decimal.{decimal_text}
 use Rattle.sentry_moments.specs.Digits.{digits, digits_without_closing_zeros, fraction_text}
-use Rattle.sentry_moments.specs.MomentTexts.{civil_at, rfc3339_text}
 use Rattle.sentry_moments.specs.Rfc3339.{Civil, date_text, clock_text}
 use Rattle.sentry_moments.specs.SampleRand.{millionths, sample_rand_text}
 use Rattle.sentry_moments.proofs.Places.{length-digits, is_cut}
@@ -20,26 +19,13 @@ fraction_size n = go (eqb n 0)
 three_size : (byte : ℕ) (a b c : List ℕ) → length (a ++ (byte ∷ (b ++ (byte ∷ c)))) ≡ length a + length b + length c + 2
 three_size byte a b c = omega (arith, length-append a (byte ∷ (b ++ (byte ∷ c))), length-append b (byte ∷ c))
 
-date_size : (c : Civil) → length (date_text c) ≡ 10
+pub date_size : (c : Civil) → length (date_text c) ≡ 10
 unfolding date_text
 date_size c = omega (arith, three_size 45 (digits 4 c.year) (digits 2 c.month) (digits 2 c.day), length-digits 4 c.year, length-digits 2 c.month, length-digits 2 c.day)
 
-clock_size : (c : Civil) → length (clock_text c) ≡ 8
+pub clock_size : (c : Civil) → length (clock_text c) ≡ 8
 unfolding clock_text
 clock_size c = omega (arith, three_size 58 (digits 2 c.hour) (digits 2 c.minute) (digits 2 c.second), length-digits 2 c.hour, length-digits 2 c.minute, length-digits 2 c.second)
-
-pub rfc3339_fits : (secs nanos : ℕ) → FitsRoom (rfc3339_text secs nanos)
-rfc3339_fits secs nanos =
-    let c = civil_at secs in
-    omega (
-      arith,
-      length-append (date_text c) (84 ∷ (clock_text c ++ (fraction_text nanos ++ 90 ∷ []))),
-      length-append (clock_text c) (fraction_text nanos ++ 90 ∷ []),
-      length-append (fraction_text nanos) (90 ∷ []),
-      date_size c,
-      clock_size c,
-      fraction_size nanos,
-    )
 
 pub rate_fits : (n : ℕ) → n < 2 ^ 64 → FitsRoom (decimal_text (n / 10 ^ 9) (n % 10 ^ 9))
 rate_fits n small =

@@ -6,6 +6,7 @@ pub mod DecimalReadBack
 pub mod DecimalTexts
 pub mod Fronts
 pub mod Lengths
+pub mod MomentEnds
 pub mod MomentRange
 pub mod MomentSpellings
 pub mod MomentsShown

@@ -102,5 +102,18 @@ four_digits n =
     let three : n / 100 / 10 ≡ n / 1_000 = omega arith in
     rw (two, three) refl
 
+pub nine_digits : (n : ℕ) → digits 9 n ≡
+    (48 + n / 100_000_000 % 10) ∷ (48 + n / 10_000_000 % 10) ∷ (48 + n / 1_000_000 % 10) ∷ (48 + n / 100_000 % 10) ∷ (48 + n / 10_000 % 10) ∷ (48 + n / 1_000 % 10) ∷ (48 + n / 100 % 10) ∷ (48 + n / 10 % 10) ∷ (48 + n % 10) ∷ []
+unfolding digits
+nine_digits n =
+    let two : n / 10 / 10 ≡ n / 100 = omega arith in
+    let three : n / 100 / 10 ≡ n / 1_000 = omega arith in
+    let four : n / 1_000 / 10 ≡ n / 10_000 = omega arith in
+    let five : n / 10_000 / 10 ≡ n / 100_000 = omega arith in
+    let six : n / 100_000 / 10 ≡ n / 1_000_000 = omega arith in
+    let seven : n / 1_000_000 / 10 ≡ n / 10_000_000 = omega arith in
+    let eight : n / 10_000_000 / 10 ≡ n / 100_000_000 = omega arith in
+    rw (two, three, four, five, six, seven, eight) refl
+
 pub after_the_time : (c : Civil) (rest : List ℕ) → (date_text c ++ 84 ∷ clock_text c) ++ rest ≡ date_text c ++ (84 ∷ (clock_text c ++ rest))
 after_the_time c rest = append_assoc (date_text c) (84 ∷ clock_text c) rest

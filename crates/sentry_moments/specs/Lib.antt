@@ -3,6 +3,7 @@ pub mod Decimal
 pub mod DecimalScan
 pub mod Digits
 pub mod MomentForms
+pub mod MomentPlaces
 pub mod MomentTexts
 pub mod Moments
 pub mod Rfc3339

@@ -1,13 +1,11 @@
 //! JSON forms of moments: RFC 3339 strings, and whole seconds.
 
-ghost use Rattle.std.specs.Prelude.{◌≡◌, IfOk};
 ghost use Rattle.sentry_moments.specs.Moments.{moment_cell};
-ghost use Rattle.sentry_moments.specs.MomentForms.{moment_text, rfc3339_kind, seconds_kind};
+ghost use Rattle.sentry_moments.specs.MomentForms.{rfc3339_kind, seconds_kind};
 
-use crate::moment::Moment;
+use crate::moment::{LONGEST, Moment};
 use json::Writer;
 use sentry_json::Node;
-use sentry_tables::spelled::{Room, print_into};
 use sentry_tables::{Codec, ReadCodec, TreeError, Way};
 use serde_json::Value;
 use std::alloc::{AllocError, Global};
@@ -27,14 +25,6 @@ pub struct Rfc3339;
 /// <https://develop.sentry.dev/sdk/data-model/event-payloads/#required-attributes>
 pub struct Seconds;
 
-// Prints a moment as RFC 3339.
-#[tactic(auto, using(crate::proofs::Lengths::rfc3339_fits))]
-fn text<'a>(moment: &Moment, room: &'a mut Room) -> Result<&'a str, AllocError>
-    ensures { IfOk result (λ s. s.now ≡ moment_text (moment_cell moment.now)) }
-{
-    print_into(moment, room)
-}
-
 impl Codec<Moment> for Rfc3339 {
     ghost kind = { rfc3339_kind };
 
@@ -42,14 +32,14 @@ impl Codec<Moment> for Rfc3339 {
 
     #[tactic(auto, using(sentry_tables::proofs::Spellings::text_tree))]
     fn to_tree(value: &Moment, alloc: Global) -> Result<Value, AllocError> {
-        let mut room = Room::new();
-        Value::try_from_str(alloc, text(value, &mut room)?)
+        let mut room = [0; LONGEST];
+        Value::try_from_str(alloc, value.text(&mut room))
     }
 
     #[tactic(auto, using(sentry_tables::proofs::Spellings::spelling_wrote))]
     fn write(value: &Moment, out: &mut Writer) -> Result<(), AllocError> {
-        let mut room = Room::new();
-        out.string(text(value, &mut room)?)
+        let mut room = [0; LONGEST];
+        out.string(value.text(&mut room))
     }
 
     #[tactic(auto, using(sentry_tables::proofs::Ways::unchanged))]

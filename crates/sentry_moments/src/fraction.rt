@@ -1,6 +1,6 @@
 //! Decimal fractions of at most nine places, printed without trailing zeros.
 
-ghost use Rattle.std.specs.Prelude.{◌≡◌, ◌≤◌, ◌<◌, ◌^◌, ◌∷◌, ◌+◌, take, Some};
+ghost use Rattle.std.specs.Prelude.{◌≡◌, ◌≤◌, ◌<◌, ◌^◌, ◌∷◌, ◌+◌, length, take, Some};
 ghost use Rattle.sentry_moments.specs.Characters.{full_stop};
 ghost use Rattle.sentry_moments.specs.Digits.{digits, digits_without_closing_zeros, fraction_text};
 
@@ -28,6 +28,20 @@ fn without_closing_zeros(billionths: u32) -> (u32, usize)
         places -= 1;
     }
     (number, places)
+}
+
+// Returns how many places there are without trailing zeros.
+#[tactic(auto, using(crate::proofs::Places::cut_length, crate::proofs::Places::no_places))]
+pub(crate) fn places(billionths: u32) -> usize
+    requires small { billionths < 10 ^ 9 }
+    ensures value { result ≡ length (digits_without_closing_zeros 9 billionths) }
+    ensures within { result ≤ 9 }
+{
+    if billionths == 0 {
+        return 0;
+    }
+    let (_, places) = without_closing_zeros(billionths);
+    places
 }
 
 // Returns a point and the last `places` digits of a number; what follows them means nothing.

@@ -1,14 +1,14 @@
 //! Moments (timestamps), and their RFC 3339 and decimal texts.
 
 ghost use Rattle.std.specs.Prelude.{ℕ, ◌≡◌, ◌↔◌, ◌≤◌, ◌<◌, ◌^◌, ◌*◌, ◌+◌, ◌/◌, ◌∷◌, ◌++◌, IsSome, IfSome, IsSomeAnd, IfOk, Some, pos, string_bytes};
-ghost use Rattle.sentry_moments.specs.Characters.{upper_t};
 ghost use Rattle.sentry_moments.specs.Decimal.{IsDecimal, Billionths, decimal_text};
 ghost use Rattle.sentry_moments.specs.Rfc3339.{IsMomentTime, IsRfc3339, date_text, clock_text};
 ghost use Rattle.sentry_moments.specs.MomentTexts.{civil_at, day_after, rfc3339_text};
+ghost use Rattle.sentry_moments.specs.MomentPlaces.{end_of, with_places};
 
 use crate::decimal::{self, Decimal};
 use crate::digits::last_digit;
-use crate::fraction::Fraction;
+use crate::fraction::places;
 use crate::rfc3339;
 use jiff_core::civil::Date;
 use std::alloc::{AllocError, Global};
@@ -24,6 +24,9 @@ pub struct Moment {
     pub ghost secs_in_range: { secs ≤ 253_402_300_799 },
     pub ghost nanos_in_range: { nanos < 10 ^ 9 },
 }
+
+// Length of an RFC 3339 text in UTC with nine places, the longest.
+pub(crate) const LONGEST: usize = 30;
 
 // Nanoseconds from the beginning of 1970 to the end of the year 9999.
 const ALL_BILLIONTHS: u128 = 253_402_300_800_000_000_000;
@@ -146,12 +149,12 @@ impl Moment {
         }
     }
 
-    // Returns the date and the time in UTC, such as `2020-07-20T14:51:14`.
+    // Returns the date and the time in UTC with nine places, such as
+    // `2020-07-20T14:51:14.296000000Z`.
     #[inline(always)]
-    #[tactic(auto, using(crate::proofs::Padding::four_digits, crate::proofs::Padding::two_digits), unfolding(crate::specs::Rfc3339::date_text, crate::specs::Rfc3339::clock_text))]
-    fn date_and_time(&self) -> [u8; 19]
-        ensures { result ≡
-            date_text (civil_at self.now.secs) ++ upper_t ∷ clock_text (civil_at self.now.secs) }
+    #[tactic(auto, using(crate::proofs::Padding::four_digits, crate::proofs::Padding::two_digits, crate::proofs::Padding::nine_digits), unfolding(crate::specs::Rfc3339::date_text, crate::specs::Rfc3339::clock_text))]
+    fn with_nine_places(&self) -> [u8; LONGEST]
+        ensures { result ≡ with_places (civil_at self.now.secs) self.now.nanos }
     {
         let date = self.day();
         let (year, month) = (u32::from(date.year), u32::from(date.month));
@@ -177,7 +180,39 @@ impl Moment {
             b':',
             last_digit(second / 10),
             last_digit(second),
+            b'.',
+            last_digit(self.nanos / 100_000_000),
+            last_digit(self.nanos / 10_000_000),
+            last_digit(self.nanos / 1_000_000),
+            last_digit(self.nanos / 100_000),
+            last_digit(self.nanos / 10_000),
+            last_digit(self.nanos / 1_000),
+            last_digit(self.nanos / 100),
+            last_digit(self.nanos / 10),
+            last_digit(self.nanos),
+            b'Z',
         ]
+    }
+
+    // Returns how many bytes the text has before its `Z`.
+    fn end(&self) -> usize
+        ensures { result ≡ end_of self.now.nanos }
+    {
+        if self.nanos == 0 {
+            return 19;
+        }
+        20 + places(self.nanos)
+    }
+
+    // Writes the RFC 3339 text in UTC into `room`, and returns it.
+    pub(crate) fn text<'a>(&self, room: &'a mut [u8; LONGEST]) -> &'a str
+        ensures { result.now ≡ rfc3339_text self.now.secs self.now.nanos }
+    {
+        *room = self.with_nine_places();
+        let end = self.end();
+        room[end] = b'Z';
+        // SAFETY: the text is ASCII.
+        unsafe { str::from_utf8_unchecked(&room[..end + 1]) }
     }
 }
 
@@ -189,16 +224,11 @@ struct Day {
     day: u8,
 }
 
-#[tactic(auto, using(crate::proofs::Padding::after_the_time))]
 impl fmt::Display for Moment {
     ghost output = { λ m. Some (rfc3339_text m.secs m.nanos) };
 
     fn fmt<W: fmt::Write>(&self, f: &mut fmt::Formatter<W>) -> fmt::Result {
-        let text = self.date_and_time();
-        f.write_str(str::from_utf8(&text).map_err(|_| fmt::Error)?)?;
-        f.write(Fraction {
-            billionths: self.nanos,
-        })?;
-        f.write_str("Z")
+        let mut room = [0; LONGEST];
+        f.write_str(self.text(&mut room))
     }
 }
