@@ -95,25 +95,41 @@ pub two_digits : (n : ℕ) → digits 2 n ≡ (48 + n / 10 % 10) ∷ (48 + n % 1
 unfolding digits
 two_digits n = refl
 
-pub four_digits : (n : ℕ) → digits 4 n ≡ (48 + n / 1_000 % 10) ∷ (48 + n / 100 % 10) ∷ (48 + n / 10 % 10) ∷ (48 + n % 10) ∷ []
+-- the same of a number of which the last two digits are taken
+pub last_two_digits : (n : ℕ) → digits 2 n ≡ (48 + n % 100 / 10 % 10) ∷ (48 + n % 100 % 10) ∷ []
+unfolding digits
+last_two_digits n =
+    let tens : n % 100 / 10 % 10 ≡ n / 10 % 10 = omega arith in
+    let ones : n % 100 % 10 ≡ n % 10 = omega arith in
+    rw (tens, ones) refl
+
+pub four_digits : (n : ℕ) → digits 4 n ≡ (48 + n / 100 % 100 / 10 % 10) ∷ (48 + n / 100 % 100 % 10) ∷ (48 + n % 100 / 10 % 10) ∷ (48 + n % 100 % 10) ∷ []
 unfolding digits
 four_digits n =
     let two : n / 10 / 10 ≡ n / 100 = omega arith in
-    let three : n / 100 / 10 ≡ n / 1_000 = omega arith in
-    rw (two, three) refl
+    let first : n / 100 % 100 / 10 % 10 ≡ n / 100 / 10 % 10 = omega arith in
+    let second : n / 100 % 100 % 10 ≡ n / 100 % 10 = omega arith in
+    let third : n % 100 / 10 % 10 ≡ n / 10 % 10 = omega arith in
+    let fourth : n % 100 % 10 ≡ n % 10 = omega arith in
+    rw (two, first, second, third, fourth) refl
 
 pub nine_digits : (n : ℕ) → digits 9 n ≡
-    (48 + n / 100_000_000 % 10) ∷ (48 + n / 10_000_000 % 10) ∷ (48 + n / 1_000_000 % 10) ∷ (48 + n / 100_000 % 10) ∷ (48 + n / 10_000 % 10) ∷ (48 + n / 1_000 % 10) ∷ (48 + n / 100 % 10) ∷ (48 + n / 10 % 10) ∷ (48 + n % 10) ∷ []
+    (48 + n / 100_000_000 % 10) ∷ (48 + n / 1_000_000 % 100 / 10 % 10) ∷ (48 + n / 1_000_000 % 100 % 10) ∷ (48 + n / 10_000 % 100 / 10 % 10) ∷ (48 + n / 10_000 % 100 % 10) ∷ (48 + n / 100 % 100 / 10 % 10) ∷ (48 + n / 100 % 100 % 10) ∷ (48 + n % 100 / 10 % 10) ∷ (48 + n % 100 % 10) ∷ []
 unfolding digits
 nine_digits n =
     let two : n / 10 / 10 ≡ n / 100 = omega arith in
-    let three : n / 100 / 10 ≡ n / 1_000 = omega arith in
-    let four : n / 1_000 / 10 ≡ n / 10_000 = omega arith in
-    let five : n / 10_000 / 10 ≡ n / 100_000 = omega arith in
-    let six : n / 100_000 / 10 ≡ n / 1_000_000 = omega arith in
-    let seven : n / 1_000_000 / 10 ≡ n / 10_000_000 = omega arith in
-    let eight : n / 10_000_000 / 10 ≡ n / 100_000_000 = omega arith in
-    rw (two, three, four, five, six, seven, eight) refl
+    let four : n / 100 / 10 / 10 ≡ n / 10_000 = omega arith in
+    let six : n / 10_000 / 10 / 10 ≡ n / 1_000_000 = omega arith in
+    let eight : n / 1_000_000 / 10 / 10 ≡ n / 100_000_000 = omega arith in
+    let a : n / 1_000_000 % 100 / 10 % 10 ≡ n / 1_000_000 / 10 % 10 = omega arith in
+    let b : n / 1_000_000 % 100 % 10 ≡ n / 1_000_000 % 10 = omega arith in
+    let c : n / 10_000 % 100 / 10 % 10 ≡ n / 10_000 / 10 % 10 = omega arith in
+    let d : n / 10_000 % 100 % 10 ≡ n / 10_000 % 10 = omega arith in
+    let e : n / 100 % 100 / 10 % 10 ≡ n / 100 / 10 % 10 = omega arith in
+    let f : n / 100 % 100 % 10 ≡ n / 100 % 10 = omega arith in
+    let g : n % 100 / 10 % 10 ≡ n / 10 % 10 = omega arith in
+    let h : n % 100 % 10 ≡ n % 10 = omega arith in
+    rw (two, four, six, eight, a, b, c, d, e, f, g, h) refl
 
 pub after_the_time : (c : Civil) (rest : List ℕ) → (date_text c ++ 84 ∷ clock_text c) ++ rest ≡ date_text c ++ (84 ∷ (clock_text c ++ rest))
 after_the_time c rest = append_assoc (date_text c) (84 ∷ clock_text c) rest

@@ -1,6 +1,6 @@
 //! ASCII digits: a number's last digit, and the digits that a text begins with.
 
-ghost use Rattle.std.specs.Prelude.{◌≡◌, ◌≤◌, ◌+◌, ◌%◌, length};
+ghost use Rattle.std.specs.Prelude.{◌≡◌, ◌≤◌, ◌<◌, ◌+◌, ◌/◌, ◌%◌, length};
 ghost use Rattle.std.specs.Char.{is_ascii_digit};
 ghost use Rattle.std.specs.List.{prefix_len};
 ghost use Rattle.std.specs.Str.Parse.{AllDigits};
@@ -29,4 +29,15 @@ pub(crate) fn last_digit(number: u32) -> u8
     ensures { result ≡ zero_digit + number % 10 }
 {
     b'0' + (number % 10) as u8
+}
+
+// Returns the two digits of a number below 100.
+#[inline(always)]
+pub(crate) fn two_digits(number: u32) -> (u8, u8)
+    requires { number < 100 }
+    ensures tens { result.0 ≡ zero_digit + number / 10 % 10 }
+    ensures ones { result.1 ≡ zero_digit + number % 10 }
+{
+    let tens = number / 10;
+    (b'0' + tens as u8, b'0' + (number - 10 * tens) as u8)
 }

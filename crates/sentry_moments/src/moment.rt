@@ -7,7 +7,7 @@ ghost use Rattle.sentry_moments.specs.MomentTexts.{civil_at, day_after, rfc3339_
 ghost use Rattle.sentry_moments.specs.MomentPlaces.{end_of, with_places};
 
 use crate::decimal::{self, Decimal};
-use crate::digits::last_digit;
+use crate::digits::{last_digit, two_digits};
 use crate::fraction::places;
 use crate::rfc3339;
 use jiff_core::civil::Date;
@@ -152,44 +152,53 @@ impl Moment {
     // Returns the date and the time in UTC with nine places, such as
     // `2020-07-20T14:51:14.296000000Z`.
     #[inline(always)]
-    #[tactic(auto, using(crate::proofs::Padding::four_digits, crate::proofs::Padding::two_digits, crate::proofs::Padding::nine_digits), unfolding(crate::specs::Rfc3339::date_text, crate::specs::Rfc3339::clock_text))]
+    #[tactic(auto, using(crate::proofs::Padding::four_digits, crate::proofs::Padding::two_digits, crate::proofs::Padding::last_two_digits, crate::proofs::Padding::nine_digits), unfolding(crate::specs::Rfc3339::date_text, crate::specs::Rfc3339::clock_text))]
     fn with_nine_places(&self) -> [u8; LONGEST]
         ensures { result ≡ with_places (civil_at self.now.secs) self.now.nanos }
     {
         let date = self.day();
-        let (year, month) = (u32::from(date.year), u32::from(date.month));
-        let (day, hour) = (u32::from(date.day), (self.secs % 86_400 / 3_600) as u32);
-        let (minute, second) = ((self.secs % 3_600 / 60) as u32, (self.secs % 60) as u32);
+        let year = u32::from(date.year);
+        let year = (two_digits(year / 100 % 100), two_digits(year % 100));
+        let month = two_digits(u32::from(date.month) % 100);
+        let day = two_digits(u32::from(date.day) % 100);
+        let hour = two_digits((self.secs % 86_400 / 3_600) as u32);
+        let minute = two_digits((self.secs % 3_600 / 60) as u32);
+        let second = two_digits((self.secs % 60) as u32);
+        let place_1 = last_digit(self.nanos / 100_000_000);
+        let places_2_3 = two_digits(self.nanos / 1_000_000 % 100);
+        let places_4_5 = two_digits(self.nanos / 10_000 % 100);
+        let places_6_7 = two_digits(self.nanos / 100 % 100);
+        let places_8_9 = two_digits(self.nanos % 100);
         [
-            last_digit(year / 1_000),
-            last_digit(year / 100),
-            last_digit(year / 10),
-            last_digit(year),
+            year.0.0,
+            year.0.1,
+            year.1.0,
+            year.1.1,
             b'-',
-            last_digit(month / 10),
-            last_digit(month),
+            month.0,
+            month.1,
             b'-',
-            last_digit(day / 10),
-            last_digit(day),
+            day.0,
+            day.1,
             b'T',
-            last_digit(hour / 10),
-            last_digit(hour),
+            hour.0,
+            hour.1,
             b':',
-            last_digit(minute / 10),
-            last_digit(minute),
+            minute.0,
+            minute.1,
             b':',
-            last_digit(second / 10),
-            last_digit(second),
+            second.0,
+            second.1,
             b'.',
-            last_digit(self.nanos / 100_000_000),
-            last_digit(self.nanos / 10_000_000),
-            last_digit(self.nanos / 1_000_000),
-            last_digit(self.nanos / 100_000),
-            last_digit(self.nanos / 10_000),
-            last_digit(self.nanos / 1_000),
-            last_digit(self.nanos / 100),
-            last_digit(self.nanos / 10),
-            last_digit(self.nanos),
+            place_1,
+            places_2_3.0,
+            places_2_3.1,
+            places_4_5.0,
+            places_4_5.1,
+            places_6_7.0,
+            places_6_7.1,
+            places_8_9.0,
+            places_8_9.1,
             b'Z',
         ]
     }
