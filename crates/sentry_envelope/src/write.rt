@@ -22,7 +22,10 @@ use sentry_tables::write_text;
 use std::alloc::{AllocError, Global};
 
 // Room for the text of a small envelope: a buffer that has it needn't grow step by step.
-const ROOM: usize = 4096;
+const ROOM: usize = 512;
+
+// Room for a payload that is seldom small.
+const LARGE_ROOM: usize = 4096;
 
 pub(crate) fn write_envelope<'e>(
     alloc: Global,
@@ -91,8 +94,17 @@ fn build_payload(item: &EnvelopeItem, payload: &mut Vec<u8>) -> Result<(), Alloc
     ensures { OnOk result (AppendsPayload (item_held item.now) [] payload.new.items) }
 {
     payload.clear();
-    payload.reserve(ROOM)?;
+    payload.reserve(room(item))?;
     write_payload(item, payload)
+}
+
+// Returns the room that is made for a payload before it is built.
+fn room(item: &EnvelopeItem) -> usize {
+    match item {
+        EnvelopeItem::Event(_) | EnvelopeItem::Transaction(_) => LARGE_ROOM,
+        EnvelopeItem::ItemContainer(_) => LARGE_ROOM,
+        _ => ROOM,
+    }
 }
 
 // Appends the header and payload of an item whose payload is one JSON text, each with a line feed;
