@@ -21,10 +21,10 @@ use sentry_items::item::write_payload;
 use sentry_tables::write_text;
 use std::alloc::{AllocError, Global};
 
-// Room for the text of a small envelope: a buffer that has it needn't grow step by step.
+// Room for a small text: a buffer that has it needn't grow step by step.
 const ROOM: usize = 512;
 
-// Room for a payload that is seldom small.
+// Room for a text that is seldom small.
 const LARGE_ROOM: usize = 4096;
 
 pub(crate) fn write_envelope<'e>(
@@ -38,7 +38,7 @@ pub(crate) fn write_envelope<'e>(
         envelope_text profile
         (record { header = headers_cell headers.now; items = map item_view items.now })) }
 {
-    let mut out = Vec::with_capacity(alloc, ROOM)?;
+    let mut out = Vec::with_capacity(alloc, first_room(items))?;
     write_headers(headers, &mut out)?;
     out.push(b'\n')?;
     let mut text = Text::new(alloc, out);
@@ -104,6 +104,14 @@ fn room(item: &EnvelopeItem) -> usize {
         EnvelopeItem::Event(_) | EnvelopeItem::Transaction(_) => LARGE_ROOM,
         EnvelopeItem::ItemContainer(_) => LARGE_ROOM,
         _ => ROOM,
+    }
+}
+
+// Returns the room that is made for the whole text before it is built: that of its first item.
+fn first_room(items: &[EnvelopeItem]) -> usize {
+    match items.first() {
+        Some(item) => room(item),
+        None => ROOM,
     }
 }
 

@@ -1,12 +1,14 @@
 -- Which texts are ids in hex digits, and what they are read as.
-use Rattle.std.proofs.Common.{◌≡◌, ℕ, suc, ◌+◌, ◌*◌, ◌/◌, ◌%◌, ◌<◌, ◌==◌, true, List, [], ◌∷◌, map, length, slice_index, Option, Some, None, Result, Ok, Err, refl, sym, ap, ◌∙◌, ◌↔◌, arith, cond, nat_lt}
+use Rattle.std.proofs.Common.{◌≡◌, ℕ, suc, ◌+◌, ◌*◌, ◌/◌, ◌%◌, ◌<◌, ◌==◌, true, List, [], ◌∷◌, map, length, slice_index, Option, Some, None, Result, Ok, Err, refl, sym, ap, ◌∙◌, ◌↔◌, arith, cond, nat_lt, subst, IsAscii, IsUtf8}
 use Rattle.std.specs.Char.{to_ascii_lowercase}
 use Rattle.std.specs.Result.{result_ok, result_unwrap_or}
 use Rattle.std.proofs.lemmas.Bool.{agree_below_at, eqb-true}
 use Rattle.std.proofs.lemmas.Bool.Decides.{nat_tests}
+use Rattle.std.proofs.lemmas.Str.{IsUtf8-from_ascii}
+use Rattle.std.proofs.lemmas.Str.Ascii.{IsAscii-from_reads}
 use Rattle.hex.specs.declared.error.FromHexError.{FromHexError}
 use Rattle.hex.specs.Hex.{IsBytes, decode_of, decode_pairs, decode_sized, digit_or_error, hex_digit_value, encode_lower, encode_with, lower_digits, pair_value, value_at, ◌>>=◌}
-use Rattle.hex.proofs.HexLemmas.{IsDigits-lower_digits, length-encode_with, decode_of-even, decode_of-ok, decode_sized-ok, decode_sized-twice}
+use Rattle.hex.proofs.HexLemmas.{IsAscii-encode_with, IsDigits-lower_digits, length-encode_with, decode_of-even, decode_of-ok, decode_sized-ok, decode_sized-twice}
 use Rattle.hex.proofs.Pairs.{cons_byte, decode_pairs-ok_pair}
 use Rattle.sentry_identifiers.specs.HexId.{IsHexId, hex_id_of}
 
@@ -17,6 +19,15 @@ lower_value c = grind (arith, nat_tests)
 pub digit_of : (v : ℕ) → v < 16 → slice_index lower_digits v ≡ cond (nat_lt v 10) (48 + v) (87 + v)
 digit_of v small =
     eqb-true _ _ (agree_below_at (λ k. slice_index lower_digits k == cond (nat_lt k 10) (48 + k) (87 + k)) (λ k. true) 16 v refl small)
+
+small_digit : (v : ℕ) → v < 16 → slice_index lower_digits v < 128
+small_digit v small = rw (digit_of v small) (grind (arith, nat_tests))
+
+-- hex digits are ASCII
+pub digits_utf8 : (bytes text : List ℕ) → text ≡ encode_lower bytes → IsUtf8 text
+digits_utf8 bytes text is =
+    let digits : IsAscii lower_digits = IsAscii-from_reads lower_digits 16 (omega arith) small_digit in
+    subst IsUtf8 (sym is) (IsUtf8-from_ascii (encode_lower bytes) (IsAscii-encode_with lower_digits bytes digits))
 
 -- a digit in lower case is the digit of its value
 value_digit : (c v : ℕ) → hex_digit_value c ≡ Some v → (v < 16) × (to_ascii_lowercase c ≡ slice_index lower_digits v)

@@ -7,14 +7,13 @@ ghost use Rattle.sentry_identifiers.specs.HexId.{ReadsHex, trace_bytes};
 ghost use Rattle.sentry_identifiers.specs.HexIdTree.{IsOctets, hex_id_spelling, trace_id_cell};
 
 use crate::bytes::are_bytes;
-use crate::hex_id::read_bytes;
+use crate::hex_id::{digits_in, read_bytes, write_bytes};
 use hex::FromHexError;
 use rand_core::Rng;
-use sentry_tables::spelled::print_into;
 use sentry_tables::{AsText, Drawn, Formed, Own, Room, Spelled, TreeError, Way};
 use std::alloc::{AllocError, Global};
 use std::str::FromStr;
-use std::{fmt, str};
+use std::fmt;
 
 /// Trace id: 16 bytes.
 ///
@@ -91,8 +90,7 @@ impl fmt::Display for TraceId {
 
     fn fmt<W: fmt::Write>(&self, f: &mut fmt::Formatter<W>) -> fmt::Result {
         let mut digits = [0; 32];
-        hex::encode_to_slice(self.0, &mut digits).map_err(|_| fmt::Error)?;
-        f.write_str(str::from_utf8(&digits).map_err(|_| fmt::Error)?)
+        f.write_str(write_bytes(&self.0, &mut digits))
     }
 }
 
@@ -116,10 +114,8 @@ impl Spelled for TraceId {
         text.parse().map_err(|_| TreeError::Misfit)
     }
 
-    #[tactic(auto, using(crate::proofs::Lengths::hex_id_fits))]
     fn text<'a>(&'a self, room: &'a mut Room) -> Result<&'a str, AllocError> {
-        self.hold();
-        print_into(self, room)
+        Ok(digits_in(&self.0, room))
     }
 
     #[tactic(auto, using(sentry_tables::proofs::Ways::unchanged))]

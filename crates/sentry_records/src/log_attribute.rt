@@ -154,6 +154,7 @@ impl Member for LogAttribute {
 }
 
 impl FromTree for LogAttribute {
+    #[inline(always)]
     #[tactic(auto, using(crate::proofs::Attributes::attribute_is, crate::proofs::Attributes::no_type, crate::proofs::Attributes::no_value, crate::proofs::Attributes::another_type))]
     fn from_node<N: Node>(alloc: Global, node: &N) -> Result<LogAttribute, TreeError> {
         let Some(word) = tag(node) else {
