@@ -12,8 +12,8 @@ use hex::FromHexError;
 use rand_core::Rng;
 use sentry_tables::{AsText, Drawn, Formed, Own, Room, Spelled, TreeError, Way};
 use std::alloc::{AllocError, Global};
-use std::str::FromStr;
 use std::fmt;
+use std::str::FromStr;
 
 /// Trace id: 16 bytes.
 ///

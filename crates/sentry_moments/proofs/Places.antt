@@ -73,10 +73,6 @@ is_cut (suc w) n = cut w n (eqb (n % 10) 0) refl (is_cut w (n / 10))
 pub cut_length : (places number n : ℕ) → digits places number ≡ digits_without_closing_zeros 9 n → places ≡ length (digits_without_closing_zeros 9 n)
 cut_length places number n h = sym (length-digits places number) ∙ ap length h
 
-pub no_places : (n : ℕ) → n ≡ 0 → 0 ≡ length (digits_without_closing_zeros 9 n)
-unfolding digits_without_closing_zeros
-no_places n h = rw h refl
-
 -- ---- places that are written from the last to the first
 
 pub none_written : (places n : ℕ) (text : List ℕ) → digits places n ++ take (places - places) text ≡ digits places n

@@ -31,15 +31,13 @@ fn without_closing_zeros(billionths: u32) -> (u32, usize)
 }
 
 // Returns how many places there are without trailing zeros.
-#[tactic(auto, using(crate::proofs::Places::cut_length, crate::proofs::Places::no_places))]
+#[tactic(auto, using(crate::proofs::Places::cut_length))]
 pub(crate) fn places(billionths: u32) -> usize
+    requires some { 0 < billionths }
     requires small { billionths < 10 ^ 9 }
     ensures value { result ≡ length (digits_without_closing_zeros 9 billionths) }
     ensures within { result ≤ 9 }
 {
-    if billionths == 0 {
-        return 0;
-    }
     let (_, places) = without_closing_zeros(billionths);
     places
 }

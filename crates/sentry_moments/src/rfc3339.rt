@@ -11,6 +11,7 @@ use crate::digits::split_digits;
 use jiff_core::civil::Date;
 
 // Returns the text after a leading `byte`.
+#[inline(always)]
 #[tactic(auto, unfolding(crate::specs::Rfc3339Scan::after))]
 fn after(byte: u8, text: &[u8]) -> Option<&[u8]>
     ensures { option_map (λ r. r.now) result ≡ spec.after byte text.now }
@@ -21,6 +22,7 @@ fn after(byte: u8, text: &[u8]) -> Option<&[u8]>
     }
 }
 
+#[inline(always)]
 #[tactic(auto, unfolding(crate::specs::Rfc3339Scan::two_digits))]
 fn two_digits(text: &[u8]) -> Option<(u8, &[u8])>
     ensures value { spec.view result ≡ spec.two_digits text.now }
@@ -34,6 +36,7 @@ fn two_digits(text: &[u8]) -> Option<(u8, &[u8])>
     }
 }
 
+#[inline(always)]
 #[tactic(auto, unfolding(crate::specs::Rfc3339Scan::four_digits))]
 fn four_digits(text: &[u8]) -> Option<(u16, &[u8])>
     ensures value { spec.view result ≡ spec.four_digits text.now }
@@ -45,6 +48,7 @@ fn four_digits(text: &[u8]) -> Option<(u16, &[u8])>
 }
 
 // Reads two digits of a number below `limit`.
+#[inline(always)]
 #[tactic(auto, unfolding(crate::specs::Rfc3339Scan::below))]
 fn below(limit: u8, text: &[u8]) -> Option<(u8, &[u8])>
     ensures value { spec.view result ≡ spec.below limit text.now }
@@ -58,6 +62,7 @@ fn below(limit: u8, text: &[u8]) -> Option<(u8, &[u8])>
 }
 
 // Returns the days from 1970-01-01 to a date; `None` if the calendar doesn't have the date.
+#[inline(always)]
 fn day_number(year: u16, month: u8, day: u8) -> Option<i32>
     requires year_in { year < 10_000 }
     requires month_in { month < 100 }
@@ -70,6 +75,7 @@ fn day_number(year: u16, month: u8, day: u8) -> Option<i32>
 }
 
 // Reads a date, as the days since 1970-01-01.
+#[inline(always)]
 #[tactic(auto, unfolding(crate::specs::Rfc3339Scan::day))]
 fn day(text: &[u8]) -> Option<(i32, &[u8])>
     ensures value { spec.view result ≡ spec.day text.now }
@@ -81,6 +87,7 @@ fn day(text: &[u8]) -> Option<(i32, &[u8])>
     Some((day_number(year, month, day)?, rest))
 }
 
+#[inline(always)]
 #[tactic(auto, unfolding(crate::specs::Rfc3339Scan::after_separator))]
 fn after_separator(text: &[u8]) -> Option<&[u8]>
     ensures { option_map (λ r. r.now) result ≡ spec.after_separator text.now }
@@ -92,6 +99,7 @@ fn after_separator(text: &[u8]) -> Option<&[u8]>
 }
 
 // Reads a time of day, as the seconds since midnight.
+#[inline(always)]
 #[tactic(auto, unfolding(crate::specs::Rfc3339Scan::clock))]
 fn clock(text: &[u8]) -> Option<(u32, &[u8])>
     ensures value { spec.view result ≡ spec.clock text.now }
@@ -107,6 +115,7 @@ fn clock(text: &[u8]) -> Option<(u32, &[u8])>
 }
 
 // Returns the digit at a place, or 0 past the end.
+#[inline(always)]
 fn digit_at(digits: &[u8], place: usize) -> u8
     requires are_digits { AllDigits 10 digits.now }
     requires within { place < 9 }
@@ -122,6 +131,7 @@ fn digit_at(digits: &[u8], place: usize) -> u8
 }
 
 // Returns the first nine digits of a fraction as nanoseconds; missing digits count as 0.
+#[inline(always)]
 fn nanoseconds(digits: &[u8]) -> u32
     requires { AllDigits 10 digits.now }
     ensures value { result ≡ texts.nanoseconds digits.now }
@@ -135,6 +145,7 @@ fn nanoseconds(digits: &[u8]) -> u32
 }
 
 // Reads an optional fraction, as nanoseconds.
+#[inline(always)]
 #[tactic(auto, unfolding(crate::specs::Rfc3339Scan::fraction))]
 fn fraction(text: &[u8]) -> Option<(u32, &[u8])>
     ensures value { spec.view result ≡ spec.fraction text.now }
@@ -165,6 +176,7 @@ fn hour_and_minute(text: &[u8]) -> Option<i32>
 }
 
 // Parses `Z`, `z` or an offset, as the seconds that the clock is ahead of UTC.
+#[inline(always)]
 #[tactic(auto, unfolding(crate::specs::Rfc3339Scan::zone))]
 fn zone(text: &[u8]) -> Option<i32>
     ensures value { result ≡ spec.zone text.now }
@@ -179,6 +191,7 @@ fn zone(text: &[u8]) -> Option<i32>
 }
 
 // Returns the seconds since 1970-01-01T00:00:00Z of a local time `offset` seconds ahead of UTC.
+#[inline(always)]
 fn seconds(day: i32, second: u32, offset: i32) -> i64
     requires day_in { IsEpochDay day }
     requires second_in { second < 86_400 }
