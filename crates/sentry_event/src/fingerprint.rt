@@ -9,8 +9,7 @@ ghost use Rattle.sentry_tables.specs.Writes.{written, WritesTree};
 ghost use Rattle.sentry_event.specs.Fingerprints.{fingerprint_kind, fingerprint_cell, one_text, usual_fingerprint};
 
 use crate::owned::owned_text;
-use json::Writer;
-use sentry_json::Node;
+use sentry_json::{Node, Writer};
 use sentry_rows::MadeCodec;
 use sentry_tables::codec::DefaultedCodec;
 use sentry_tables::{Codec, FromTree, Member, ReadCodec, TreeError, Way};

@@ -2,8 +2,7 @@
 
 ghost use Rattle.sentry_frames.specs.ThreadIds.{thread_id_kind, thread_id_cell};
 
-use json::Writer;
-use sentry_json::Node;
+use sentry_json::{Node, Writer};
 use sentry_tables::{FromTree, Member, TreeError, Way};
 use serde_json::Value;
 use std::alloc::{AllocError, Global};

@@ -8,9 +8,8 @@ ghost use Rattle.sentry_identifiers.specs.Uuids.{uuid_kind, hyphenated_kind, sim
 ghost use Rattle.sentry_tables.specs.Reading.{Reads};
 
 use crate::bytes::are_bytes;
-use json::Writer;
 use rand_core::Rng;
-use sentry_json::Node;
+use sentry_json::{Node, Writer};
 use sentry_tables::{Codec, Drawn, ReadCodec, TreeError, Way};
 use serde_json::Value;
 use std::alloc::{AllocError, Global};

@@ -9,8 +9,8 @@ ghost use Rattle.sentry_items.specs.Containers.{container_cell, container_kind, 
 ghost use Rattle.sentry_items.specs.View.{payload_kind};
 
 use crate::listed::Lent;
-use json::Writer;
 use sentry_framing::ItemKind;
+use sentry_json::Writer;
 use sentry_records::{Log, Metric};
 use sentry_tables::{Member, Way};
 use sentry_writing::plain::rows_are_plain;

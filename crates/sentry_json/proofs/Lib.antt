@@ -25,3 +25,5 @@ pub mod Flat
 pub mod RunLengths
 pub mod StopMasks
 pub mod Spaces
+pub mod Writers
+pub mod Appended

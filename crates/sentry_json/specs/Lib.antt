@@ -11,3 +11,6 @@ pub mod PlainTexts
 pub mod Spelled
 pub mod TapeView
 pub mod Tokens
+pub mod Filled
+pub mod Written
+pub mod Writer

@@ -4,8 +4,7 @@ ghost use Rattle.sentry_moments.specs.Moments.{moment_cell};
 ghost use Rattle.sentry_moments.specs.MomentForms.{rfc3339_kind, seconds_kind};
 
 use crate::moment::{LONGEST, Moment};
-use json::Writer;
-use sentry_json::Node;
+use sentry_json::{Node, Writer};
 use sentry_tables::{Codec, ReadCodec, TreeError, Way};
 use serde_json::Value;
 use std::alloc::{AllocError, Global};

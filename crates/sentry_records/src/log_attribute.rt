@@ -8,8 +8,7 @@ ghost use Rattle.sentry_tables.specs.Kind.{tag};
 ghost use Rattle.sentry_tables.specs.Writes.{WritesMembers};
 ghost use Rattle.sentry_records.specs.LogAttribute.{attribute_cell, attribute_form, attribute_kind, attribute_members, compacted, value_key, ReadsTyped};
 
-use json::Writer;
-use sentry_json::Node;
+use sentry_json::{Node, Writer};
 use sentry_rows::Sink;
 use sentry_rows::table::leave;
 use sentry_rows::tagged::tag;

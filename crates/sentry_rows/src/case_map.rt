@@ -10,9 +10,8 @@ ghost use Rattle.sentry_rows.specs.Cased.{ReadsEntryAt};
 
 use crate::cased::{AsCase, Cased, ReadCasedAt};
 use crate::timed::ReadCodecAt;
-use json::Writer;
 use rand_core::Rng;
-use sentry_json::Node;
+use sentry_json::{Node, Writer};
 use sentry_json::keys::place;
 use sentry_moments::Moment;
 use sentry_tables::codec::DefaultedCodec;

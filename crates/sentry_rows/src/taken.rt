@@ -4,7 +4,7 @@ ghost use Rattle.sentry_rows.specs.Taken.{IsCaseTree, WritesCase, TestsCase};
 ghost use Rattle.sentry_rows.specs.NoRows.{no_lines, no_lines_in_order};
 
 use crate::cased::CaseSink;
-use json::Writer;
+use sentry_json::Writer;
 use sentry_writing::beside::{Kept, NoOthers};
 use sentry_writing::kept::others_are_plain;
 use sentry_writing::plain::rows_are_plain;

@@ -10,7 +10,7 @@ ghost use Rattle.sentry_tables.specs.Writes.{WritesTree, WritesItems, WritesMemb
 use crate::member::Member;
 use crate::tree::has_float;
 use crate::way::Way;
-use json::Writer;
+use sentry_json::Writer;
 use serde_json::{Map, Number, Value};
 use std::alloc::{AllocError, Global};
 
@@ -120,7 +120,7 @@ fn write_number(number: &Number, out: &mut Writer) -> Result<(), AllocError>
         return out.i64(whole);
     }
     match number.as_f64() {
-        Some(float) if float.is_finite() => out.float_with_plus(float),
+        Some(float) if float.is_finite() => out.float(float),
         _ => out.null(),
     }
 }

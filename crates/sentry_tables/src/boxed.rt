@@ -5,8 +5,7 @@ use crate::error::TreeError;
 use crate::member::{Formed, Member};
 use crate::read::{FromTree, ReadCodec};
 use crate::way::Way;
-use json::Writer;
-use sentry_json::Node;
+use sentry_json::{Node, Writer};
 use serde_json::Value;
 use std::alloc::{AllocError, Global};
 

@@ -13,7 +13,7 @@ ghost use Rattle.sentry_tables.specs.Writes.{written, WritesTree};
 
 use crate::member::Member;
 use crate::way::Way;
-use json::Writer;
+use sentry_json::Writer;
 use serde_json::Value;
 use std::alloc::{AllocError, Global};
 

@@ -7,7 +7,7 @@ ghost use Rattle.sentry_tables.specs.Kinds.{text_kind, truth_kind, unsigned_kind
 
 use crate::member::Member;
 use crate::way::Way;
-use json::Writer;
+use sentry_json::Writer;
 use serde_json::Value;
 use std::alloc::{AllocError, Global};
 use std::borrow::CowStr;

@@ -5,7 +5,7 @@ ghost use Rattle.sentry_tables.specs.Cells.{list_cell, map_cell};
 
 use crate::member::Member;
 use crate::way::Way;
-use json::Writer;
+use sentry_json::Writer;
 use serde_json::{Map, Value, put};
 use std::alloc::{AllocError, Global};
 use std::default::Emptied;

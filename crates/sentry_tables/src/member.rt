@@ -11,7 +11,7 @@ ghost use Rattle.sentry_tables.specs.Writes.{written, WritesTree};
 
 use crate::codec::Codec;
 use crate::way::Way;
-use json::Writer;
+use sentry_json::Writer;
 use serde_json::Value;
 use std::alloc::{AllocError, Global};
 

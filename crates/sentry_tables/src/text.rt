@@ -5,7 +5,7 @@ ghost use Rattle.serde_json.specs.Written.{has_float, compact_text};
 ghost use Rattle.sentry_tables.specs.Writes.{written};
 
 use crate::member::Member;
-use json::Writer;
+use sentry_json::Writer;
 use std::alloc::{AllocError, Global};
 use std::mem;
 

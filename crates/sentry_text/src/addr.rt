@@ -9,8 +9,7 @@ ghost use Rattle.sentry_tables.specs.Cells.{natural_cell};
 ghost use Rattle.sentry_text.specs.AddressTree.{address_in, address_kind};
 
 use crate::{ParseNumberError, parse_number};
-use json::Writer;
-use sentry_json::Node;
+use sentry_json::{Node, Writer};
 use sentry_tables::member::Usual;
 use sentry_tables::spelled::print_into;
 use sentry_tables::{FromTree, Member, Room, TreeError, Way};

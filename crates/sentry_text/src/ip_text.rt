@@ -5,8 +5,7 @@ ghost use Rattle.sentry_tables.specs.Spelling.{ReadsSpelling};
 ghost use Rattle.sentry_text.specs.Ip.{IsStoredIp};
 ghost use Rattle.sentry_text.specs.IpTree.{ip_cell, ip_cell_text, ip_kind, ip_spelling};
 
-use json::Writer;
-use sentry_json::Node;
+use sentry_json::{Node, Writer};
 use sentry_tables::spelled::print_into;
 use sentry_tables::{Codec, ReadCodec, Room, TreeError, Way};
 use serde_json::Value;

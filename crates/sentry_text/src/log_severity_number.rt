@@ -4,8 +4,7 @@ ghost use Rattle.std.specs.Prelude.{◌≡◌, ℕ, OkIff};
 ghost use Rattle.sentry_tables.specs.Cells.{natural_cell};
 ghost use Rattle.sentry_text.specs.Severity.{IsSeverity, severity_kind};
 
-use json::Writer;
-use sentry_json::Node;
+use sentry_json::{Node, Writer};
 use sentry_tables::{FromTree, Member, TreeError, Way};
 use serde_json::Value;
 use std::alloc::{AllocError, Global};

@@ -8,8 +8,7 @@ ghost use Rattle.sentry_text.specs.declared.project_id.ParseProjectIdError.TheVa
 ghost use Rattle.sentry_tables.specs.Spelling.{ReadsSpelling};
 
 use crate::number::{ParseNumberError, parse_number};
-use json::Writer;
-use sentry_json::Node;
+use sentry_json::{Node, Writer};
 use sentry_tables::spelled::print_into;
 use sentry_tables::{
     AsText, Codec, Formed, FromTree, Member, ReadCodec, Room, Spelled, TreeError, Way,

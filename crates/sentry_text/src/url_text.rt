@@ -6,8 +6,7 @@ ghost use Rattle.sentry_tables.specs.Spelling.{ReadsSpelling};
 ghost use Rattle.sentry_text.specs.UrlTree as spec;
 ghost use Rattle.sentry_text.specs.UrlTree.{url_cell, url_kind, url_spelling};
 
-use json::Writer;
-use sentry_json::Node;
+use sentry_json::{Node, Writer};
 use sentry_tables::{Codec, ReadCodec, TreeError, Way};
 use serde_json::Value;
 use std::alloc::{AllocError, Global};

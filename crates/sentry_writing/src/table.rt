@@ -14,7 +14,7 @@ use crate::beside::{Others, Tag, rows_among};
 use crate::sink::Sink;
 use crate::text::TextRows;
 use crate::tree::TreeRows;
-use json::Writer;
+use sentry_json::Writer;
 use serde_json::{Map, Value};
 use std::alloc::{AllocError, Global};
 

@@ -5,7 +5,7 @@ ghost use Rattle.serde_json.specs.Data.{no_members, member, null, string};
 ghost use Rattle.sentry_tables.specs.Writes.{written, WritesMembers};
 
 use crate::sink::Sink;
-use json::Writer;
+use sentry_json::Writer;
 use sentry_tables::Codec;
 use std::alloc::AllocError;
 

@@ -5,8 +5,7 @@ ghost use Rattle.sentry_tables.specs.Reading.{Reads};
 ghost use Rattle.sentry_keys.specs.AuthFields.{auth_table, rows_cell};
 
 use crate::auth::{Auth, LATEST};
-use json::Writer;
-use sentry_json::Node;
+use sentry_json::{Node, Writer};
 use sentry_rows::table::{table_tree, write_table};
 use sentry_rows::{Reader, Sink, Table};
 use sentry_tables::{FromTree, Member, TreeError, Way};

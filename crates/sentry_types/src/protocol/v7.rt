@@ -75,7 +75,7 @@ pub mod client_report {
 
 /// JSON values: those of `serde_json`, and the writer of their text.
 pub mod value {
-    pub use json::Writer;
+    pub use sentry_json::Writer;
     pub use serde_json::{Map, Number, Value};
 }
 

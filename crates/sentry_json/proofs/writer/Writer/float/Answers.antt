@@ -1,0 +1,5 @@
+use Rattle.json.proofs.Printed.Floats.{IsNumber-plus}
+use Rattle.sentry_json.proofs.writer.Writer.float.Goals as goal
+
+pub number-requires : goal.number-requires
+number-requires c = IsNumber-plus _ _ _ c.format_finite_with_plus.ensures.layout

@@ -1,0 +1,6 @@
+use Rattle.std.proofs.Common.{rules}
+use Rattle.json.proofs.Printed.Decimals.{IsNumber-signed_decimal}
+use Rattle.sentry_json.proofs.writer.Writer.i64.Goals as goal
+
+pub number-requires : goal.number-requires
+number-requires c = search (rules, IsNumber-signed_decimal)
