@@ -7,7 +7,7 @@ use std::alloc::AllocError;
 use std::marker::Model;
 
 // What is cleared ahead at once: as much as the buffer holds, between these two.
-const LEAST_AHEAD: usize = 128;
+const LEAST_AHEAD: usize = 1024;
 
 const MOST_AHEAD: usize = 16 * 1024;
 

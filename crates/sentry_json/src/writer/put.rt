@@ -63,22 +63,39 @@ fn put_string(out: &mut Buffer, comma: bool, text: &[u8]) -> Result<(), AllocErr
     put_quoted(out, comma, text, b"\"")
 }
 
-// Appends a text between a quote and `close`. A text with escapes, or with no room yet, is left to a
-// call that is not inlined: so a string that is stored at once needs no frame.
+// Appends a text between a quote and `close`. What has escapes, or no room yet, is left to calls that
+// end this one: so a string that is stored at once needs no frame.
 #[inline(always)]
 fn put_quoted(out: &mut Buffer, comma: bool, text: &[u8], close: &[u8]) -> Result<(), AllocError>
     requires { length close.now ≤ 2 }
     ensures { Puts result out.old out.new
         (cond comma (44 ∷ []) [] ++ 34 ∷ (escape text.now ++ close.now)) }
 {
-    if text.len() + close.len() + 2 <= out.ready() && is_plain(text) {
-        out.quote(comma, text, close);
-        return Ok(());
+    if !is_plain(text) {
+        return put_escaped(out, comma, text, close);
     }
-    put_escaped(out, comma, text, close)
+    if text.len() + close.len() + 2 > out.ready() {
+        return put_growing(out, comma, text, close);
+    }
+    out.quote(comma, text, close);
+    Ok(())
 }
 
-// The same of any text. A failure cuts off what was appended.
+// The same of a text without escapes that has no room yet.
+#[cold]
+#[inline(never)]
+fn put_growing(out: &mut Buffer, comma: bool, text: &[u8], close: &[u8]) -> Result<(), AllocError>
+    requires plain { escape text.now ≡ text.now }
+    requires short { length close.now ≤ 2 }
+    ensures { Puts result out.old out.new
+        (cond comma (44 ∷ []) [] ++ 34 ∷ (escape text.now ++ close.now)) }
+{
+    out.reserve(text.len() + close.len() + 2)?;
+    out.quote(comma, text, close);
+    Ok(())
+}
+
+// The same of a text with escapes. A failure cuts off what was appended.
 #[inline(never)]
 fn put_escaped(out: &mut Buffer, comma: bool, text: &[u8], close: &[u8]) -> Result<(), AllocError>
     requires { length close.now ≤ 2 }
