@@ -241,6 +241,7 @@ fn give_large<S: Sink>(number: &Number, sink: &mut S) -> Result<(), AllocError>
 }
 
 // Reads a value of the type `word`; `Misfit` for an unknown type or a value of another type.
+#[inline(always)]
 fn read_typed<N: Node>(alloc: Global, word: &str, value: &N) -> Result<Value, TreeError>
     ensures { ReadsTyped word.now (N.data_of value.now) result }
 {
