@@ -27,3 +27,4 @@ pub mod StopMasks
 pub mod Spaces
 pub mod Writers
 pub mod Appended
+pub mod Copied

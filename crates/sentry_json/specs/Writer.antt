@@ -7,9 +7,9 @@ use Rattle.json.specs.Print.{print, ends_value, ArePrintable}
 use Rattle.sentry_json.specs.Written.{Written}
 use Rattle.sentry_json.specs.declared.writer.Writer.TheInside.{Inside}
 
--- the tokens are those that the text behind the start spells
+-- the tokens are those that the text behind the start spells, and what is spare is the buffer's
 abbrev pub writer_view : Inside → Written
-writer_view w = record { before = take w.start w.out.items; tokens = tokens (drop w.start w.out.items) }
+writer_view w = record { before = take w.start w.out.items; tokens = tokens (drop w.start w.out.items); spare = w.out.spare }
 
 -- the text behind the start is a print of tokens
 pub record IsWriter (w : Inside) : Type 0 where

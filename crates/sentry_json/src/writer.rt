@@ -1,8 +1,10 @@
 //! Writing JSON a token at a time.
 
-ghost use Rattle.std.specs.Prelude.{◌≡◌, ◌++◌, [], IsTrue, OnOk, decimal, IsUtf8};
-ghost use Rattle.std.specs.Float.{float_is_finite};
+ghost use Rattle.std.specs.Prelude.{◌≡◌, ◌-◌, ◌≤◌, ◌++◌, ℕ, List, [], vec_len, vec_capacity, IsTrue, Some, decimal, IsUtf8};
+ghost use Rattle.std.specs.Float.{binary64, float_is_finite};
 ghost use Rattle.std.specs.Fmt.{signed_decimal};
+ghost use Rattle.fast_float.specs.Parse.{parse_float};
+ghost use Rattle.ryu.specs.Plain.{IsPlusNumber};
 ghost use Rattle.json.specs.Lex.{tokens};
 ghost use Rattle.json.specs.Print.{print, ends, IsNumber, IsPrintable};
 ghost use Rattle.json.specs.Reads.{token_of};
@@ -10,19 +12,22 @@ ghost use Rattle.json.specs.Token.{begin_object, end_object, begin_array, end_ar
 ghost use Rattle.sentry_json.specs.Written.{Writes};
 
 mod buffer;
+mod copy;
 mod place;
 mod plain;
 mod put;
 
 use crate::writer::buffer::Buffer;
-use crate::writer::put::put;
+use crate::writer::put::{put, put_integer};
+use itoa::Integer;
 use json::Token;
 use std::alloc::AllocError;
 use std::marker::Model;
 
 /// A writer that appends JSON to a buffer, without white space and with the shortest escapes.
 ///
-/// It places commas and colons; that objects and lists are closed is the caller's part.
+/// It places commas and colons; that objects and lists are closed is the caller's part. A write needs
+/// no allocation where the buffer has room for its text and a comma.
 ///
 /// <https://www.rfc-editor.org/rfc/rfc8259>
 #[derive(Drop)]
@@ -50,6 +55,7 @@ impl Writer {
     pub fn new(out: Vec<u8>) -> Writer
         ensures before { result.before ≡ out.items }
         ensures tokens { result.tokens ≡ [] }
+        ensures spare { result.spare ≡ vec_capacity out - vec_len out }
     {
         let out = Buffer::new(out);
         let start = out.len();
@@ -157,12 +163,43 @@ impl Writer {
         self.token(Token::String(text))
     }
 
+    /// Writes a number as it is given, such as `-1.5e3`.
+    ///
+    /// # Errors
+    ///
+    /// `AllocError` if an allocation fails.
     #[inline(always)]
-    fn number(&mut self, text: &str) -> Result<(), AllocError>
+    pub fn number(&mut self, text: &str) -> Result<(), AllocError>
         requires { IsNumber text.now }
         ensures { Writes result self.old self.new (number text.now) }
     {
         self.token(Token::Number(text))
+    }
+
+    // Writes an integer of 64 bits or fewer. One that has no room yet is left to a call that ends
+    // this one.
+    #[inline(always)]
+    fn integer<I: Integer>(&mut self, n: I) -> Result<(), AllocError>
+        requires number { IsNumber (I.text n) }
+        requires short { I.MAX_STR_LEN ≤ 32 }
+        ensures { Writes result self.old self.new (number (I.text n)) }
+    {
+        if self.out.ready() < 33 {
+            return self.integer_growing(n);
+        }
+        put_integer(&mut self.out, self.after_value, n);
+        self.after_value = true;
+        Ok(())
+    }
+
+    #[cold]
+    #[inline(never)]
+    fn integer_growing<I: Integer>(&mut self, n: I) -> Result<(), AllocError>
+        requires { IsNumber (I.text n) }
+        ensures { Writes result self.old self.new (number (I.text n)) }
+    {
+        let mut digits = itoa::Buffer::new();
+        self.number(digits.format(n))
     }
 
     /// Writes a whole number.
@@ -174,8 +211,7 @@ impl Writer {
     pub fn u64(&mut self, n: u64) -> Result<(), AllocError>
         ensures { Writes result self.old self.new (number (decimal n)) }
     {
-        let mut digits = itoa::Buffer::new();
-        self.number(digits.format(n))
+        self.integer(n)
     }
 
     /// Writes a whole number that may be negative.
@@ -187,11 +223,11 @@ impl Writer {
     pub fn i64(&mut self, n: i64) -> Result<(), AllocError>
         ensures { Writes result self.old self.new (number (signed_decimal n)) }
     {
-        let mut digits = itoa::Buffer::new();
-        self.number(digits.format(n))
+        self.integer(n)
     }
 
-    /// Writes a float that is finite, with a sign at an exponent, as `1e+30`.
+    /// Writes a float that is finite, as a text that reads back as this float; an exponent has a
+    /// sign, as in `1e+30`.
     ///
     /// # Errors
     ///
@@ -199,6 +235,8 @@ impl Writer {
     #[inline(never)]
     pub fn float(&mut self, x: f64) -> Result<(), AllocError>
         requires { IsTrue (float_is_finite x) }
+        ensures { (s : List ℕ) × Writes result self.old self.new (number s)
+            × IsPlusNumber 16 4 s × (parse_float binary64 s ≡ Some x) }
     {
         let mut digits = ryu::Buffer::new();
         self.number(digits.format_finite_with_plus(x))

@@ -1,8 +1,9 @@
 //! The buffer of a writer: bytes, of which the first ones count.
 
-ghost use Rattle.std.specs.Prelude.{◌≡◌, ◌+◌, ◌<◌, ◌≤◌, [], ◌∷◌, ◌++◌, length, take, cond, vec_len, vec_capacity, OnOk};
+ghost use Rattle.std.specs.Prelude.{◌≡◌, ◌+◌, ◌-◌, ◌<◌, ◌≤◌, [], ◌∷◌, ◌++◌, length, take, cond, min, vec_len, vec_capacity, OnOk, OnErr};
+ghost use Rattle.sentry_json.specs.Filled.{Appends};
 
-use crate::writer::place::{place_byte, place_comma, place_known, place_text};
+use crate::writer::place::{place_byte, place_comma, place_known, place_short, place_text};
 use std::alloc::AllocError;
 use std::marker::Model;
 
@@ -22,7 +23,7 @@ pub(super) struct Buffer {
 }
 
 impl Model for Buffer {
-    ghost use Rattle.std.specs.Prelude.{◌-◌, ◌≤◌, length, take};
+    ghost use Rattle.std.specs.Prelude.{◌-◌, ◌≤◌, length, take, vec_capacity};
     ghost use Rattle.sentry_json.specs.Filled.{Filled, filled_code};
 
     ghost Value = { Filled };
@@ -31,6 +32,7 @@ impl Model for Buffer {
 
     ghost view = { λ b. record {
       items = take b.len b.bytes.items;
+      spare = vec_capacity b.bytes - b.len;
       ready = length b.bytes.items - b.len;
     } };
 
@@ -39,7 +41,8 @@ impl Model for Buffer {
 
 impl Buffer {
     pub(super) fn new(bytes: Vec<u8>) -> Buffer
-        ensures { result.items ≡ bytes.items }
+        ensures items { result.items ≡ bytes.items }
+        ensures spare { result.spare ≡ vec_capacity bytes - vec_len bytes }
     {
         let len = bytes.len();
         Buffer { bytes, len }
@@ -70,7 +73,9 @@ impl Buffer {
 
     // Drops the bytes behind the first `len`.
     pub(super) fn truncate(&mut self, len: usize)
-        ensures { self.new.items ≡ take len self.old.items }
+        ensures items { self.new.items ≡ take len self.old.items }
+        ensures room { length self.old.items + self.old.spare
+            ≤ length self.new.items + self.new.spare }
     {
         if len < self.len {
             self.len = len;
@@ -81,7 +86,9 @@ impl Buffer {
     #[inline(always)]
     pub(super) fn reserve(&mut self, count: usize) -> Result<(), AllocError>
         ensures items { self.new.items ≡ self.old.items }
+        ensures kept { self.old.spare ≤ self.new.spare }
         ensures ready { OnOk result (count ≤ self.new.ready) }
+        ensures missing { OnErr result (self.old.spare < count) }
     {
         if count <= self.ready() {
             return Ok(());
@@ -94,14 +101,14 @@ impl Buffer {
     fn grow(&mut self, count: usize) -> Result<(), AllocError>
         requires { self.old.ready < count }
         ensures items { self.new.items ≡ self.old.items }
+        ensures kept { self.old.spare ≤ self.new.spare }
         ensures ready { OnOk result (count ≤ self.new.ready) }
+        ensures missing { OnErr result (self.old.spare < count) }
     {
-        let filled = self.bytes.len();
-        let missing = count - (filled - self.len);
+        let missing = count - self.ready();
         self.bytes.reserve(missing)?;
-        let ahead = missing.max(filled.clamp(LEAST_AHEAD, MOST_AHEAD));
-        let room = self.bytes.capacity() - filled;
-        clear_to(&mut self.bytes, filled + ahead.min(room));
+        let ahead = self.bytes.len().clamp(LEAST_AHEAD, MOST_AHEAD);
+        clear(&mut self.bytes, ahead.max(missing));
         Ok(())
     }
 
@@ -109,7 +116,7 @@ impl Buffer {
     #[inline(always)]
     pub(super) fn put_known(&mut self, comma: bool, text: &[u8])
         requires { length text.now + 1 ≤ self.old.ready }
-        ensures { self.new.items ≡ self.old.items ++ (cond comma (44 ∷ []) [] ++ text.now) }
+        ensures { Appends self.old self.new (cond comma (44 ∷ []) [] ++ text.now) }
     {
         let buffer = self.bytes.as_mut_slice();
         let at = place_comma(buffer, self.len, comma);
@@ -120,19 +127,31 @@ impl Buffer {
     #[inline(always)]
     pub(super) fn put_text(&mut self, comma: bool, text: &[u8])
         requires { length text.now + 1 ≤ self.old.ready }
-        ensures { self.new.items ≡ self.old.items ++ (cond comma (44 ∷ []) [] ++ text.now) }
+        ensures { Appends self.old self.new (cond comma (44 ∷ []) [] ++ text.now) }
     {
         let buffer = self.bytes.as_mut_slice();
         let at = place_comma(buffer, self.len, comma);
         self.len = place_text(buffer, at, text);
     }
 
+    // The same with a text of at most 32 bytes.
+    #[inline(always)]
+    pub(super) fn put_short(&mut self, comma: bool, text: &[u8])
+        requires short { length text.now ≤ 32 }
+        requires room { length text.now + 1 ≤ self.old.ready }
+        ensures { Appends self.old self.new (cond comma (44 ∷ []) [] ++ text.now) }
+    {
+        let buffer = self.bytes.as_mut_slice();
+        let at = place_comma(buffer, self.len, comma);
+        self.len = place_short(buffer, at, text);
+    }
+
     // The same with any text between a quote and `close`.
     #[inline(always)]
     pub(super) fn quote(&mut self, comma: bool, text: &[u8], close: &[u8])
         requires { length text.now + length close.now + 2 ≤ self.old.ready }
-        ensures { self.new.items
-            ≡ self.old.items ++ (cond comma (44 ∷ []) [] ++ 34 ∷ (text.now ++ close.now)) }
+        ensures { Appends self.old self.new
+            (cond comma (44 ∷ []) [] ++ 34 ∷ (text.now ++ close.now)) }
     {
         let buffer = self.bytes.as_mut_slice();
         let at = place_comma(buffer, self.len, comma);
@@ -143,25 +162,27 @@ impl Buffer {
 
     // Appends a text.
     #[inline(always)]
-    pub(super) fn append(&mut self, text: &[u8])
+    pub(super) fn push(&mut self, text: &[u8])
         requires { length text.now ≤ self.old.ready }
-        ensures items { self.new.items ≡ self.old.items ++ text.now }
+        ensures appended { Appends self.old self.new text.now }
         ensures ready { self.new.ready + length text.now ≡ self.old.ready }
     {
         self.len = place_text(self.bytes.as_mut_slice(), self.len, text);
     }
 }
 
-// Appends zeros up to a length that the capacity has.
-fn clear_to(bytes: &mut Vec<u8>, len: usize)
-    requires { (vec_len bytes.old ≤ len) × (len ≤ vec_capacity bytes.old) }
+// Appends `count` zeros, or as many as need no allocation.
+fn clear(bytes: &mut Vec<u8>, count: usize)
     ensures front { take (vec_len bytes.old) bytes.new.items ≡ bytes.old.items }
-    ensures len { vec_len bytes.new ≡ len }
+    ensures capacity { vec_capacity bytes.old ≤ vec_capacity bytes.new }
+    ensures len { min (vec_len bytes.old + count) (vec_capacity bytes.old) ≤ vec_len bytes.new }
 {
-    while bytes.len() < len {
-        let step = (len - bytes.len()).min(ZEROS.len());
+    let mut left = count.min(bytes.capacity() - bytes.len());
+    while left > 0 {
+        let step = left.min(ZEROS.len());
         if bytes.extend_from_slice(&ZEROS[..step]).is_err() {
             unreachable!();
         }
+        left -= step;
     }
 }

@@ -4,12 +4,14 @@ ghost use Rattle.std.specs.Prelude.{◌≡◌, ◌+◌, ◌<◌, ◌≤◌, [], 
 ghost use Rattle.std.specs.Str.{IsUtf8};
 ghost use Rattle.json.specs.Print.{escape_byte, escape, separator, token_text, IsPrintable};
 ghost use Rattle.json.specs.Reads.{token_of};
-ghost use Rattle.sentry_json.specs.Filled.{Puts};
+ghost use Rattle.json.specs.Token.{number};
+ghost use Rattle.sentry_json.specs.Filled.{Appends, Puts};
 
 use crate::escape::{long_escape, short_escape};
 use crate::tape::run_len;
 use crate::writer::buffer::Buffer;
 use crate::writer::plain::is_plain;
+use itoa::{Buffer as Digits, Integer};
 use json::Token;
 use std::alloc::AllocError;
 
@@ -18,7 +20,8 @@ use std::alloc::AllocError;
 pub(super) fn put(out: &mut Buffer, after_value: bool, token: Token<'_>) -> Result<(), AllocError>
     requires { IsPrintable (token_of token) }
     ensures puts { Puts result out.old out.new
-        (separator after_value (token_of token.entry) ++ token_text (token_of token.entry)) }
+        (separator after_value (token_of token.entry) ++ token_text (token_of token.entry))
+        (length (token_text (token_of token.entry)) + 1) }
     ensures utf8 { IsUtf8 (token_text (token_of token.entry)) }
 {
     match token {
@@ -38,7 +41,8 @@ pub(super) fn put(out: &mut Buffer, after_value: bool, token: Token<'_>) -> Resu
 
 #[inline(always)]
 fn put_known(out: &mut Buffer, comma: bool, text: &[u8]) -> Result<(), AllocError>
-    ensures { Puts result out.old out.new (cond comma (44 ∷ []) [] ++ text.now) }
+    ensures { Puts result out.old out.new (cond comma (44 ∷ []) [] ++ text.now)
+        (length text.now + 1) }
 {
     out.reserve(text.len() + 1)?;
     out.put_known(comma, text);
@@ -47,18 +51,33 @@ fn put_known(out: &mut Buffer, comma: bool, text: &[u8]) -> Result<(), AllocErro
 
 #[inline(always)]
 fn put_number(out: &mut Buffer, comma: bool, text: &[u8]) -> Result<(), AllocError>
-    ensures { Puts result out.old out.new (cond comma (44 ∷ []) [] ++ text.now) }
+    ensures { Puts result out.old out.new (cond comma (44 ∷ []) [] ++ text.now)
+        (length text.now + 1) }
 {
     out.reserve(text.len() + 1)?;
     out.put_text(comma, text);
     Ok(())
 }
 
+// Appends an integer of 64 bits or fewer.
+#[inline(always)]
+pub(super) fn put_integer<I: Integer>(out: &mut Buffer, after_value: bool, n: I)
+    requires short { I.MAX_STR_LEN ≤ 32 }
+    requires room { 33 ≤ out.old.ready }
+    ensures appended { Appends out.old out.new
+        (separator after_value (number (I.text n)) ++ I.text n) }
+    ensures utf8 { IsUtf8 (I.text n) }
+{
+    let mut digits = Digits::new();
+    out.put_short(after_value, digits.format(n).as_bytes());
+}
+
 // Not inlined: strings are seldom literals.
 #[inline(never)]
 fn put_string(out: &mut Buffer, comma: bool, text: &[u8]) -> Result<(), AllocError>
     ensures { Puts result out.old out.new
-        (cond comma (44 ∷ []) [] ++ 34 ∷ (escape text.now ++ 34 ∷ [])) }
+        (cond comma (44 ∷ []) [] ++ 34 ∷ (escape text.now ++ 34 ∷ []))
+        (length (escape text.now) + 3) }
 {
     put_quoted(out, comma, text, b"\"")
 }
@@ -69,7 +88,8 @@ fn put_string(out: &mut Buffer, comma: bool, text: &[u8]) -> Result<(), AllocErr
 fn put_quoted(out: &mut Buffer, comma: bool, text: &[u8], close: &[u8]) -> Result<(), AllocError>
     requires { length close.now ≤ 2 }
     ensures { Puts result out.old out.new
-        (cond comma (44 ∷ []) [] ++ 34 ∷ (escape text.now ++ close.now)) }
+        (cond comma (44 ∷ []) [] ++ 34 ∷ (escape text.now ++ close.now))
+        (length (escape text.now) + length close.now + 2) }
 {
     if !is_plain(text) {
         return put_escaped(out, comma, text, close);
@@ -88,7 +108,8 @@ fn put_growing(out: &mut Buffer, comma: bool, text: &[u8], close: &[u8]) -> Resu
     requires plain { escape text.now ≡ text.now }
     requires short { length close.now ≤ 2 }
     ensures { Puts result out.old out.new
-        (cond comma (44 ∷ []) [] ++ 34 ∷ (escape text.now ++ close.now)) }
+        (cond comma (44 ∷ []) [] ++ 34 ∷ (escape text.now ++ close.now))
+        (length (escape text.now) + length close.now + 2) }
 {
     out.reserve(text.len() + close.len() + 2)?;
     out.quote(comma, text, close);
@@ -100,7 +121,8 @@ fn put_growing(out: &mut Buffer, comma: bool, text: &[u8], close: &[u8]) -> Resu
 fn put_escaped(out: &mut Buffer, comma: bool, text: &[u8], close: &[u8]) -> Result<(), AllocError>
     requires { length close.now ≤ 2 }
     ensures { Puts result out.old out.new
-        (cond comma (44 ∷ []) [] ++ 34 ∷ (escape text.now ++ close.now)) }
+        (cond comma (44 ∷ []) [] ++ 34 ∷ (escape text.now ++ close.now))
+        (length (escape text.now) + length close.now + 2) }
 {
     let len = out.len();
     let done = append_escaped(out, comma, text, close);
@@ -116,21 +138,26 @@ fn append_escaped(
     text: &[u8],
     close: &[u8],
 ) -> Result<(), AllocError>
-    requires { length close.now ≤ 2 }
     ensures ok { OnOk result (out.new.items
         ≡ out.old.items ++ (cond comma (44 ∷ []) [] ++ 34 ∷ (escape text.now ++ close.now))) }
     ensures front { take (length out.old.items) out.new.items ≡ out.old.items }
+    ensures room { length out.old.items + out.old.spare ≤ length out.new.items + out.new.spare }
+    ensures missing { OnErr result
+        (out.old.spare < length (escape text.now) + length close.now + 2) }
 {
     put_known(out, comma, b"\"")?;
     let mut at = 0;
     loop {
         let stop = at + run_len(&text[at..]);
-        out.reserve(stop - at + LONGEST_ESCAPE)?;
-        out.append(&text[at..stop]);
+        let run = &text[at..stop];
         if stop == text.len() {
-            out.append(close);
+            out.reserve(run.len() + close.len())?;
+            out.push(run);
+            out.push(close);
             return Ok(());
         }
+        reserve_escape(out, run, text[stop])?;
+        out.push(run);
         append_escape(out, text[stop]);
         at = stop + 1;
     }
@@ -139,18 +166,49 @@ fn append_escaped(
 // Bytes of the longest escape, such as `\u001f`.
 const LONGEST_ESCAPE: usize = 6;
 
+// Makes room for a run and what stands for the byte behind it.
+#[inline(always)]
+fn reserve_escape(out: &mut Buffer, run: &[u8], byte: u8) -> Result<(), AllocError>
+    ensures items { out.new.items ≡ out.old.items }
+    ensures kept { out.old.spare ≤ out.new.spare }
+    ensures ready { OnOk result (length run.now + length (escape_byte byte) ≤ out.new.ready) }
+    ensures missing { OnErr result
+        (out.old.spare < length run.now + length (escape_byte byte)) }
+{
+    if run.len() + LONGEST_ESCAPE <= out.ready() {
+        return Ok(());
+    }
+    out.reserve(run.len() + escape_len(byte))
+}
+
+// Returns how many bytes stand for a byte in a string.
+#[tactic(auto, unfolding(json::specs::Print::escape_byte))]
+fn escape_len(byte: u8) -> usize
+    ensures value { result ≡ length (escape_byte byte) }
+    ensures bound { result ≤ 6 }
+{
+    if short_escape(byte) > 0 {
+        2
+    } else if byte < 0x20 {
+        LONGEST_ESCAPE
+    } else {
+        1
+    }
+}
+
 // Appends what stands for a byte in a string.
 #[inline(always)]
+#[tactic(auto, unfolding(json::specs::Print::escape_byte))]
 fn append_escape(out: &mut Buffer, byte: u8)
-    requires { 6 ≤ out.old.ready }
-    ensures { out.new.items ≡ out.old.items ++ escape_byte byte }
+    requires { length (escape_byte byte) ≤ out.old.ready }
+    ensures { Appends out.old out.new (escape_byte byte) }
 {
     let letter = short_escape(byte);
     if letter > 0 {
-        out.append(&[b'\\', letter]);
+        out.push(&[b'\\', letter]);
     } else if byte < 0x20 {
-        out.append(&long_escape(byte));
+        out.push(&long_escape(byte));
     } else {
-        out.append(&[byte]);
+        out.push(&[byte]);
     }
 }
