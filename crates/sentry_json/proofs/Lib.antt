@@ -28,3 +28,4 @@ pub mod Spaces
 pub mod Writers
 pub mod Appended
 pub mod Copied
+pub mod PlainEnds

@@ -1,6 +1,6 @@
 //! Copies of texts, quick for short ones.
 
-ghost use Rattle.std.specs.Prelude.{◌≡◌, ◌+◌, ◌≤◌, length};
+ghost use Rattle.std.specs.Prelude.{◌≡◌, ◌+◌, ◌<◌, ◌≤◌, length};
 
 use std::simd::Simd;
 
@@ -34,17 +34,15 @@ fn copy_long(to: &mut [u8], text: &[u8])
     copy_ends::<32>(&mut to[at..], &text[at..]);
 }
 
-// Copies a text of at most 32 bytes into a slice of its length.
+// Copies a text of fewer than 16 bytes.
 #[inline(always)]
-pub(super) fn copy_short(to: &mut [u8], text: &[u8])
+fn copy_small(to: &mut [u8], text: &[u8])
     requires same { length to.old ≡ length text.now }
-    requires short { length text.now ≤ 32 }
+    requires small { length text.now < 16 }
     ensures { to.new ≡ text.now }
 {
     let len = text.len();
-    if len >= 16 {
-        copy_ends::<16>(to, text);
-    } else if len >= 8 {
+    if len >= 8 {
         copy_ends::<8>(to, text);
     } else if len >= 4 {
         copy_ends::<4>(to, text);
@@ -55,15 +53,31 @@ pub(super) fn copy_short(to: &mut [u8], text: &[u8])
     }
 }
 
+// Copies a text of at most 32 bytes into a slice of its length.
+#[inline(always)]
+pub(super) fn copy_short(to: &mut [u8], text: &[u8])
+    requires same { length to.old ≡ length text.now }
+    requires short { length text.now ≤ 32 }
+    ensures { to.new ≡ text.now }
+{
+    if text.len() < 16 {
+        copy_small(to, text);
+    } else {
+        copy_ends::<16>(to, text);
+    }
+}
+
 // Copies a text into a slice of its length.
 #[inline(always)]
 pub(super) fn copy_text(to: &mut [u8], text: &[u8])
     requires { length to.old ≡ length text.now }
     ensures { to.new ≡ text.now }
 {
-    if text.len() > 32 {
-        copy_long(to, text);
+    if text.len() < 16 {
+        copy_small(to, text);
+    } else if text.len() <= 32 {
+        copy_ends::<16>(to, text);
     } else {
-        copy_short(to, text);
+        copy_long(to, text);
     }
 }

@@ -1,6 +1,6 @@
 //! Whether a text needs no escape in a string: it has no quote, no backslash and no control byte.
 
-ghost use Rattle.std.specs.Prelude.{◌≡◌, ◌+◌, ◌≤◌, length};
+ghost use Rattle.std.specs.Prelude.{◌≡◌, ◌+◌, ◌-◌, ◌<◌, ◌≤◌, ◌++◌, length, take, drop};
 ghost use Rattle.std.specs.Bool.{OnTrue};
 ghost use Rattle.json.specs.Print.{escape};
 ghost use Rattle.json.specs.Written.{PlainBetween};
@@ -21,15 +21,30 @@ fn is_plain_at<const N: usize>(text: &[u8], at: usize) -> bool
         == 0
 }
 
-// The same of N to 2 N bytes, the first and the last N of which may overlap.
+// Stores the first N bytes of a text and behind them its last N.
 #[inline(always)]
-fn has_plain_ends<const N: usize>(text: &[u8]) -> bool
-    requires few { N ≤ 64 }
+fn store_ends<const N: usize>(ends: &mut [u8], text: &[u8])
+    requires room { length ends.old ≡ N + N }
     requires long { N ≤ length text.now }
-    requires covered { length text.now ≤ N + N }
+    ensures { ends.new ≡ take N text.now ++ drop (length text.now - N) text.now }
+{
+    let at = text.len() - N;
+    Simd::<u8, N>::from_slice(text).copy_to_slice(ends);
+    Simd::<u8, N>::from_slice(&text[at..]).copy_to_slice(&mut ends[N..]);
+}
+
+// Whether N to 2 N bytes need no escape: both ends, which may overlap, are tested as one vector of M.
+#[inline(always)]
+fn has_plain_ends<const N: usize, const M: usize>(text: &[u8]) -> bool
+    requires twice { M ≡ N + N }
+    requires few { M ≤ 64 }
+    requires long { N ≤ length text.now }
+    requires covered { length text.now ≤ M }
     ensures { OnTrue result (PlainBetween text.now 0 (length text.now)) }
 {
-    is_plain_at::<N>(text, 0) && is_plain_at::<N>(text, text.len() - N)
+    let mut ends = [0_u8; M];
+    store_ends::<N>(&mut ends[..], text);
+    is_plain_at::<M>(&ends[..], 0)
 }
 
 // The same of a few bytes.
@@ -61,22 +76,32 @@ fn is_long_plain(text: &[u8]) -> bool
     is_plain_at::<32>(text, text.len() - 32)
 }
 
+// The same of fewer than 16 bytes.
+#[inline(always)]
+fn is_small_plain(text: &[u8]) -> bool
+    requires { length text.now < 16 }
+    ensures { OnTrue result (PlainBetween text.now 0 (length text.now)) }
+{
+    if text.len() >= 8 {
+        has_plain_ends::<8, 16>(text)
+    } else if text.len() >= 4 {
+        has_plain_ends::<4, 8>(text)
+    } else {
+        are_plain(text)
+    }
+}
+
 // The same of a text of any length.
 #[inline(always)]
 fn is_plain_to_its_end(text: &[u8]) -> bool
     ensures { OnTrue result (PlainBetween text.now 0 (length text.now)) }
 {
-    let len = text.len();
-    if len > 32 {
-        is_long_plain(text)
-    } else if len >= 16 {
-        has_plain_ends::<16>(text)
-    } else if len >= 8 {
-        has_plain_ends::<8>(text)
-    } else if len >= 4 {
-        has_plain_ends::<4>(text)
+    if text.len() < 16 {
+        is_small_plain(text)
+    } else if text.len() <= 32 {
+        has_plain_ends::<16, 32>(text)
     } else {
-        are_plain(text)
+        is_long_plain(text)
     }
 }
 
