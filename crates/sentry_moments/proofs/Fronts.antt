@@ -9,7 +9,7 @@ use Rattle.std.proofs.lemmas.Str.Parse.{digit_from_value}
 use Rattle.sentry_moments.specs.Digits.{front_digits, after_digits}
 use Rattle.sentry_moments.proofs.Choices.{if_true}
 
-digit_means : (c : ℕ) → is_ascii_digit c ≡ true → digit_value c < 10
+pub digit_means : (c : ℕ) → is_ascii_digit c ≡ true → digit_value c < 10
 digit_means c h = grind (arith, nat_tests)
 
 digit_holds : (c : ℕ) → digit_value c < 10 → is_ascii_digit c ≡ true

@@ -1,9 +1,11 @@
 pub mod AsciiTexts
 pub mod Calendar
 pub mod Choices
+pub mod DateAndTimes
 pub mod Days
 pub mod DecimalReadBack
 pub mod DecimalTexts
+pub mod FractionDigits
 pub mod Fronts
 pub mod Lengths
 pub mod MomentEnds

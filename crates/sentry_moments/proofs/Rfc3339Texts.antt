@@ -48,7 +48,7 @@ both_digits a b h = grind (arith, nat_tests)
 are_digits : (a b : ℕ) → a < 10 → b < 10 → (is_ascii_digit (48 + a) && is_ascii_digit (48 + b)) ≡ true
 are_digits a b h k = grind (arith, nat_tests)
 
-two_value : (a b n : ℕ) → (48 ≤ a) × (a ≤ 57) → (48 ≤ b) × (b ≤ 57) → (a - 48) * 10 + (b - 48) ≡ n → (a ≡ 48 + n / 10 % 10) × (b ≡ 48 + n % 10) × (n < 100)
+pub two_value : (a b n : ℕ) → (48 ≤ a) × (a ≤ 57) → (48 ≤ b) × (b ≤ 57) → (a - 48) * 10 + (b - 48) ≡ n → (a ≡ 48 + n / 10 % 10) × (b ≡ 48 + n % 10) × (n < 100)
 two_value a b n h k e = (omega arith, omega arith, omega arith)
 
 pub two_takes : (text : List ℕ) (n : ℕ) (rest : List ℕ) → two_digits text ≡ Some (n, rest) → (text ≡ digits 2 n ++ rest) × (n < 100)
@@ -75,7 +75,7 @@ two_again n rest h =
 
 -- ---- four digits
 
-four_cells : (c y n : ℕ) → c < 100 → y < 100 → c * 100 + y ≡ n → digits 2 c ++ digits 2 y ≡ digits 4 n
+pub four_cells : (c y n : ℕ) → c < 100 → y < 100 → c * 100 + y ≡ n → digits 2 c ++ digits 2 y ≡ digits 4 n
 unfolding digits
 four_cells c y n h k e =
     let a1 : 48 + c / 10 % 10 ≡ 48 + n / 10 / 10 / 10 % 10 = omega arith in
@@ -133,13 +133,13 @@ date_of_civil : (y m d : ℕ) → IsCivilDate (pos y) m d → IsDate (pos y) (po
 date_of_civil y m d h =
     (h.0, (omega (arith, signed_arith), omega (arith, signed_arith)), (omega (arith, signed_arith), omega (arith, signed_arith)))
 
-day_number-takes : (y m d : ℕ) (n : ℤ) → y < 10_000 → day_number y m d ≡ Some n → IsCivilDate (pos y) m d × (n ≡ days_from_civil (pos y) m d)
+pub day_number-takes : (y m d : ℕ) (n : ℤ) → y < 10_000 → day_number y m d ≡ Some n → IsCivilDate (pos y) m d × (n ≡ days_from_civil (pos y) m d)
 unfolding day_number
 day_number-takes y m d n h e =
     let g = cond_some (is_date y m d) (days_from_civil (pos y) m d) n e in
     (civil_date y m d (test_means y m d h g.0), sym g.1)
 
-day_number-again : (y m d : ℕ) → IsCivilDate (pos y) m d → day_number y m d ≡ Some (days_from_civil (pos y) m d)
+pub day_number-again : (y m d : ℕ) → IsCivilDate (pos y) m d → day_number y m d ≡ Some (days_from_civil (pos y) m d)
 day_number-again y m d h = day_number-date y m d (test_holds y m d (date_of_civil y m d h))
 
 -- three parts with a byte between them
@@ -149,7 +149,7 @@ three_parts byte a b c t t1 t2 t3 t4 t5 rest e e1 e2 e3 e4 e5 = rw (e, e1, e2, e
 two_parts : (a c t t1 t2 t3 : List ℕ) → t ≡ a ++ t1 → t1 ≡ 58 ∷ t2 → t2 ≡ c ++ t3 → t3 ≡ [] → t ≡ a ++ 58 ∷ c
 two_parts a c t t1 t2 t3 e e1 e2 e3 = rw (e, e1, e2, e3) (ap (λ (t : List ℕ). a ++ 58 ∷ t) (append-nil c))
 
-small_date : (y m d : ℕ) → IsCivilDate (pos y) m d → (m < 100) × (d < 100)
+pub small_date : (y m d : ℕ) → IsCivilDate (pos y) m d → (m < 100) × (d < 100)
 small_date y m d h = (omega (arith, h.1.1), omega (arith, h.2.1, days_in_month_bounds (pos y) m))
 
 -- the date at the front of a text
@@ -264,11 +264,14 @@ places_are_digits : (front places : List ℕ) → IsFraction front places → Al
 places_are_digits front places Absent = tt
 places_are_digits front places (Present d ds h) = h
 
+pub nanoseconds_below : (ds : List ℕ) → AllDigits 10 ds → nanoseconds ds < 10 ^ 9
+nanoseconds_below ds h =
+    let nine = take 9 (ds ++ replicate 9 48) in
+    let below = digits_value-lt 10 nine (all_digits_take 9 (ds ++ replicate 9 48) (all_digits_append ds (replicate 9 48) h (zeros_are_digits 9))) in
+    omega (arith, below, power_below (length nine) 9 (omega (arith, length-take 9 (ds ++ replicate 9 48))))
+
 nanoseconds_small : (front places : List ℕ) → IsFraction front places → nanoseconds places < 10 ^ 9
-nanoseconds_small front places h =
-    let nine = take 9 (places ++ replicate 9 48) in
-    let below = digits_value-lt 10 nine (all_digits_take 9 (places ++ replicate 9 48) (all_digits_append places (replicate 9 48) (places_are_digits front places h) (zeros_are_digits 9))) in
-    omega (arith, below, power_below (length nine) 9 (omega (arith, length-take 9 (places ++ replicate 9 48))))
+nanoseconds_small front places h = nanoseconds_below places (places_are_digits front places h)
 
 -- the fraction at the front of a text
 pub record TakesFraction (text : List ℕ) (n : ℕ) (rest : List ℕ) : Type 0 where

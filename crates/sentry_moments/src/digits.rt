@@ -7,7 +7,8 @@ ghost use Rattle.std.specs.Str.Parse.{AllDigits};
 ghost use Rattle.sentry_moments.specs.Characters.{zero_digit};
 ghost use Rattle.sentry_moments.specs.Digits.{front_digits, after_digits};
 
-fn digits_len(text: &[u8]) -> usize
+// Returns how many ASCII digits a text begins with.
+pub(crate) fn digits_len(text: &[u8]) -> usize
     ensures len { result ≡ prefix_len is_ascii_digit text.now }
     ensures within { result ≤ length text.now }
 {

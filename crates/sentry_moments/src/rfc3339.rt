@@ -1,64 +1,52 @@
-//! Parses RFC 3339 texts. Most readers take the front of a slice and return a value and the rest.
-ghost use Rattle.std.specs.Prelude.{◌≡◌, ◌+◌, ◌*◌, ◌<◌, ◌+ℤ◌, ◌-ℤ◌, ◌*ℤ◌, pos, neg_ℤ, slice_index, IfSome, option_map, replicate, ◌++◌};
-ghost use Rattle.std.specs.Char.{digit_value};
-ghost use Rattle.std.specs.Str.Parse.{AllDigits};
+//! Parses RFC 3339 texts: a date and a time at fixed places, and then a fraction and an offset.
+ghost use Rattle.std.specs.Prelude.{ℤ, ℕ, ◌≡◌, ◌↔◌, ◌+◌, ◌*◌, ◌<◌, ◌≤◌, ◌+ℤ◌, ◌-ℤ◌, ◌*ℤ◌, pos, neg_ℤ, length, IsTrue, IsSome, IfSome, option_map};
+ghost use Rattle.std.specs.Char.{is_ascii_digit};
+ghost use Rattle.std.specs.List.{prefix_len};
 ghost use Rattle.jiff_core.specs.Calendar.{IsEpochDay, IsBetween, IsWithin};
-ghost use Rattle.sentry_moments.specs.Characters.{zero_digit};
+ghost use Rattle.sentry_moments.specs.Digits.{front_digits};
 ghost use Rattle.sentry_moments.specs.Rfc3339Scan as spec;
 ghost use Rattle.sentry_moments.specs.Rfc3339 as texts;
 
-use crate::digits::split_digits;
+use crate::digits::digits_len;
 use jiff_core::civil::Date;
+use std::simd::prelude::*;
 
-// Returns the text after a leading `byte`.
+// How many bytes a date and a time take, such as `2020-07-20T14:51:14`.
+const LEN: usize = 19;
+
+// The lowest byte at each place to the minute. Any byte passes between the date and the time.
+const LOWEST: [u8; 16] = *b"0000-00-00\x0000:00";
+
+// How far above it a byte may lie.
+const ABOVE: [u8; 16] = [9, 9, 9, 9, 0, 9, 9, 0, 9, 9, 255, 9, 9, 0, 5, 9];
+
+// Returns whether digits and separators stand where a date and a time have them, with a minute and a
+// second below 60.
 #[inline(always)]
-#[tactic(auto, unfolding(crate::specs::Rfc3339Scan::after))]
-fn after(byte: u8, text: &[u8]) -> Option<&[u8]>
-    ensures { option_map (λ r. r.now) result ≡ spec.after byte text.now }
+fn has_form(text: &[u8]) -> bool
+    requires { length text.now ≡ 19 }
+    ensures { IsTrue result ↔ spec.HasForm text.now }
 {
-    match text {
-        [first, rest @ ..] if *first == byte => Some(rest),
-        _ => None,
+    let above_lowest = u8x16::from_slice(text) - u8x16::from_array(LOWEST);
+    if above_lowest.simd_gt(u8x16::from_array(ABOVE)).to_bitmask() != 0 {
+        return false;
     }
+    matches!(
+        (text[10], text[16], text[17], text[18]),
+        (b'T' | b't' | b' ', b':', b'0'..=b'5', b'0'..=b'9')
+    )
 }
 
+// Returns the number that two digits write.
 #[inline(always)]
-#[tactic(auto, unfolding(crate::specs::Rfc3339Scan::two_digits))]
-fn two_digits(text: &[u8]) -> Option<(u8, &[u8])>
-    ensures value { spec.view result ≡ spec.two_digits text.now }
-    ensures bound { IfSome result (λ p. p.0 < 100) }
+fn number_at(text: &[u8], place: usize) -> u32
+    requires within { place + 1 < length text.now }
+    requires tens { spec.HasDigit text.now place }
+    requires ones { spec.HasDigit text.now (place + 1) }
+    ensures value { result ≡ spec.number_at text.now place }
+    ensures bound { result < 100 }
 {
-    match text {
-        [high @ b'0'..=b'9', low @ b'0'..=b'9', rest @ ..] => {
-            Some(((*high - b'0') * 10 + (*low - b'0'), rest))
-        }
-        _ => None,
-    }
-}
-
-#[inline(always)]
-#[tactic(auto, unfolding(crate::specs::Rfc3339Scan::four_digits))]
-fn four_digits(text: &[u8]) -> Option<(u16, &[u8])>
-    ensures value { spec.view result ≡ spec.four_digits text.now }
-    ensures bound { IfSome result (λ p. p.0 < 10_000) }
-{
-    let (century, rest) = two_digits(text)?;
-    let (year, rest) = two_digits(rest)?;
-    Some((u16::from(century) * 100 + u16::from(year), rest))
-}
-
-// Reads two digits of a number below `limit`.
-#[inline(always)]
-#[tactic(auto, unfolding(crate::specs::Rfc3339Scan::below))]
-fn below(limit: u8, text: &[u8]) -> Option<(u8, &[u8])>
-    ensures value { spec.view result ≡ spec.below limit text.now }
-    ensures bound { IfSome result (λ p. p.0 < limit) }
-{
-    let (number, rest) = two_digits(text)?;
-    if number >= limit {
-        return None;
-    }
-    Some((number, rest))
+    u32::from(text[place]) * 10 + u32::from(text[place + 1]) - 11 * u32::from(b'0')
 }
 
 // Returns the days from 1970-01-01 to a date; `None` if the calendar doesn't have the date.
@@ -74,74 +62,63 @@ fn day_number(year: u16, month: u8, day: u8) -> Option<i32>
     Some(date.to_unix_epoch_day())
 }
 
-// Reads a date, as the days since 1970-01-01.
+// Parses a date and a time: the days since 1970-01-01, and the seconds since midnight.
 #[inline(always)]
-#[tactic(auto, unfolding(crate::specs::Rfc3339Scan::day))]
-fn day(text: &[u8]) -> Option<(i32, &[u8])>
-    ensures value { spec.view result ≡ spec.day text.now }
-    ensures bound { IfSome result (λ p. IsEpochDay p.0) }
+fn date_and_time(text: &[u8]) -> Option<(i32, u32)>
+    requires { length text.now ≡ 19 }
+    ensures found { IfSome result (λ p. spec.IsDateAndTime text.now p.0 p.1) }
+    ensures only { (day : ℤ) (second : ℕ) → spec.IsDateAndTime text.now day second → IsSome result }
+    ensures bound { IfSome result (λ p. IsEpochDay p.0 × (p.1 < 86_400)) }
 {
-    let (year, rest) = four_digits(text)?;
-    let (month, rest) = two_digits(after(b'-', rest)?)?;
-    let (day, rest) = two_digits(after(b'-', rest)?)?;
-    Some((day_number(year, month, day)?, rest))
-}
-
-#[inline(always)]
-#[tactic(auto, unfolding(crate::specs::Rfc3339Scan::after_separator))]
-fn after_separator(text: &[u8]) -> Option<&[u8]>
-    ensures { option_map (λ r. r.now) result ≡ spec.after_separator text.now }
-{
-    match text {
-        [b'T' | b't' | b' ', rest @ ..] => Some(rest),
-        _ => None,
+    if !has_form(text) {
+        return None;
     }
-}
-
-// Reads a time of day, as the seconds since midnight.
-#[inline(always)]
-#[tactic(auto, unfolding(crate::specs::Rfc3339Scan::clock))]
-fn clock(text: &[u8]) -> Option<(u32, &[u8])>
-    ensures value { spec.view result ≡ spec.clock text.now }
-    ensures bound { IfSome result (λ p. p.0 < 86_400) }
-{
-    let (hour, rest) = below(24, text)?;
-    let (minute, rest) = below(60, after(b':', rest)?)?;
-    let (second, rest) = below(60, after(b':', rest)?)?;
+    let year = number_at(text, 0) * 100 + number_at(text, 2);
+    let day = day_number(
+        year as u16,
+        number_at(text, 5) as u8,
+        number_at(text, 8) as u8,
+    )?;
+    let hour = number_at(text, 11);
+    if hour >= 24 {
+        return None;
+    }
     Some((
-        u32::from(hour) * 3_600 + u32::from(minute) * 60 + u32::from(second),
-        rest,
+        day,
+        hour * 3_600 + number_at(text, 14) * 60 + number_at(text, 17),
     ))
 }
 
-// Returns the digit at a place, or 0 past the end.
-#[inline(always)]
-fn digit_at(digits: &[u8], place: usize) -> u8
-    requires are_digits { AllDigits 10 digits.now }
-    requires within { place < 9 }
-    ensures value { result ≡
-        digit_value (slice_index (digits.now ++ replicate 9 zero_digit) place) }
-    ensures bound { result < 10 }
-{
-    if place < digits.len() {
-        digits[place] - b'0'
-    } else {
-        0
-    }
-}
+// What a digit counts for at each place of a fraction, in nanoseconds.
+const WORTH: [u32; 9] = [
+    100_000_000,
+    10_000_000,
+    1_000_000,
+    100_000,
+    10_000,
+    1_000,
+    100,
+    10,
+    1,
+];
 
-// Returns the first nine digits of a fraction as nanoseconds; missing digits count as 0.
+// Reads the digits of a fraction: the nanoseconds that the first nine write, and how many there are.
 #[inline(always)]
-fn nanoseconds(digits: &[u8]) -> u32
-    requires { AllDigits 10 digits.now }
-    ensures value { result ≡ texts.nanoseconds digits.now }
-    ensures bound { result < 1_000_000_000 }
+fn fraction_digits(text: &[u8]) -> (u32, usize)
+    ensures value { result.0 ≡ texts.nanoseconds (front_digits text.now) }
+    ensures bound { result.0 < 1_000_000_000 }
+    ensures count { result.1 ≡ prefix_len is_ascii_digit text.now }
+    ensures some { result.1 ≡ 0 ↔ length (front_digits text.now) ≡ 0 }
+    ensures within { result.1 ≤ length text.now }
 {
     let mut nanos = 0;
     for place in 0..9 {
-        nanos = nanos * 10 + u32::from(digit_at(digits, place));
+        if place == text.len() || !text[place].is_ascii_digit() {
+            return (nanos, place);
+        }
+        nanos += u32::from(text[place] - b'0') * WORTH[place];
     }
-    nanos
+    (nanos, 9 + digits_len(&text[9..]))
 }
 
 // Reads an optional fraction, as nanoseconds.
@@ -154,25 +131,37 @@ fn fraction(text: &[u8]) -> Option<(u32, &[u8])>
     let [b'.', rest @ ..] = text else {
         return Some((0, text));
     };
-    let (digits, rest) = split_digits(rest);
-    if digits.is_empty() {
+    let (nanos, count) = fraction_digits(rest);
+    if count == 0 {
         return None;
     }
-    Some((nanoseconds(digits), rest))
+    Some((nanos, &rest[count..]))
+}
+
+// Returns whether a text has the form of `01:00`, with a minute below 60.
+#[inline(always)]
+fn is_hour_and_minute(text: &[u8]) -> bool
+    ensures { IsTrue result ↔ spec.IsHourAndMinute text.now }
+{
+    matches!(
+        text,
+        [b'0'..=b'2', b'0'..=b'9', b':', b'0'..=b'5', b'0'..=b'9',]
+    )
 }
 
 // Parses the rest of an offset, in seconds.
-#[tactic(auto, unfolding(crate::specs::Rfc3339Scan::hour_and_minute))]
 fn hour_and_minute(text: &[u8]) -> Option<i32>
     ensures value { result ≡ option_map pos (spec.hour_and_minute text.now) }
     ensures bound { IfSome result (IsBetween (pos 0) (pos 86_399)) }
 {
-    let (hour, rest) = below(24, text)?;
-    let (minute, rest) = below(60, after(b':', rest)?)?;
-    if !rest.is_empty() {
+    if !is_hour_and_minute(text) {
         return None;
     }
-    Some(i32::from(hour) * 3_600 + i32::from(minute) * 60)
+    let hour = number_at(text, 0);
+    if hour >= 24 {
+        return None;
+    }
+    Some((hour * 3_600 + number_at(text, 3) * 60) as i32)
 }
 
 // Parses `Z`, `z` or an offset, as the seconds that the clock is ahead of UTC.
@@ -204,13 +193,12 @@ fn seconds(day: i32, second: u32, offset: i32) -> i64
 
 // Parses an RFC 3339 text: the seconds since 1970-01-01T00:00:00Z, which are negative before 1970,
 // and the nanoseconds.
-#[tactic(auto, unfolding(crate::specs::Rfc3339Scan::moment))]
 pub(crate) fn read(text: &[u8]) -> Option<(i64, u32)>
     ensures value { result ≡ spec.moment text.now }
     ensures bound { IfSome result (λ p. IsWithin 1_000_000_000_000 p.0 × (p.1 < 1_000_000_000)) }
 {
-    let (day, rest) = day(text)?;
-    let (second, rest) = clock(after_separator(rest)?)?;
+    let (front, rest) = text.split_at_checked(LEN)?;
+    let (day, second) = date_and_time(front)?;
     let (nanos, rest) = fraction(rest)?;
     let offset = zone(rest)?;
     Some((seconds(day, second, offset), nanos))
