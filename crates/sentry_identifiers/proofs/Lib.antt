@@ -7,3 +7,4 @@ pub mod DebugIdTrees
 pub mod UuidLaws
 pub mod UuidTexts
 pub mod Lengths
+pub mod HexTexts

@@ -26,9 +26,6 @@ pub comma_room : (comma : Bool) (text : List ℕ) → length (cond comma (44 ∷
 comma_room true text = omega arith
 comma_room false text = omega arith
 
-pub quoted_room : (comma : Bool) (text close : List ℕ) → length (cond comma (44 ∷ []) [] ++ 34 ∷ (text ++ close)) ≤ length text + length close + 2
-quoted_room comma text close = omega (arith, comma_room comma (34 ∷ (text ++ close)), length-append text close)
-
 of_choice : (a b : Bool) (xs ys zs : List ℕ) → length xs ≤ 6 → length ys ≤ 6 → length zs ≤ 6 → length (cond a xs (cond b ys zs)) ≤ 6
 of_choice true b xs ys zs x y z = x
 of_choice false true xs ys zs x y z = y

@@ -3,24 +3,19 @@ use Rattle.std.proofs.Common.{◌≡◌, ◌+◌, ◌-◌, ◌≤◌, ℕ, List,
 use Rattle.std.specs.Simd.Lanes.{chunk, put_chunk}
 use Rattle.std.proofs.lemmas.Bool.{cases_lt}
 use Rattle.std.proofs.lemmas.List.{get_or_append_left, get_or-append_right}
-use Rattle.std.proofs.lemmas.Simd.{take_more_put_chunk, length-put_chunk}
 use Rattle.json.specs.Run.{is_plain}
 use Rattle.json.specs.Written.{PlainBetween}
+use Rattle.sentry_json.proofs.Copied.{both_put}
 
 pub ends_stored : (n : ℕ) (room text : List ℕ) → length room ≡ n + n → n ≤ length text → put_chunk n (put_chunk 0 room (chunk 0 n text)) (chunk (length text - n) n text) ≡ take n text ++ drop (length text - n) text
 ends_stored n room text size long =
     let at = length text - n in
     let first = take n text in
-    let begun = put_chunk 0 room first in
-    let last = take n (drop at text) in
     let left : length (drop at text) ≡ n = omega (arith, length-drop at text, long) in
+    let all = take_all n (drop at text) (omega (arith, left)) in
     let first_size = length-take-le n text long in
-    let last_size : length last ≡ n = ap length (take_all n (drop at text) (omega (arith, left))) ∙ left in
-    let begun_size : length begun ≡ n + n = length-put_chunk 0 room first ∙ size in
-    let begins = take_more_put_chunk 0 room first n (omega (arith, first_size)) (omega (arith, size)) in
-    let stored = put_chunk n begun last in
-    let whole = take_more_put_chunk n begun last (n + n) (omega (arith, last_size)) (omega (arith, begun_size)) in
-    sym (take_all (n + n) stored (omega (arith, length-put_chunk n begun last, begun_size))) ∙ whole ∙ (λ i. begins i ++ take_all n (drop at text) (omega (arith, left)) i)
+    let put = both_put n room first (take n (drop at text)) (omega (arith, first_size)) (omega (arith, first_size, size)) (omega (arith, ap length all, left, size)) in
+    put ∙ (λ i. take_all n first (omega (arith, first_size)) i ++ all i)
 
 pub plain_by_ends : (n : ℕ) (text : List ℕ) → n ≤ length text → length text ≤ n + n → PlainBetween (take n text ++ drop (length text - n) text) 0 (n + n) → PlainBetween text 0 (length text)
 plain_by_ends n text long covered plain k _ below =

@@ -26,8 +26,8 @@ use std::marker::Model;
 
 /// A writer that appends JSON to a buffer, without white space and with the shortest escapes.
 ///
-/// It places commas and colons; that objects and lists are closed is the caller's part. A write needs
-/// no allocation where the buffer has room for its text and a comma.
+/// It places commas and colons; that objects and lists are closed is the caller's part. A write
+/// can't fail where the buffer has room for its text and a comma.
 ///
 /// <https://www.rfc-editor.org/rfc/rfc8259>
 #[derive(Drop)]

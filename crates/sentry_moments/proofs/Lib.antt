@@ -20,3 +20,4 @@ pub mod Rfc3339ReadBack
 pub mod Rfc3339Texts
 pub mod SamplingSpellings
 pub mod Shifts
+pub mod TwoDigits

@@ -89,6 +89,15 @@ pub cut_below : (places n : ℕ) → 0 < places → n < 10 ^ places → n / 10 <
 cut_below zero n some h = absurd (omega (arith, some))
 cut_below (suc places) n some h = let one : suc places - 1 ≡ places = omega arith in rw one (tenth_below places n h)
 
+pub thousand_cut : (places n : ℕ) → 3 ≤ places → n % 1_000 ≡ 0 → digits_without_closing_zeros places n ≡ digits_without_closing_zeros (places - 3) (n / 1_000)
+thousand_cut places n long e =
+    let one = zero_cut places n (omega (arith, long)) (omega (arith, e)) in
+    let two = zero_cut (places - 1) (n / 10) (omega (arith, long)) (omega (arith, e)) in
+    let three = zero_cut (places - 1 - 1) (n / 10 / 10) (omega (arith, long)) (omega (arith, e)) in
+    let left : places - 1 - 1 - 1 ≡ places - 3 = omega arith in
+    let number : n / 10 / 10 / 10 ≡ n / 1_000 = omega arith in
+    one ∙ two ∙ three ∙ (λ i. digits_without_closing_zeros (left i) (number i))
+
 -- ---- digits one by one
 
 pub two_digits : (n : ℕ) → digits 2 n ≡ (48 + n / 10 % 10) ∷ (48 + n % 10) ∷ []

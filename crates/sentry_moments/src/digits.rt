@@ -32,6 +32,10 @@ pub(crate) fn last_digit(number: u32) -> u8
     b'0' + (number % 10) as u8
 }
 
+// The two digits of each number below 100, one number after the other.
+static TWO_DIGITS: [u8; 200] =
+    *b"00010203040506070809101112131415161718192021222324252627282930313233343536373839404142434445464748495051525354555657585960616263646566676869707172737475767778798081828384858687888990919293949596979899";
+
 // Returns the two digits of a number below 100.
 #[inline(always)]
 pub(crate) fn two_digits(number: u32) -> (u8, u8)
@@ -39,6 +43,6 @@ pub(crate) fn two_digits(number: u32) -> (u8, u8)
     ensures tens { result.0 ≡ zero_digit + number / 10 % 10 }
     ensures ones { result.1 ≡ zero_digit + number % 10 }
 {
-    let tens = number / 10;
-    (b'0' + tens as u8, b'0' + (number - 10 * tens) as u8)
+    let place = 2 * number as usize;
+    (TWO_DIGITS[place], TWO_DIGITS[place + 1])
 }

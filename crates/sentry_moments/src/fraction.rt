@@ -14,6 +14,27 @@ pub(crate) struct Fraction {
     pub ghost small: { billionths < 10 ^ 9 },
 }
 
+// Returns three, six or nine places, the fewest that hold all that are not 0, as a number, and their
+// count: clocks mostly tell milliseconds or microseconds.
+fn in_thousands(billionths: u32) -> (u32, usize)
+    requires some { 0 < billionths }
+    requires small { billionths < 10 ^ 9 }
+    ensures same { digits_without_closing_zeros result.1 result.0
+        ≡ digits_without_closing_zeros 9 billionths }
+    ensures some { 0 < result.0 }
+    ensures small { result.0 < 10 ^ result.1 }
+    ensures within { result.1 ≤ 9 }
+{
+    if billionths % 1_000 != 0 {
+        return (billionths, 9);
+    }
+    let millionths = billionths / 1_000;
+    if millionths % 1_000 != 0 {
+        return (millionths, 6);
+    }
+    (millionths / 1_000, 3)
+}
+
 // Returns the places without trailing zeros, as a number, and their count.
 fn without_closing_zeros(billionths: u32) -> (u32, usize)
     requires some { 0 < billionths }
@@ -21,8 +42,7 @@ fn without_closing_zeros(billionths: u32) -> (u32, usize)
     ensures same { digits result.1 result.0 ≡ digits_without_closing_zeros 9 billionths }
     ensures within { result.1 ≤ 9 }
 {
-    let mut number = billionths;
-    let mut places = 9;
+    let (mut number, mut places) = in_thousands(billionths);
     while number % 10 == 0 {
         number /= 10;
         places -= 1;

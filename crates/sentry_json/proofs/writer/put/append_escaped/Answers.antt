@@ -2,9 +2,9 @@ use Rattle.std.proofs.Common.{◌+◌, ◌-◌, ◌++◌, [], rules, arith, ap, 
 use Rattle.std.proofs.lemmas.List.{take_rest}
 use Rattle.std.proofs.lemmas.Result.{err_from_is_err_and}
 use Rattle.json.specs.Print.{escape, escape_byte}
-use Rattle.json.proofs.Printed.Room.{moved}
+use Rattle.json.proofs.Printed.Room.{moved, length-quoted}
 use Rattle.json.proofs.Printed.Strings.{escape_to_stop, escape_at, escape_end}
-use Rattle.sentry_json.proofs.Appended.{front_stays, capacity_stays, no_room, quoted_room}
+use Rattle.sentry_json.proofs.Appended.{front_stays, capacity_stays, no_room}
 use Rattle.sentry_json.proofs.writer.put.append_escaped.Goals as goal
 
 pub returns-in_err-reserve-clause-missing : goal.returns-in_err-reserve-clause-missing
@@ -19,7 +19,7 @@ returns-in_err-reserve-clause-missing c =
     let whole = ap (λ l. c.loop-out.out.items ++ l) (append_assoc run close [] ∙ sym parts) ∙ c.loop-out.invariant.1 in
     let none = no_room c.args.out.now.items c.loop-out.out.items (run ++ close) [] _ c.args.out.now.spare c.loop-out.out.spare whole c.loop-out.invariant.3 (omega (arith, c.in_err-reserve.ensures.missing, length-append run close)) in
     let p = err_from_is_err_and c.from_residual-in_err-reserve.result c.from_residual-in_err-reserve.ensures.1 in
-    rw p.1 (omega (arith, none, quoted_room c.args.comma (escape text) close))
+    rw p.1 (omega (arith, none, length-quoted c.args.comma (escape text) close))
 
 pub returns-then-stop-text-clause-ok : goal.returns-then-stop-text-clause-ok
 returns-then-stop-text-clause-ok c =
@@ -45,7 +45,7 @@ returns-in_err-reserve_escape-clause-missing c =
     let whole = ap (λ l. c.loop-out.out.items ++ l) (append_assoc run part rest ∙ sym parts) ∙ c.loop-out.invariant.1 in
     let none = no_room c.args.out.now.items c.loop-out.out.items (run ++ part) rest _ c.args.out.now.spare c.loop-out.out.spare whole c.loop-out.invariant.3 (omega (arith, c.in_err-reserve_escape.ensures.missing, length-append run part)) in
     let p = err_from_is_err_and c.from_residual-in_err-reserve_escape.result c.from_residual-in_err-reserve_escape.ensures.1 in
-    rw p.1 (omega (arith, none, quoted_room c.args.comma (escape text) close))
+    rw p.1 (omega (arith, none, length-quoted c.args.comma (escape text) close))
 
 pub loop-out-preserved : goal.loop-out-preserved
 loop-out-preserved c =

@@ -2,6 +2,7 @@ use Rattle.std.proofs.Common.{◌≡◌, ◌+◌, ◌≤◌, [], ◌∷◌, ◌+
 use Rattle.json.specs.Print.{escape}
 use Rattle.sentry_json.proofs.writer.put.append_escaped.Given as goal
 
+-- what is appended and what is left make the whole
 abbrev pub invariant-loop-out : goal.invariant-loop-out
 invariant-loop-out l =
     (l.at ≤ length l.text)
