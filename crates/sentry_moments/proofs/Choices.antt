@@ -1,5 +1,5 @@
 -- What a choice gives, and what it was chosen by.
-use Rattle.std.proofs.Common.{◌≡◌, ◌⊎◌, inl, inr, Bool, true, false, cond, Option, Some, None, option_map, IsSome, IfSome, IsSomeAnd, refl}
+use Rattle.std.proofs.Common.{◌≡◌, Bool, true, false, cond, Option, Some, None, option_map, IsSome, IfSome, IsSomeAnd, refl}
 
 pub if_true : {A : Type 0} (b : Bool) (x y : A) → b ≡ true → cond b x y ≡ x
 if_true true x y e = refl
@@ -8,10 +8,6 @@ if_true false x y e = absurd cc
 pub if_false : {A : Type 0} (b : Bool) (x y : A) → b ≡ false → cond b x y ≡ y
 if_false true x y e = absurd cc
 if_false false x y e = refl
-
-pub if_some : {A : Type 0} (b : Bool) (x y : Option A) (z : A) → cond b x y ≡ Some z → ((b ≡ true) × (x ≡ Some z)) ⊎ ((b ≡ false) × (y ≡ Some z))
-if_some true x y z e = inl (refl, e)
-if_some false x y z e = inr (refl, e)
 
 pub some_is : {A : Type 0} (x y : A) → ◌≡◌ {A = Option A} (Some x) (Some y) → x ≡ y
 some_is x y e = cc

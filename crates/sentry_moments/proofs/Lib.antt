@@ -21,3 +21,4 @@ pub mod Rfc3339Texts
 pub mod SamplingSpellings
 pub mod Shifts
 pub mod TwoDigits
+pub mod Zones

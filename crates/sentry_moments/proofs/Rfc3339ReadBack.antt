@@ -11,7 +11,6 @@ use Rattle.sentry_moments.specs.Rfc3339.{IsMomentTime, IsRfc3339, IsFraction, Ab
 use Rattle.sentry_moments.specs.MomentTexts.{day_after, civil_at, rfc3339_text}
 use Rattle.sentry_moments.proofs.Places.{IsCut, is_cut, value_of_digits, length-digits}
 use Rattle.sentry_moments.proofs.Calendar.{day_after-is, year_below}
-use Rattle.sentry_moments.proofs.Rfc3339Texts.{cons_append}
 
 -- the places are those of the number
 nanoseconds_of : (n : ℕ) (xs : List ℕ) → n < 10 ^ 9 → IsCut 9 n xs → n ≡ nanoseconds xs
@@ -43,7 +42,7 @@ written nanos false e h =
     not_none n e = grind (arith, nat_tests)
 
 regroup : (d c f z : List ℕ) (s : ℕ) → d ++ (s ∷ (c ++ (f ++ z))) ≡ d ++ s ∷ c ++ f ++ z
-regroup d c f z s = simp (append_assoc, cons_append)
+regroup d c f z s = sym (append_assoc (d ++ s ∷ c) f z ∙ append_assoc d (s ∷ c) (f ++ z))
 
 same_seconds : (days : ℤ) (secs : ℕ) → days ≡ pos (secs / 86_400) → pos secs ≡ days *ℤ pos 86_400 +ℤ pos (secs % 86_400 / 3_600 * 3_600 + secs % 3_600 / 60 * 60 + secs % 60) -ℤ pos 0
 same_seconds days secs e = omega (arith, signed_arith)

@@ -7,7 +7,7 @@ pub mod MomentPlaces
 pub mod MomentTexts
 pub mod Moments
 pub mod Rfc3339
-pub mod Rfc3339Scan
+pub mod Rfc3339Parts
 pub mod SampleRand
 pub mod SampleRandReading
 pub mod SampleRate

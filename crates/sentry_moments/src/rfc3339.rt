@@ -1,10 +1,11 @@
 //! Parses RFC 3339 texts: a date and a time at fixed places, and then a fraction and an offset.
-ghost use Rattle.std.specs.Prelude.{ℤ, ℕ, ◌≡◌, ◌↔◌, ◌+◌, ◌*◌, ◌<◌, ◌≤◌, ◌+ℤ◌, ◌-ℤ◌, ◌*ℤ◌, pos, neg_ℤ, length, IsTrue, IsSome, IfSome, option_map};
+ghost use Rattle.std.specs.Prelude.{ℤ, ℕ, ◌≡◌, ◌↔◌, ◌+◌, ◌*◌, ◌<◌, ◌≤◌, ◌+ℤ◌, ◌-ℤ◌, ◌*ℤ◌, ◌∷◌, pos, neg_ℤ, length, IsTrue, Some, IsSome, IfSome, option_map};
 ghost use Rattle.std.specs.Char.{is_ascii_digit};
 ghost use Rattle.std.specs.List.{prefix_len};
-ghost use Rattle.jiff_core.specs.Calendar.{IsEpochDay, IsBetween, IsWithin};
+ghost use Rattle.jiff_core.specs.Calendar.{IsCivilDate, IsEpochDay, IsBetween, IsWithin, days_from_civil};
+ghost use Rattle.sentry_moments.specs.Characters.{plus_sign};
 ghost use Rattle.sentry_moments.specs.Digits.{front_digits};
-ghost use Rattle.sentry_moments.specs.Rfc3339Scan as spec;
+ghost use Rattle.sentry_moments.specs.Rfc3339Parts as spec;
 ghost use Rattle.sentry_moments.specs.Rfc3339 as texts;
 
 use crate::digits::digits_len;
@@ -55,7 +56,9 @@ fn day_number(year: u16, month: u8, day: u8) -> Option<i32>
     requires year_in { year < 10_000 }
     requires month_in { month < 100 }
     requires day_in { day < 100 }
-    ensures value { result ≡ spec.day_number year month day }
+    ensures found { IfSome result (λ number.
+        IsCivilDate (pos year) month day × (number ≡ days_from_civil (pos year) month day)) }
+    ensures only { IsCivilDate (pos year) month day → IsSome result }
     ensures bound { IfSome result IsEpochDay }
 {
     let date = Date::new(year as i16, month as i8, day as i8).ok()?;
@@ -123,9 +126,9 @@ fn fraction_digits(text: &[u8]) -> (u32, usize)
 
 // Reads an optional fraction, as nanoseconds.
 #[inline(always)]
-#[tactic(auto, unfolding(crate::specs::Rfc3339Scan::fraction))]
+#[tactic(auto, unfolding(crate::specs::Rfc3339Parts::fraction))]
 fn fraction(text: &[u8]) -> Option<(u32, &[u8])>
-    ensures value { spec.view result ≡ spec.fraction text.now }
+    ensures value { option_map (λ p. (p.0, p.1.now)) result ≡ spec.fraction text.now }
     ensures bound { IfSome result (λ p. p.0 < 1_000_000_000) }
 {
     let [b'.', rest @ ..] = text else {
@@ -151,7 +154,8 @@ fn is_hour_and_minute(text: &[u8]) -> bool
 
 // Parses the rest of an offset, in seconds.
 fn hour_and_minute(text: &[u8]) -> Option<i32>
-    ensures value { result ≡ option_map pos (spec.hour_and_minute text.now) }
+    ensures found { IfSome result (texts.IsZone (plus_sign ∷ text.now)) }
+    ensures only { (offset : ℤ) → texts.IsZone (plus_sign ∷ text.now) offset → IsSome result }
     ensures bound { IfSome result (IsBetween (pos 0) (pos 86_399)) }
 {
     if !is_hour_and_minute(text) {
@@ -166,9 +170,9 @@ fn hour_and_minute(text: &[u8]) -> Option<i32>
 
 // Parses `Z`, `z` or an offset, as the seconds that the clock is ahead of UTC.
 #[inline(always)]
-#[tactic(auto, unfolding(crate::specs::Rfc3339Scan::zone))]
 fn zone(text: &[u8]) -> Option<i32>
-    ensures value { result ≡ spec.zone text.now }
+    ensures found { IfSome result (texts.IsZone text.now) }
+    ensures only { (offset : ℤ) → texts.IsZone text.now offset → IsSome result }
     ensures bound { IfSome result (IsBetween (neg_ℤ (pos 86_399)) (pos 86_399)) }
 {
     match text {
@@ -194,7 +198,9 @@ fn seconds(day: i32, second: u32, offset: i32) -> i64
 // Parses an RFC 3339 text: the seconds since 1970-01-01T00:00:00Z, which are negative before 1970,
 // and the nanoseconds.
 pub(crate) fn read(text: &[u8]) -> Option<(i64, u32)>
-    ensures value { result ≡ spec.moment text.now }
+    ensures found { IfSome result (λ p. spec.IsMoment text.now p.0 p.1) }
+    ensures only { (secs : ℤ) (nanos : ℕ) → spec.IsMoment text.now secs nanos →
+        result ≡ Some (secs, nanos) }
     ensures bound { IfSome result (λ p. IsWithin 1_000_000_000_000 p.0 × (p.1 < 1_000_000_000)) }
 {
     let (front, rest) = text.split_at_checked(LEN)?;

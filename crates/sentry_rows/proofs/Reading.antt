@@ -7,7 +7,7 @@ use Rattle.sentry_tables.specs.Cell.{Cell, Cells, no_cells, cell, fields}
 use Rattle.sentry_tables.specs.Fields.{Field, rows_of, cells_by, table_of, fields_by}
 use Rattle.sentry_tables.specs.Kind.{Rule, must, may, may_null, default, always, Kind, Rows, Other, ignored, kept, table, keys, others}
 use Rattle.sentry_tables.specs.Shows.{Shows, RowShows, RowsShow, AreFields, members_in}
-use Rattle.sentry_tables.specs.Reading.{Shown, RowShown, RowRefused, Reads, ReadsRow, Refused, RowShownAt, RowRefusedAt, ReadsAt, ReadsRowAt, ShownAt, RefusedAt}
+use Rattle.sentry_tables.specs.Reading.{Only, Shown, RowShown, RowRefused, Reads, ReadsRow, Refused, RowShownAt, RowRefusedAt, ReadsAt, ReadsRowAt, ShownAt, RefusedAt}
 use Rattle.sentry_tables.specs.declared.error.TreeError.{TreeError}
 use Rattle.sentry_tables.specs.declared.error.TreeError.TheVariants.{Misfit, Memory}
 use Rattle.sentry_json.specs.Nodes.{tree_of}
@@ -38,6 +38,15 @@ module _ {N : Type 0} (data_of : N → Data) where
   pub field_ready : (key : List ℕ) (r : Rule) (K : Kind) (c : Cell) (a : Reader N) → RowShown key r K (read_of data_of a) c → ReadsField data_of key r K c a a
   unfolding ReadsField
   field_ready key r K c a shown = (refl, λ none. (none, shown), λ misfit. inl misfit)
+
+  -- a row that was refused, where any value may stand in
+  pub field_failed : {A : Type 0} (key : List ℕ) (r : Rule) (K : Kind) (c : Cell) (e : TreeError) (v : A) (a b : Reader N) → Only e (RowRefused key r K (read_of data_of a)) → Keeps (Err e) v a b → ReadsField data_of key r K c a b
+  unfolding Keeps ReadsField
+  field_failed key r K c e v a b refused k = (
+    k.0,
+    λ none. let p = k.1 none in absurd cc,
+    λ misfit. elim (k.2 Misfit misfit) [ inl early ↦ inl early | inr here ↦ inr (subst (λ x. IfErr x (λ y. Only y (RowRefused key r K (read_of data_of a)))) here refused) ],
+  )
 
   -- what reads alike, and differs in what is written
   pub field_always : (key : List ℕ) (D : Cell) (K : Kind) (c : Cell) (a b : Reader N) → ReadsField data_of key (default D) K c a b → ReadsField data_of key (always D) K c a b

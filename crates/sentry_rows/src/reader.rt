@@ -112,14 +112,27 @@ impl<'t, N: Node> Reader<'t, N> {
     }
 
     /// Reads an optional member with the codec `F`; `None` if absent or null.
-    #[tactic(auto, using(crate::proofs::Reading::field_kept))]
+    ///
+    /// Most members are absent, and then nothing is moved, however large a value may be.
+    #[tactic(auto, using(crate::proofs::Reading::field_ready, crate::proofs::Reading::field_failed, crate::proofs::RowLemmas::may_absent, crate::proofs::RowLemmas::may_is_null, crate::proofs::RowLemmas::may_shown, crate::proofs::RowLemmas::may_fails))]
     #[inline(always)]
     pub fn optional_as<F: ReadCodec<X>, X: Drop>(&mut self, key: &str) -> Option<X>
         ensures { ReadsField N.data_of key.now may F.kind
             (option_cell F.cell_of result) self.old self.new }
     {
-        let read = rows::optional_as::<F, X, N>(self.alloc, &self.object, key);
-        self.keep(read, None)
+        let Some(member) = self.object.get(key) else {
+            return None;
+        };
+        if member.is_null() {
+            return None;
+        }
+        match F::from_node(self.alloc, member) {
+            Ok(value) => Some(value),
+            Err(error) => {
+                self.keep(Err(error), ());
+                None
+            }
+        }
     }
 
     /// Reads an optional member; `None` if absent or null.

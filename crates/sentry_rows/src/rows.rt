@@ -5,7 +5,7 @@ ghost use Rattle.serde_json.specs.View.{members_view};
 ghost use Rattle.sentry_json.specs.Nodes.{tree_of};
 ghost use Rattle.sentry_json.specs.Keys.{beside};
 ghost use Rattle.sentry_tables.specs.Cell.{text};
-ghost use Rattle.sentry_tables.specs.Kind.{must, may, may_strict, default as default_rule};
+ghost use Rattle.sentry_tables.specs.Kind.{must, may_strict, default as default_rule};
 ghost use Rattle.sentry_tables.specs.Shows.{members_in};
 ghost use Rattle.sentry_tables.specs.Cells.{text_cell, option_cell};
 ghost use Rattle.sentry_tables.specs.Kinds.{text_kind};
@@ -31,24 +31,6 @@ pub(crate) fn required_as<F: ReadCodec<T>, T, N: Node>(
     match object.get(key) {
         Some(member) => F::from_node(alloc, member),
         None => Err(TreeError::Misfit),
-    }
-}
-
-// Reads an optional member; `None` if absent or null.
-#[tactic(auto, using(crate::proofs::RowLemmas::may_absent, crate::proofs::RowLemmas::may_is_null, crate::proofs::RowLemmas::may_shown, crate::proofs::RowLemmas::may_fails))]
-#[inline(always)]
-pub(crate) fn optional_as<F: ReadCodec<T>, T, N: Node>(
-    alloc: Global,
-    object: &Object<'_, N>,
-    key: &str,
-) -> Result<Option<T>, TreeError>
-    ensures { ReadsRow key.now may F.kind (option_cell F.cell_of)
-        (tree_of N.data_of object.now) result }
-{
-    match object.get(key) {
-        None => Ok(None),
-        Some(member) if member.is_null() => Ok(None),
-        Some(member) => Ok(Some(F::from_node(alloc, member)?)),
     }
 }
 
