@@ -43,9 +43,8 @@ fn read(alloc: Global, bytes: &[u8], now: Moment, seed: u64) -> Result<Envelope,
 pub(crate) fn text_of(alloc: Global, envelope: &Envelope) -> Result<Vec<u8>, AllocError>
     ensures { IfOk result (λ text. text.items ≡ text_of envelope.now) }
 {
-    let mut text = Vec::new(alloc);
-    match envelope.to_writer(alloc, &mut text) {
-        Ok(()) => Ok(text),
+    match envelope.to_vec(alloc) {
+        Ok(text) => Ok(text),
         Err(_) => Err(AllocError),
     }
 }

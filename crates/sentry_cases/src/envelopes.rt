@@ -23,6 +23,9 @@ pub fn said_envelope(alloc: Global, envelope: &Envelope) -> Result<Value, AllocE
         Ok(()) => said_bytes(alloc, out.as_slice()),
         // A vector takes what is written unless an allocation fails.
         Err(EnvelopeWriteError::Io) => Err(AllocError),
+        Err(EnvelopeWriteError::NotPlain) if envelope.to_vec(alloc).is_ok() => {
+            text(alloc, "a vector has the text")
+        }
         Err(error) if out.is_empty() => refused(alloc, &error),
         Err(_) => text(alloc, "a part is written"),
     }
@@ -50,9 +53,10 @@ fn spells(alloc: Global, text: &[u8], envelope: &Envelope) -> bool {
 // Whether the text of an envelope spells its normal form, which has the same text, and a clone is
 // the envelope.
 fn is_steady(alloc: Global, envelope: &Envelope) -> bool {
-    let mut text = Vec::new(alloc);
-    envelope.to_writer(alloc, &mut text).is_ok()
-        && envelope.is_plain()
+    let Ok(text) = envelope.to_vec(alloc) else {
+        return false;
+    };
+    envelope.is_plain()
         && is_written(alloc, envelope, &text)
         && is_same(envelope.clone(), envelope)
         && holds(

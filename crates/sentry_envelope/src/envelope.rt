@@ -400,6 +400,25 @@ impl Envelope {
         }
     }
 
+    /// Returns the text that [`Envelope::to_writer`] writes.
+    ///
+    /// # Errors
+    ///
+    /// - `NotPlain` if the envelope is structured and isn't plain.
+    /// - `Memory` if an allocation fails.
+    pub fn to_vec(&self, alloc: Global) -> Result<Vec<u8>, EnvelopeWriteError>
+        ensures whole { IfOk result (λ text. text.items ≡ text_of self.now) }
+        ensures stored { OnOk result (IfSome (structured self.now) (IsEnvelopeStored profile)) }
+        ensures sized { OnOk result (IfSome (structured self.now) (IsEnvelopeSized profile)) }
+        ensures not_plain { (result ≡ Err EnvelopeWriteError.NotPlain) ↔ IsUnwritable self.now }
+        ensures no_io { IfErr result (λ e. e ≢ EnvelopeWriteError.Io) }
+    {
+        match self.text(alloc)?.into_vec() {
+            Ok(text) => Ok(text),
+            Err(_) => Err(EnvelopeWriteError::Memory),
+        }
+    }
+
     /// Writes the envelope as [`Envelope::to_writer`] does, to a writer that counts its failures.
     /// The count before has to be below 2^64-1.
     ///

@@ -88,6 +88,25 @@ impl<'e> Text<'e> {
         Some(len)
     }
 
+    // Returns the text as one vector of bytes. It is the end itself where there are no parts.
+    pub fn into_vec(self) -> Result<Vec<u8>, AllocError>
+        ensures { IfOk result (λ bytes. bytes.items ≡ bytes_of self.entry) }
+    {
+        if self.parts.is_empty() {
+            return Ok(self.end);
+        }
+        let Some(len) = self.len() else {
+            return Err(AllocError);
+        };
+        let mut whole = Vec::with_capacity(*self.end.allocator(), len)?;
+        for part in &self.parts {
+            whole.extend_from_slice(&part.own)?;
+            whole.extend_from_slice(part.lent)?;
+        }
+        whole.extend_from_slice(&self.end)?;
+        Ok(whole)
+    }
+
     // Writes the text to a counted writer, as `send` does.
     pub fn send<W: Write>(&self, writer: &mut CountedWriter<W>) -> Result<(), SendFailed>
         requires { writer_failures writer.old < 2 ^ 64 - 1 }

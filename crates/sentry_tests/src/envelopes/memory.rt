@@ -105,6 +105,18 @@ fn is_written_at_last(alloc: Global, envelope: &Envelope) -> bool {
     written && page.bytes.get(..page.taken).unwrap_or(&[]) == TEXT.as_bytes()
 }
 
+/// Whether a vector has the whole text, after a failed allocation at the second try.
+fn is_text_at_last(alloc: Global, envelope: &Envelope) -> bool {
+    let text = match envelope.to_vec(alloc) {
+        Err(EnvelopeWriteError::Memory) => envelope.to_vec(alloc),
+        answer => answer,
+    };
+    match text {
+        Ok(text) => text.as_slice() == TEXT.as_bytes(),
+        Err(_) => false,
+    }
+}
+
 /// The normal form of an envelope. After a failed allocation it is asked for once more.
 fn normalized_at_last(envelope: &Envelope) -> Result<Envelope, AllocError> {
     match envelope.normalized() {
@@ -116,6 +128,7 @@ fn normalized_at_last(envelope: &Envelope) -> Result<Envelope, AllocError> {
 /// Whether an envelope and its normal form are written, each after a failed allocation or at once.
 fn is_rewritten_at_last(alloc: Global, envelope: &Envelope) -> bool {
     is_written_at_last(alloc, envelope)
+        && is_text_at_last(alloc, envelope)
         && holds(alloc, normalized_at_last(envelope), is_written_at_last)
 }
 
@@ -170,6 +183,7 @@ fn is_long(alloc: Global, envelope: &Envelope) -> bool {
     let mut counted = CountedWriter::new(Vec::new(alloc));
     envelope.to_writer(alloc, &mut out).is_ok()
         && envelope.write_counted(alloc, &mut counted).is_ok()
+        && envelope.to_vec(alloc).is_ok()
         && out.len() > LENGTH
         && counted.into_inner() == out
 }

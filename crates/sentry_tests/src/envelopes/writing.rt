@@ -117,6 +117,21 @@ fn a_failed_write_ends_it(rt: HostRuntime) -> Result<(), Fail> {
     wanted(holds(alloc, read(alloc, TEXT.as_bytes()), is_cut_anywhere))
 }
 
+/// Whether an envelope with large parts is one vector of its text.
+fn is_whole(alloc: Global, envelope: &Envelope) -> bool {
+    match (envelope.to_vec(alloc), large_text(alloc)) {
+        (Ok(written), Ok(text)) => written == text,
+        _ => false,
+    }
+}
+
+#[test]
+fn large_parts_stand_in_one_vector(rt: HostRuntime) -> Result<(), Fail> {
+    let alloc = rt.alloc();
+    let text = large_text(alloc)?;
+    wanted(holds(alloc, read(alloc, &text), is_whole))
+}
+
 #[test]
 fn large_parts_are_sent_in_order(rt: HostRuntime) -> Result<(), Fail> {
     let alloc = rt.alloc();

@@ -1,6 +1,5 @@
 //! A relay: it reads the envelope header, keeps a quota of events, and forwards.
 
-use super::text_of;
 use crate::envelopes::read;
 use crate::wanted::wanted;
 use sentry_types::protocol::v7::{
@@ -44,7 +43,7 @@ fn forward(
         return Err(EnvelopeWriteError::Memory);
     };
     match left {
-        Some(left) => Ok(Some(text_of(alloc, &left)?)),
+        Some(left) => Ok(Some(left.to_vec(alloc)?)),
         None => Ok(None),
     }
 }

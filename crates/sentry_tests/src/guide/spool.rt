@@ -1,6 +1,5 @@
 //! A spool: it keeps envelopes in files, finds doubles, and reads files that were cut off.
 
-use super::text_of;
 use crate::envelopes::read;
 use crate::wanted::{is_done, wanted};
 use sentry_types::protocol::v7::{Envelope, EnvelopeWriteError, Frames};
@@ -10,7 +9,7 @@ use std::test::Fail;
 
 /// Stores an envelope as a file.
 fn store(rt: &HostRuntime, path: &str, envelope: &Envelope) -> Result<(), Fail> {
-    let text = text_of(rt.alloc(), envelope)?;
+    let text = envelope.to_vec(rt.alloc())?;
     fs::write(rt, path, &text)?;
     Ok(())
 }
@@ -19,7 +18,7 @@ fn store(rt: &HostRuntime, path: &str, envelope: &Envelope) -> Result<(), Fail> 
 /// normal form exactly if these texts are the same.
 fn normal_text(alloc: Global, envelope: &Envelope) -> Result<Vec<u8>, EnvelopeWriteError> {
     match envelope.normalized() {
-        Ok(normal) => text_of(alloc, &normal),
+        Ok(normal) => normal.to_vec(alloc),
         Err(_) => Err(EnvelopeWriteError::Memory),
     }
 }
