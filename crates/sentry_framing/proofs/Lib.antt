@@ -10,6 +10,7 @@ pub mod Verdicts
 pub mod Faults
 pub mod StatedLengths
 pub mod Written
+pub mod ShortHeaders
 pub mod Flat
 pub mod Stops
 pub mod Words

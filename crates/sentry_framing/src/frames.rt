@@ -10,6 +10,7 @@ use crate::error::EnvelopeError;
 use crate::header::{ItemHeader, read_fields};
 use crate::lines::{end_line, skip_space, split_line};
 use crate::piece::piece_len;
+use crate::short::split_short;
 use bumpalo::Bump;
 use sentry_tables::LineReader;
 use std::alloc::Global;
@@ -210,6 +211,46 @@ fn split_header(body: &[u8]) -> Result<(&[u8], &[u8]), EnvelopeError>
     }
 }
 
+// Splits off the header, and parses it into `fields`. Not inlined: most headers are short.
+#[inline(never)]
+fn take_any_header<'l, 'a: 'l>(
+    lines: &mut LineReader<'l>,
+    body: &'a [u8],
+    fields: &mut ItemHeader,
+) -> Result<(&'a [u8], &'a [u8]), EnvelopeError>
+    ensures found { IfOk result (λ x. Opens body.now x.0.now x.1.now) }
+    ensures header { IfOk result (λ x.
+        read_header item_words x.0.now ≡ Some (header_view fields.new)) }
+    ensures fault { IfErr result (λ e. e ≢ EnvelopeError.OutOfMemory
+        → IsFault (stated_length item_words) body.now e) }
+{
+    let (header, after) = split_header(body)?;
+    // The frame is returned, and lives longer than what reads its header.
+    let line: &'l [u8] = header;
+    read_fields(lines, line, fields)?;
+    Ok((header, after))
+}
+
+// The same, at once where the header is short.
+#[inline(always)]
+fn take_header<'l, 'a: 'l>(
+    lines: &mut LineReader<'l>,
+    body: &'a [u8],
+    fields: &mut ItemHeader,
+) -> Result<(&'a [u8], &'a [u8]), EnvelopeError>
+    ensures found { IfOk result (λ x. Opens body.now x.0.now x.1.now) }
+    ensures header { IfOk result (λ x.
+        read_header item_words x.0.now ≡ Some (header_view fields.new)) }
+    ensures fault { IfErr result (λ e. e ≢ EnvelopeError.OutOfMemory
+        → IsFault (stated_length item_words) body.now e) }
+{
+    let Some((kind, length, after)) = split_short(body) else {
+        return take_any_header(lines, body, fields);
+    };
+    fields.set_short(kind, length);
+    Ok((&body[..body.len() - after.len()], after))
+}
+
 // Returns the first frame and the bytes after the frame, and parses the item header into `fields`.
 fn first_item<'l, 'a: 'l>(
     lines: &mut LineReader<'l>,
@@ -223,10 +264,7 @@ fn first_item<'l, 'a: 'l>(
     ensures fault { IfErr result (λ e. e ≢ EnvelopeError.OutOfMemory
         → IsFault (stated_length item_words) body.now e) }
 {
-    let (header, after) = split_header(body)?;
-    // The frame is returned, and lives longer than what reads its header.
-    let line: &'l [u8] = header;
-    read_fields(lines, line, fields)?;
+    let (header, after) = take_header(lines, body, fields)?;
     let left = end_line(after)?;
     let (payload, tail) = split_payload(fields.length, left)?;
     let rest = end_line(tail)?;

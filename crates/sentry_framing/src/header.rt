@@ -5,7 +5,7 @@ ghost use Rattle.serde_json.specs.Find.{as_str};
 ghost use Rattle.sentry_framing.specs.ItemHeader.{at_keys, header_of, kind_of, read_header, optional, whole_number};
 ghost use Rattle.sentry_framing.specs.ItemWords.{item_words, kind_place};
 ghost use Rattle.sentry_framing.specs.declared.kind.ItemKind.TheVariants as kinds;
-ghost use Rattle.sentry_framing.specs.HeaderView.{header_view};
+ghost use Rattle.sentry_framing.specs.HeaderView.{header_view, short_header};
 ghost use Rattle.sentry_json.specs.TapeView.{node_data};
 
 use crate::error::EnvelopeError;
@@ -35,14 +35,7 @@ pub struct ItemHeader {
 impl ItemHeader {
     /// Creates the header of an attachment, with no other fields set.
     pub fn new() -> ItemHeader
-        ensures { header_view result ≡
-            record {
-              kind = kind_place kinds.Attachment;
-              length = None;
-              content_type = None;
-              filename = None;
-              attachment_type = None;
-            } }
+        ensures { header_view result ≡ short_header kinds.Attachment None }
     {
         ItemHeader {
             kind: ItemKind::Attachment,
@@ -51,6 +44,18 @@ impl ItemHeader {
             filename: None,
             attachment_type: None,
         }
+    }
+
+    // Sets the fields of a header that has no more than a type and a length.
+    #[inline(always)]
+    pub(crate) fn set_short(&mut self, kind: ItemKind, length: Option<u64>)
+        ensures { header_view self.new ≡ short_header kind length }
+    {
+        self.kind = kind;
+        self.length = length;
+        self.content_type = None;
+        self.filename = None;
+        self.attachment_type = None;
     }
 }
 

@@ -8,6 +8,7 @@ pub mod kind;
 pub mod laws;
 pub mod lines;
 mod piece;
+mod short;
 
 pub use error::EnvelopeError;
 pub use frames::{Frames, ItemFrame};

@@ -20,7 +20,7 @@ use Rattle.sentry_json.specs.Tokens.{width, text_of, value_of, value_at}
 -- ---- integers
 
 -- digits stand as the number is written
-written : (text : List ℕ) (n len : ℕ) → AreInteger text n len → take len text ≡ decimal n
+pub written : (text : List ℕ) (n len : ℕ) → AreInteger text n len → take len text ≡ decimal n
 written text n len h =
     let ds = take len text in
     let size : length ds ≡ len = length-take-le len text h.first.within in

@@ -27,6 +27,7 @@ use bumpalo::Bump;
 pub use flat::{Scalar, look_up};
 pub use list::Visitor;
 pub use node::TapeNode;
+pub use number::leading_integer;
 pub use run::run_len;
 use std::alloc::Global;
 

@@ -23,10 +23,11 @@ fn integer(bytes: &[u8], number: u64, len: usize) -> Option<(u64, usize)>
     Some((number, len))
 }
 
-// Returns the number of the digits at the front and their count; `None` if they are more than
-// `ALWAYS`.
+/// Reads an integer without a sign from the front of a text: the integer, and how many digits it has.
+///
+/// `None` if no digit stands there, if a zero leads others, or if there are more than 19 digits.
 #[inline(always)]
-fn digits(bytes: &[u8]) -> Option<(u64, usize)>
+pub fn leading_integer(bytes: &[u8]) -> Option<(u64, usize)>
     ensures { IfSome result (λ x. AreInteger bytes.now x.0 x.1) }
 {
     let mut number = 0;
@@ -73,7 +74,7 @@ pub(crate) fn split_whole<'a>(text: Rest<'a>) -> Option<(Token<'a>, Rest<'a>)>
     ensures spelled { IfSome result (λ x. Spells text.entry.text.now x.1.text.now x.0 [] 0) }
     ensures shorter { IfSome result (λ x. length x.1.text.now < length text.entry.text.now) }
 {
-    let (number, len) = digits(text.bytes())?;
+    let (number, len) = leading_integer(text.bytes())?;
     split_digits(text, number, len)
 }
 

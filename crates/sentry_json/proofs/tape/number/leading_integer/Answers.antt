@@ -1,6 +1,6 @@
 use Rattle.std.proofs.Common.{◌<◌, arith}
 use Rattle.sentry_json.proofs.Integers.{one_first, room}
-use Rattle.sentry_json.proofs.tape.number.digits.Goals as goal
+use Rattle.sentry_json.proofs.tape.number.leading_integer.Goals as goal
 
 pub overflow_mul-number : goal.overflow_mul-number
 overflow_mul-number c =
