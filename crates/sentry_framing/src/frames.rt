@@ -211,8 +211,8 @@ fn split_header(body: &[u8]) -> Result<(&[u8], &[u8]), EnvelopeError>
     }
 }
 
-// Splits off the header, and parses it into `fields`. Not inlined: most headers are short.
-#[inline(never)]
+// Splits off the header, and parses it into `fields`.
+#[inline(always)]
 fn take_any_header<'l, 'a: 'l>(
     lines: &mut LineReader<'l>,
     body: &'a [u8],
