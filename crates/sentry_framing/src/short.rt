@@ -19,13 +19,16 @@ fn after<'a>(bytes: &'a [u8], front: &[u8]) -> Option<&'a [u8]>
 }
 
 // Splits off the word of a type whose headers mostly have no more than a length, and its closing
-// quote.
+// quote. Attachments, which have a name too, are seen by their first letter.
 #[inline(always)]
 fn split_kind(bytes: &[u8]) -> Option<(ItemKind, &[u8])>
     ensures { IfSome result (λ x. bytes.now ≡ kind_word x.0 ++ 34 ∷ x.1.now) }
 {
     if let Some(rest) = after(bytes, b"event\"") {
         return Some((ItemKind::Event, rest));
+    }
+    if let Some(b'a') = bytes.first() {
+        return None;
     }
     if let Some(rest) = after(bytes, b"transaction\"") {
         return Some((ItemKind::Transaction, rest));
