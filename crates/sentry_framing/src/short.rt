@@ -19,16 +19,13 @@ fn after<'a>(bytes: &'a [u8], front: &[u8]) -> Option<&'a [u8]>
 }
 
 // Splits off the word of a type whose headers mostly have no more than a length, and its closing
-// quote. Attachments, which have a name too, are seen by their first letter.
+// quote.
 #[inline(always)]
 fn split_kind(bytes: &[u8]) -> Option<(ItemKind, &[u8])>
     ensures { IfSome result (λ x. bytes.now ≡ kind_word x.0 ++ 34 ∷ x.1.now) }
 {
     if let Some(rest) = after(bytes, b"event\"") {
         return Some((ItemKind::Event, rest));
-    }
-    if let Some(b'a') = bytes.first() {
-        return None;
     }
     if let Some(rest) = after(bytes, b"transaction\"") {
         return Some((ItemKind::Transaction, rest));
@@ -53,6 +50,10 @@ pub(crate) fn split_short(body: &[u8]) -> Option<(ItemKind, Option<u64>, &[u8])>
     ensures { IfSome result (λ x. (header : List ℕ) × (body.now ≡ header ++ x.2.now)
         × IsBalanced header × (read_header item_words header ≡ Some (short_header x.0 x.1))) }
 {
+    // Attachments have a name too. Their first letter is asked for before anything else.
+    if let Some(b'a') = body.get(9) {
+        return None;
+    }
     let word = after(body, b"{\"type\":\"")?;
     let (kind, rest) = split_kind(word)?;
     if let Some(rest) = after(rest, b"}") {
