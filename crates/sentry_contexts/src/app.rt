@@ -1,4 +1,5 @@
 //! App contexts: the application in which an event occurred.
+#![tactic(auto, unfolding(crate::specs::Programs::app_fields))]
 
 ghost use Rattle.std.specs.Prelude.{[], ◌∷◌};
 ghost use Rattle.serde_json.specs.View.{members_view};
@@ -7,7 +8,7 @@ ghost use Rattle.sentry_contexts.specs.Programs.{app_fields, app_in_order};
 
 use sentry_json::Node;
 use sentry_moments::{Moment, Rfc3339};
-use sentry_rows::{AsKept, Copier, CopyKept, KeptTable, ReadKept, Reader, Sink, Table};
+use sentry_rows::{AsKept, Copier, KeptTable, Reader, Sink, Table};
 use sentry_tables::{Formed, Member};
 use serde_json::{Map, Value};
 use std::alloc::{AllocError, Global};
@@ -36,7 +37,6 @@ pub struct AppContext {
     pub other: Map<String, Value>,
 }
 
-#[tactic(auto, unfolding(crate::specs::Programs::app_fields))]
 impl AppContext {
     ghost use Rattle.std.specs.Prelude.{◌≡◌, IfOk};
     ghost use Rattle.serde_json.specs.Data.{no_members};
@@ -72,7 +72,6 @@ impl Formed for AppContext {
     type Form = AsKept;
 }
 
-#[tactic(auto, unfolding(crate::specs::Programs::app_fields))]
 impl Table for AppContext {
     ghost lines = { app_fields };
 
@@ -89,7 +88,6 @@ impl Table for AppContext {
     ghost ordered = { app_in_order };
 }
 
-#[tactic(auto, unfolding(crate::specs::Programs::app_fields))]
 impl KeptTable for AppContext {
     ghost reserved = { tag ∷ [] };
 
@@ -111,10 +109,7 @@ impl KeptTable for AppContext {
             "device_app_hash",
         ]
     }
-}
 
-#[tactic(auto, unfolding(crate::specs::Programs::app_fields))]
-impl ReadKept for AppContext {
     fn read<N: Node>(from: &mut Reader<'_, N>) -> AppContext {
         AppContext {
             app_build: from.optional("app_build"),
@@ -127,10 +122,7 @@ impl ReadKept for AppContext {
             other: from.others(AppContext::names()),
         }
     }
-}
 
-#[tactic(auto, unfolding(crate::specs::Programs::app_fields))]
-impl CopyKept for AppContext {
     fn copy_rows(&self, copies: &mut Copier) -> Result<AppContext, AllocError> {
         Ok(AppContext {
             app_build: copies.optional(&self.app_build),

@@ -1,4 +1,5 @@
 //! Browser contexts: the web browser in which an event occurred.
+#![tactic(auto, unfolding(crate::specs::Programs::browser_fields))]
 
 ghost use Rattle.std.specs.Prelude.{[], ◌∷◌};
 ghost use Rattle.serde_json.specs.View.{members_view};
@@ -6,7 +7,7 @@ ghost use Rattle.sentry_tables.specs.Kind.{tag};
 ghost use Rattle.sentry_contexts.specs.Programs.{browser_fields, browser_in_order};
 
 use sentry_json::Node;
-use sentry_rows::{AsKept, Copier, CopyKept, KeptTable, ReadKept, Reader, Sink, Table};
+use sentry_rows::{AsKept, Copier, KeptTable, Reader, Sink, Table};
 use sentry_tables::{Formed, Member};
 use serde_json::{Map, Value};
 use std::alloc::{AllocError, Global};
@@ -25,7 +26,6 @@ pub struct BrowserContext {
     pub other: Map<String, Value>,
 }
 
-#[tactic(auto, unfolding(crate::specs::Programs::browser_fields))]
 impl BrowserContext {
     ghost use Rattle.std.specs.Prelude.{◌≡◌, IfOk};
     ghost use Rattle.serde_json.specs.Data.{no_members};
@@ -56,7 +56,6 @@ impl Formed for BrowserContext {
     type Form = AsKept;
 }
 
-#[tactic(auto, unfolding(crate::specs::Programs::browser_fields))]
 impl Table for BrowserContext {
     ghost lines = { browser_fields };
 
@@ -68,7 +67,6 @@ impl Table for BrowserContext {
     ghost ordered = { browser_in_order };
 }
 
-#[tactic(auto, unfolding(crate::specs::Programs::browser_fields))]
 impl KeptTable for BrowserContext {
     ghost reserved = { tag ∷ [] };
 
@@ -81,10 +79,7 @@ impl KeptTable for BrowserContext {
     fn names() -> &'static [&'static str] {
         &["type", "name", "version"]
     }
-}
 
-#[tactic(auto, unfolding(crate::specs::Programs::browser_fields))]
-impl ReadKept for BrowserContext {
     fn read<N: Node>(from: &mut Reader<'_, N>) -> BrowserContext {
         BrowserContext {
             name: from.optional("name"),
@@ -92,10 +87,7 @@ impl ReadKept for BrowserContext {
             other: from.others(BrowserContext::names()),
         }
     }
-}
 
-#[tactic(auto, unfolding(crate::specs::Programs::browser_fields))]
-impl CopyKept for BrowserContext {
     fn copy_rows(&self, copies: &mut Copier) -> Result<BrowserContext, AllocError> {
         Ok(BrowserContext {
             name: copies.optional(&self.name),

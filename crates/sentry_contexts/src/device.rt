@@ -1,4 +1,5 @@
 //! Device contexts: the device on which an event occurred.
+#![tactic(auto, unfolding(crate::specs::Devices::device_fields))]
 
 ghost use Rattle.std.specs.Prelude.{[], ◌∷◌};
 ghost use Rattle.serde_json.specs.View.{members_view};
@@ -7,7 +8,7 @@ ghost use Rattle.sentry_contexts.specs.Devices.{device_fields, device_in_order};
 
 use sentry_json::Node;
 use sentry_moments::{Moment, Rfc3339};
-use sentry_rows::{AsKept, Copier, CopyKept, KeptTable, ReadKept, Reader, Sink, Table};
+use sentry_rows::{AsKept, Copier, KeptTable, Reader, Sink, Table};
 use sentry_tables::{Formed, Member};
 use sentry_words::Orientation;
 use serde_json::{Map, Value};
@@ -57,7 +58,6 @@ pub struct DeviceContext {
     pub other: Map<String, Value>,
 }
 
-#[tactic(auto, unfolding(crate::specs::Devices::device_fields))]
 impl DeviceContext {
     ghost use Rattle.std.specs.Prelude.{◌≡◌, IfOk};
     ghost use Rattle.serde_json.specs.Data.{no_members};
@@ -103,7 +103,6 @@ impl Formed for DeviceContext {
     type Form = AsKept;
 }
 
-#[tactic(auto, unfolding(crate::specs::Devices::device_fields))]
 impl Table for DeviceContext {
     ghost lines = { device_fields };
 
@@ -130,7 +129,6 @@ impl Table for DeviceContext {
     ghost ordered = { device_in_order };
 }
 
-#[tactic(auto, unfolding(crate::specs::Devices::device_fields))]
 impl KeptTable for DeviceContext {
     ghost reserved = { tag ∷ [] };
 
@@ -162,10 +160,7 @@ impl KeptTable for DeviceContext {
             "usable_memory",
         ]
     }
-}
 
-#[tactic(auto, unfolding(crate::specs::Devices::device_fields))]
-impl ReadKept for DeviceContext {
     fn read<N: Node>(from: &mut Reader<'_, N>) -> DeviceContext {
         DeviceContext {
             arch: from.optional("arch"),
@@ -188,10 +183,7 @@ impl ReadKept for DeviceContext {
             other: from.others(DeviceContext::names()),
         }
     }
-}
 
-#[tactic(auto, unfolding(crate::specs::Devices::device_fields))]
-impl CopyKept for DeviceContext {
     fn copy_rows(&self, copies: &mut Copier) -> Result<DeviceContext, AllocError> {
         Ok(DeviceContext {
             arch: copies.optional(&self.arch),

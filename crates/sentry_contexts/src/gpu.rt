@@ -1,4 +1,5 @@
 //! GPU contexts: graphics processors.
+#![tactic(auto, unfolding(crate::specs::Devices::gpu_fields))]
 
 ghost use Rattle.std.specs.Prelude.{[], ◌∷◌};
 ghost use Rattle.serde_json.specs.View.{members_view};
@@ -6,7 +7,7 @@ ghost use Rattle.sentry_tables.specs.Kind.{tag};
 ghost use Rattle.sentry_contexts.specs.Devices.{gpu_fields, gpu_in_order};
 
 use sentry_json::Node;
-use sentry_rows::{AsKept, Copier, CopyKept, KeptTable, ReadKept, Reader, Sink, Table};
+use sentry_rows::{AsKept, Copier, KeptTable, Reader, Sink, Table};
 use sentry_tables::{Formed, Member};
 use serde_json::{Map, Value};
 use std::alloc::{AllocError, Global};
@@ -53,7 +54,6 @@ pub struct GpuContext {
     pub other: Map<String, Value>,
 }
 
-#[tactic(auto, unfolding(crate::specs::Devices::gpu_fields))]
 impl GpuContext {
     ghost use Rattle.std.specs.Prelude.{◌≡◌, IfOk};
     ghost use Rattle.serde_json.specs.Data.{no_members};
@@ -98,7 +98,6 @@ impl Formed for GpuContext {
     type Form = AsKept;
 }
 
-#[tactic(auto, unfolding(crate::specs::Devices::gpu_fields))]
 impl Table for GpuContext {
     ghost lines = { gpu_fields };
 
@@ -127,7 +126,6 @@ impl Table for GpuContext {
     ghost ordered = { gpu_in_order };
 }
 
-#[tactic(auto, unfolding(crate::specs::Devices::gpu_fields))]
 impl KeptTable for GpuContext {
     ghost reserved = { tag ∷ [] };
 
@@ -158,10 +156,7 @@ impl KeptTable for GpuContext {
             "version",
         ]
     }
-}
 
-#[tactic(auto, unfolding(crate::specs::Devices::gpu_fields))]
-impl ReadKept for GpuContext {
     fn read<N: Node>(from: &mut Reader<'_, N>) -> GpuContext {
         GpuContext {
             api_type: from.optional("api_type"),
@@ -183,10 +178,7 @@ impl ReadKept for GpuContext {
             other: from.others(GpuContext::names()),
         }
     }
-}
 
-#[tactic(auto, unfolding(crate::specs::Devices::gpu_fields))]
-impl CopyKept for GpuContext {
     fn copy_rows(&self, copies: &mut Copier) -> Result<GpuContext, AllocError> {
         Ok(GpuContext {
             api_type: copies.optional(&self.api_type),

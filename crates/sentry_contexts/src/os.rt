@@ -1,4 +1,5 @@
 //! Operating system contexts: the operating system on which an event occurred.
+#![tactic(auto, unfolding(crate::specs::Systems::os_fields))]
 
 ghost use Rattle.std.specs.Prelude.{[], ◌∷◌};
 ghost use Rattle.serde_json.specs.View.{members_view};
@@ -6,7 +7,7 @@ ghost use Rattle.sentry_tables.specs.Kind.{tag};
 ghost use Rattle.sentry_contexts.specs.Systems.{os_fields, os_in_order};
 
 use sentry_json::Node;
-use sentry_rows::{AsKept, Copier, CopyKept, KeptTable, ReadKept, Reader, Sink, Table};
+use sentry_rows::{AsKept, Copier, KeptTable, Reader, Sink, Table};
 use sentry_tables::{Formed, Member};
 use serde_json::{Map, Value};
 use std::alloc::{AllocError, Global};
@@ -31,7 +32,6 @@ pub struct OsContext {
     pub other: Map<String, Value>,
 }
 
-#[tactic(auto, unfolding(crate::specs::Systems::os_fields))]
 impl OsContext {
     ghost use Rattle.std.specs.Prelude.{◌≡◌, IfOk};
     ghost use Rattle.serde_json.specs.Data.{no_members};
@@ -65,7 +65,6 @@ impl Formed for OsContext {
     type Form = AsKept;
 }
 
-#[tactic(auto, unfolding(crate::specs::Systems::os_fields))]
 impl Table for OsContext {
     ghost lines = { os_fields };
 
@@ -80,7 +79,6 @@ impl Table for OsContext {
     ghost ordered = { os_in_order };
 }
 
-#[tactic(auto, unfolding(crate::specs::Systems::os_fields))]
 impl KeptTable for OsContext {
     ghost reserved = { tag ∷ [] };
 
@@ -100,10 +98,7 @@ impl KeptTable for OsContext {
             "version",
         ]
     }
-}
 
-#[tactic(auto, unfolding(crate::specs::Systems::os_fields))]
-impl ReadKept for OsContext {
     fn read<N: Node>(from: &mut Reader<'_, N>) -> OsContext {
         OsContext {
             build: from.optional("build"),
@@ -114,10 +109,7 @@ impl ReadKept for OsContext {
             other: from.others(OsContext::names()),
         }
     }
-}
 
-#[tactic(auto, unfolding(crate::specs::Systems::os_fields))]
-impl CopyKept for OsContext {
     fn copy_rows(&self, copies: &mut Copier) -> Result<OsContext, AllocError> {
         Ok(OsContext {
             build: copies.optional(&self.build),

@@ -1,4 +1,5 @@
 //! OpenTelemetry contexts.
+#![tactic(auto, unfolding(crate::specs::Telemetry::otel_fields))]
 
 ghost use Rattle.std.specs.Prelude.{[], ◌∷◌};
 ghost use Rattle.serde_json.specs.View.{members_view};
@@ -6,7 +7,7 @@ ghost use Rattle.sentry_tables.specs.Kind.{tag};
 ghost use Rattle.sentry_contexts.specs.Telemetry.{otel_fields, otel_in_order};
 
 use sentry_json::Node;
-use sentry_rows::{AsKept, Copier, CopyKept, KeptTable, ReadKept, Reader, Sink, Table};
+use sentry_rows::{AsKept, Copier, KeptTable, Reader, Sink, Table};
 use sentry_tables::{Formed, Member};
 use serde_json::{Map, Value};
 use std::alloc::{AllocError, Global};
@@ -26,7 +27,6 @@ pub struct OtelContext {
     pub other: Map<String, Value>,
 }
 
-#[tactic(auto, unfolding(crate::specs::Telemetry::otel_fields))]
 impl OtelContext {
     ghost use Rattle.std.specs.Prelude.{◌≡◌, IfOk};
     ghost use Rattle.serde_json.specs.Data.{no_members};
@@ -57,7 +57,6 @@ impl Formed for OtelContext {
     type Form = AsKept;
 }
 
-#[tactic(auto, unfolding(crate::specs::Telemetry::otel_fields))]
 impl Table for OtelContext {
     ghost lines = { otel_fields };
 
@@ -69,7 +68,6 @@ impl Table for OtelContext {
     ghost ordered = { otel_in_order };
 }
 
-#[tactic(auto, unfolding(crate::specs::Telemetry::otel_fields))]
 impl KeptTable for OtelContext {
     ghost reserved = { tag ∷ [] };
 
@@ -82,10 +80,7 @@ impl KeptTable for OtelContext {
     fn names() -> &'static [&'static str] {
         &["type", "attributes", "resource"]
     }
-}
 
-#[tactic(auto, unfolding(crate::specs::Telemetry::otel_fields))]
-impl ReadKept for OtelContext {
     fn read<N: Node>(from: &mut Reader<'_, N>) -> OtelContext {
         OtelContext {
             attributes: from.map("attributes"),
@@ -93,10 +88,7 @@ impl ReadKept for OtelContext {
             other: from.others(OtelContext::names()),
         }
     }
-}
 
-#[tactic(auto, unfolding(crate::specs::Telemetry::otel_fields))]
-impl CopyKept for OtelContext {
     fn copy_rows(&self, copies: &mut Copier) -> Result<OtelContext, AllocError> {
         Ok(OtelContext {
             attributes: copies.map(&self.attributes)?,

@@ -1,4 +1,5 @@
 //! Response contexts: HTTP responses.
+#![tactic(auto, unfolding(crate::specs::Responses::response_fields))]
 
 ghost use Rattle.sentry_contexts.specs.Responses.{response_fields, response_in_order};
 
@@ -26,7 +27,6 @@ pub struct ResponseContext {
     pub data_: Option<Value>,
 }
 
-#[tactic(auto, unfolding(crate::specs::Responses::response_fields))]
 impl ResponseContext {
     ghost use Rattle.std.specs.Prelude.{◌≡◌, IfOk};
     ghost use Rattle.sentry_tables.specs.Defaults.{IsDefault};
@@ -57,7 +57,6 @@ impl Formed for ResponseContext {
     type Form = AsTable;
 }
 
-#[tactic(auto, unfolding(crate::specs::Responses::response_fields))]
 impl Table for ResponseContext {
     ghost lines = { response_fields };
 
@@ -72,7 +71,6 @@ impl Table for ResponseContext {
     ghost ordered = { response_in_order };
 }
 
-#[tactic(auto, unfolding(crate::specs::Responses::response_fields))]
 impl ReadTable for ResponseContext {
     fn read<N: Node>(from: &mut Reader<'_, N>) -> ResponseContext {
         ResponseContext {
@@ -85,7 +83,6 @@ impl ReadTable for ResponseContext {
     }
 }
 
-#[tactic(auto, unfolding(crate::specs::Responses::response_fields))]
 impl CopyTable for ResponseContext {
     fn copy_rows(&self, copies: &mut Copier) -> Result<ResponseContext, AllocError> {
         Ok(ResponseContext {

@@ -1,4 +1,5 @@
 //! Runtime contexts: the runtime in which an event occurred.
+#![tactic(auto, unfolding(crate::specs::Systems::runtime_fields))]
 
 ghost use Rattle.std.specs.Prelude.{[], ◌∷◌};
 ghost use Rattle.serde_json.specs.View.{members_view};
@@ -6,7 +7,7 @@ ghost use Rattle.sentry_tables.specs.Kind.{tag};
 ghost use Rattle.sentry_contexts.specs.Systems.{runtime_fields, runtime_in_order};
 
 use sentry_json::Node;
-use sentry_rows::{AsKept, Copier, CopyKept, KeptTable, ReadKept, Reader, Sink, Table};
+use sentry_rows::{AsKept, Copier, KeptTable, Reader, Sink, Table};
 use sentry_tables::{Formed, Member};
 use serde_json::{Map, Value};
 use std::alloc::{AllocError, Global};
@@ -25,7 +26,6 @@ pub struct RuntimeContext {
     pub other: Map<String, Value>,
 }
 
-#[tactic(auto, unfolding(crate::specs::Systems::runtime_fields))]
 impl RuntimeContext {
     ghost use Rattle.std.specs.Prelude.{◌≡◌, IfOk};
     ghost use Rattle.serde_json.specs.Data.{no_members};
@@ -56,7 +56,6 @@ impl Formed for RuntimeContext {
     type Form = AsKept;
 }
 
-#[tactic(auto, unfolding(crate::specs::Systems::runtime_fields))]
 impl Table for RuntimeContext {
     ghost lines = { runtime_fields };
 
@@ -68,7 +67,6 @@ impl Table for RuntimeContext {
     ghost ordered = { runtime_in_order };
 }
 
-#[tactic(auto, unfolding(crate::specs::Systems::runtime_fields))]
 impl KeptTable for RuntimeContext {
     ghost reserved = { tag ∷ [] };
 
@@ -81,10 +79,7 @@ impl KeptTable for RuntimeContext {
     fn names() -> &'static [&'static str] {
         &["type", "name", "version"]
     }
-}
 
-#[tactic(auto, unfolding(crate::specs::Systems::runtime_fields))]
-impl ReadKept for RuntimeContext {
     fn read<N: Node>(from: &mut Reader<'_, N>) -> RuntimeContext {
         RuntimeContext {
             name: from.optional("name"),
@@ -92,10 +87,7 @@ impl ReadKept for RuntimeContext {
             other: from.others(RuntimeContext::names()),
         }
     }
-}
 
-#[tactic(auto, unfolding(crate::specs::Systems::runtime_fields))]
-impl CopyKept for RuntimeContext {
     fn copy_rows(&self, copies: &mut Copier) -> Result<RuntimeContext, AllocError> {
         Ok(RuntimeContext {
             name: copies.optional(&self.name),

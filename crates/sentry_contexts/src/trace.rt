@@ -1,4 +1,5 @@
 //! Trace contexts: the span and trace of an event.
+#![tactic(auto, unfolding(crate::specs::Telemetry::trace_context_fields))]
 
 ghost use Rattle.sentry_contexts.specs.Telemetry.{trace_context_fields, trace_context_in_order};
 
@@ -38,7 +39,6 @@ pub struct TraceContext {
     pub data_: Map<String, Value>,
 }
 
-#[tactic(auto, unfolding(crate::specs::Telemetry::trace_context_fields))]
 impl TraceContext {
     ghost use Rattle.std.specs.Prelude.{◌≡◌, IfOk};
     ghost use Rattle.sentry_tables.specs.Defaults.{IsDefault};
@@ -77,7 +77,6 @@ impl Formed for TraceContext {
     type Form = AsTable;
 }
 
-#[tactic(auto, unfolding(crate::specs::Telemetry::trace_context_fields))]
 impl Table for TraceContext {
     ghost lines = { trace_context_fields };
 
@@ -95,7 +94,6 @@ impl Table for TraceContext {
     ghost ordered = { trace_context_in_order };
 }
 
-#[tactic(auto, unfolding(crate::specs::Telemetry::trace_context_fields))]
 impl ReadTableAt for TraceContext {
     fn read<N: Node, R: Rng>(from: &mut Reader<'_, N>, _now: Moment, ids: &mut R) -> TraceContext {
         TraceContext {
@@ -111,7 +109,6 @@ impl ReadTableAt for TraceContext {
     }
 }
 
-#[tactic(auto, unfolding(crate::specs::Telemetry::trace_context_fields))]
 impl CopyTable for TraceContext {
     fn copy_rows(&self, copies: &mut Copier) -> Result<TraceContext, AllocError> {
         Ok(TraceContext {

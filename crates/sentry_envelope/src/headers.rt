@@ -1,4 +1,5 @@
 //! Envelope headers.
+#![tactic(auto, unfolding(crate::specs::HeaderFields::header_fields))]
 
 ghost use Rattle.std.specs.Prelude.{◌≡◌, ◌⊎◌, IfErr, IfSome, OnOk, Some};
 ghost use Rattle.sentry_tables.specs.Reading.{Only, Refused, Shown, TextRefused, TextShown};
@@ -30,7 +31,6 @@ pub struct EnvelopeHeaders {
     trace: Option<DynamicSamplingContext>,
 }
 
-#[tactic(auto, unfolding(crate::specs::HeaderFields::header_fields))]
 impl EnvelopeHeaders {
     ghost use Rattle.std.specs.Prelude.{◌≡◌, Some, IfOk, codes, option_map};
     ghost use Rattle.sentry_tables.specs.Cell.{octets};
@@ -189,7 +189,6 @@ impl Formed for EnvelopeHeaders {
     type Form = AsTable;
 }
 
-#[tactic(auto, unfolding(crate::specs::HeaderFields::header_fields))]
 impl Table for EnvelopeHeaders {
     ghost lines = { header_fields };
 
@@ -204,7 +203,6 @@ impl Table for EnvelopeHeaders {
     ghost ordered = { header_in_order };
 }
 
-#[tactic(auto, unfolding(crate::specs::HeaderFields::header_fields))]
 impl ReadTable for EnvelopeHeaders {
     fn read<N: Node>(from: &mut Reader<'_, N>) -> EnvelopeHeaders {
         EnvelopeHeaders {
@@ -217,7 +215,6 @@ impl ReadTable for EnvelopeHeaders {
     }
 }
 
-#[tactic(auto, unfolding(crate::specs::HeaderFields::header_fields))]
 impl CopyTable for EnvelopeHeaders {
     fn copy_rows(&self, copies: &mut Copier) -> Result<EnvelopeHeaders, AllocError> {
         Ok(EnvelopeHeaders {

@@ -95,9 +95,7 @@ impl<'e> Text<'e> {
         if self.parts.is_empty() {
             return Ok(self.end);
         }
-        let Some(len) = self.len() else {
-            return Err(AllocError);
-        };
+        let len = self.len().ok_or(AllocError)?;
         let mut whole = Vec::with_capacity(*self.end.allocator(), len)?;
         for part in &self.parts {
             whole.extend_from_slice(&part.own)?;

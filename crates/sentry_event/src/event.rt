@@ -1,4 +1,5 @@
 //! Events: errors and messages with their data.
+#![tactic(auto, unfolding(crate::specs::Events::event_fields))]
 
 ghost use Rattle.sentry_event.specs.Events.{event_fields, event_in_order};
 
@@ -89,7 +90,6 @@ pub struct Event<'a> {
     pub sdk: Option<ClientSdkInfo>,
 }
 
-#[tactic(auto, unfolding(crate::specs::Events::event_fields))]
 impl<'a> Event<'a> {
     ghost use Rattle.std.specs.Prelude.{◌≡◌, IfErr, IfOk};
     ghost use Rattle.rand_core.specs.Stream.{fill_bytes};
@@ -232,7 +232,6 @@ impl<'a> Formed for Event<'a> {
     type Form = AsTable;
 }
 
-#[tactic(auto, unfolding(crate::specs::Events::event_fields))]
 impl<'a> Table for Event<'a> {
     ghost lines = { event_fields };
 
@@ -269,7 +268,6 @@ impl<'a> Table for Event<'a> {
     ghost ordered = { event_in_order };
 }
 
-#[tactic(auto, unfolding(crate::specs::Events::event_fields))]
 impl<'a> ReadTableAt for Event<'a> {
     fn read<N: Node, R: Rng>(from: &mut Reader<'_, N>, now: Moment, ids: &mut R) -> Event<'a> {
         Event {
@@ -312,7 +310,6 @@ impl<'a> ReadTableAt for Event<'a> {
     }
 }
 
-#[tactic(auto, unfolding(crate::specs::Events::event_fields))]
 impl<'a> CopyTable for Event<'a> {
     fn copy_rows(&self, copies: &mut Copier) -> Result<Event<'a>, AllocError> {
         Ok(Event {

@@ -1,4 +1,5 @@
 //! Spans: the timed operations of a transaction.
+#![tactic(auto, unfolding(crate::specs::Spans::span_fields))]
 
 ghost use Rattle.sentry_event.specs.Spans.{span_fields, span_in_order};
 
@@ -45,7 +46,6 @@ pub struct Span {
     pub data_: Map<String, Value>,
 }
 
-#[tactic(auto, unfolding(crate::specs::Spans::span_fields))]
 impl Span {
     ghost use Rattle.std.specs.Prelude.{◌≡◌, IfOk};
     ghost use Rattle.sentry_tables.specs.Defaults.{IsDefaultAt};
@@ -119,7 +119,6 @@ impl Formed for Span {
     type Form = AsTable;
 }
 
-#[tactic(auto, unfolding(crate::specs::Spans::span_fields))]
 impl Table for Span {
     ghost lines = { span_fields };
 
@@ -140,7 +139,6 @@ impl Table for Span {
     ghost ordered = { span_in_order };
 }
 
-#[tactic(auto, unfolding(crate::specs::Spans::span_fields))]
 impl ReadTableAt for Span {
     fn read<N: Node, R: Rng>(from: &mut Reader<'_, N>, now: Moment, ids: &mut R) -> Span {
         Span {
@@ -159,7 +157,6 @@ impl ReadTableAt for Span {
     }
 }
 
-#[tactic(auto, unfolding(crate::specs::Spans::span_fields))]
 impl CopyTable for Span {
     fn copy_rows(&self, copies: &mut Copier) -> Result<Span, AllocError> {
         Ok(Span {

@@ -1,4 +1,5 @@
 //! Transactions: traced operations with their spans.
+#![tactic(auto, unfolding(crate::specs::Transactions::transaction_fields))]
 
 ghost use Rattle.sentry_event.specs.Transactions.{transaction_fields, transaction_in_order};
 
@@ -58,7 +59,6 @@ pub struct Transaction<'a> {
     pub server_name: Option<CowStr<'a>>,
 }
 
-#[tactic(auto, unfolding(crate::specs::Transactions::transaction_fields))]
 impl<'a> Transaction<'a> {
     ghost use Rattle.std.specs.Prelude.{◌≡◌, IfErr, IfOk};
     ghost use Rattle.rand_core.specs.Stream.{fill_bytes};
@@ -172,7 +172,6 @@ impl<'a> Formed for Transaction<'a> {
     type Form = AsTable;
 }
 
-#[tactic(auto, unfolding(crate::specs::Transactions::transaction_fields))]
 impl<'a> Table for Transaction<'a> {
     ghost lines = { transaction_fields };
 
@@ -197,7 +196,6 @@ impl<'a> Table for Transaction<'a> {
     ghost ordered = { transaction_in_order };
 }
 
-#[tactic(auto, unfolding(crate::specs::Transactions::transaction_fields))]
 impl<'a> ReadTableAt for Transaction<'a> {
     fn read<N: Node, R: Rng>(
         from: &mut Reader<'_, N>,
@@ -229,7 +227,6 @@ impl<'a> ReadTableAt for Transaction<'a> {
     }
 }
 
-#[tactic(auto, unfolding(crate::specs::Transactions::transaction_fields))]
 impl<'a> CopyTable for Transaction<'a> {
     fn copy_rows(&self, copies: &mut Copier) -> Result<Transaction<'a>, AllocError> {
         Ok(Transaction {

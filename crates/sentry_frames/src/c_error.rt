@@ -1,4 +1,5 @@
 //! C errors: values of `errno`.
+#![tactic(auto, unfolding(crate::specs::Causes::c_error_fields))]
 
 ghost use Rattle.sentry_frames.specs.Causes.{c_error_fields, c_error_in_order};
 
@@ -66,7 +67,6 @@ impl From<CError> for i32 {
     }
 }
 
-#[tactic(auto, unfolding(crate::specs::Causes::c_error_fields))]
 impl Table for CError {
     ghost lines = { c_error_fields };
 
@@ -78,7 +78,6 @@ impl Table for CError {
     ghost ordered = { c_error_in_order };
 }
 
-#[tactic(auto, unfolding(crate::specs::Causes::c_error_fields))]
 impl ReadTable for CError {
     fn read<N: Node>(from: &mut Reader<'_, N>) -> CError {
         CError {
@@ -88,7 +87,6 @@ impl ReadTable for CError {
     }
 }
 
-#[tactic(auto, unfolding(crate::specs::Causes::c_error_fields))]
 impl CopyTable for CError {
     fn copy_rows(&self, copies: &mut Copier) -> Result<CError, AllocError> {
         Ok(CError {

@@ -1,4 +1,5 @@
 //! Exceptions and errors of the program.
+#![tactic(auto, unfolding(crate::specs::Exceptions::exception_fields))]
 
 ghost use Rattle.sentry_frames.specs.Exceptions.{exception_fields, exception_in_order};
 
@@ -64,7 +65,6 @@ impl Formed for Exception {
     type Form = AsTable;
 }
 
-#[tactic(auto, unfolding(crate::specs::Exceptions::exception_fields))]
 impl Table for Exception {
     ghost lines = { exception_fields };
 
@@ -81,7 +81,6 @@ impl Table for Exception {
     ghost ordered = { exception_in_order };
 }
 
-#[tactic(auto, unfolding(crate::specs::Exceptions::exception_fields))]
 impl ReadTable for Exception {
     fn read<N: Node>(from: &mut Reader<'_, N>) -> Exception {
         Exception {
@@ -96,7 +95,6 @@ impl ReadTable for Exception {
     }
 }
 
-#[tactic(auto, unfolding(crate::specs::Exceptions::exception_fields))]
 impl CopyTable for Exception {
     fn copy_rows(&self, copies: &mut Copier) -> Result<Exception, AllocError> {
         Ok(Exception {

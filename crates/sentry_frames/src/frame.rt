@@ -1,4 +1,5 @@
 //! Stack frames.
+#![tactic(auto, unfolding(crate::specs::Frames::frame_fields))]
 
 ghost use Rattle.sentry_frames.specs.Frames.{frame_fields, frame_in_order};
 
@@ -94,7 +95,6 @@ impl Formed for Frame {
     type Form = AsTable;
 }
 
-#[tactic(auto, unfolding(crate::specs::Frames::frame_fields))]
 impl Table for Frame {
     ghost lines = { frame_fields };
 
@@ -121,7 +121,6 @@ impl Table for Frame {
     ghost ordered = { frame_in_order };
 }
 
-#[tactic(auto, unfolding(crate::specs::Frames::frame_fields))]
 impl ReadTable for Frame {
     fn read<N: Node>(from: &mut Reader<'_, N>) -> Frame {
         Frame {
@@ -146,7 +145,6 @@ impl ReadTable for Frame {
     }
 }
 
-#[tactic(auto, unfolding(crate::specs::Frames::frame_fields))]
 impl CopyTable for Frame {
     fn copy_rows(&self, copies: &mut Copier) -> Result<Frame, AllocError> {
         Ok(Frame {

@@ -1,4 +1,5 @@
 //! Log entries: messages with parameters.
+#![tactic(auto, unfolding(crate::specs::LogEntries::entry_fields))]
 
 ghost use Rattle.sentry_frames.specs.LogEntries.{entry_fields, entry_in_order};
 
@@ -49,7 +50,6 @@ impl Formed for LogEntry {
     type Form = AsTable;
 }
 
-#[tactic(auto, unfolding(crate::specs::LogEntries::entry_fields))]
 impl Table for LogEntry {
     ghost lines = { entry_fields };
 
@@ -61,7 +61,6 @@ impl Table for LogEntry {
     ghost ordered = { entry_in_order };
 }
 
-#[tactic(auto, unfolding(crate::specs::LogEntries::entry_fields))]
 impl ReadTable for LogEntry {
     fn read<N: Node>(from: &mut Reader<'_, N>) -> LogEntry {
         LogEntry {
@@ -71,7 +70,6 @@ impl ReadTable for LogEntry {
     }
 }
 
-#[tactic(auto, unfolding(crate::specs::LogEntries::entry_fields))]
 impl CopyTable for LogEntry {
     fn copy_rows(&self, copies: &mut Copier) -> Result<LogEntry, AllocError> {
         Ok(LogEntry {

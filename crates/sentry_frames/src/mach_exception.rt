@@ -1,4 +1,5 @@
 //! Mach exceptions: exceptions of the Mach kernel.
+#![tactic(auto, unfolding(crate::specs::Causes::mach_fields))]
 
 ghost use Rattle.sentry_frames.specs.Causes.{mach_fields, mach_in_order};
 
@@ -52,7 +53,6 @@ impl Formed for MachException {
     type Form = AsTable;
 }
 
-#[tactic(auto, unfolding(crate::specs::Causes::mach_fields))]
 impl Table for MachException {
     ghost lines = { mach_fields };
 
@@ -66,7 +66,6 @@ impl Table for MachException {
     ghost ordered = { mach_in_order };
 }
 
-#[tactic(auto, unfolding(crate::specs::Causes::mach_fields))]
 impl ReadTable for MachException {
     fn read<N: Node>(from: &mut Reader<'_, N>) -> MachException {
         MachException {
@@ -78,7 +77,6 @@ impl ReadTable for MachException {
     }
 }
 
-#[tactic(auto, unfolding(crate::specs::Causes::mach_fields))]
 impl CopyTable for MachException {
     fn copy_rows(&self, copies: &mut Copier) -> Result<MachException, AllocError> {
         Ok(MachException {

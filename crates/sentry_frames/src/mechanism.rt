@@ -1,4 +1,5 @@
 //! Exception mechanisms.
+#![tactic(auto, unfolding(crate::specs::Mechanisms::mechanism_fields))]
 
 ghost use Rattle.sentry_frames.specs.Mechanisms.{mechanism_fields, mechanism_in_order};
 
@@ -65,7 +66,6 @@ impl Formed for Mechanism {
     type Form = AsTable;
 }
 
-#[tactic(auto, unfolding(crate::specs::Mechanisms::mechanism_fields))]
 impl Table for Mechanism {
     ghost lines = { mechanism_fields };
 
@@ -82,7 +82,6 @@ impl Table for Mechanism {
     ghost ordered = { mechanism_in_order };
 }
 
-#[tactic(auto, unfolding(crate::specs::Mechanisms::mechanism_fields))]
 impl ReadTable for Mechanism {
     fn read<N: Node>(from: &mut Reader<'_, N>) -> Mechanism {
         Mechanism {
@@ -97,7 +96,6 @@ impl ReadTable for Mechanism {
     }
 }
 
-#[tactic(auto, unfolding(crate::specs::Mechanisms::mechanism_fields))]
 impl CopyTable for Mechanism {
     fn copy_rows(&self, copies: &mut Copier) -> Result<Mechanism, AllocError> {
         Ok(Mechanism {

@@ -1,4 +1,5 @@
 //! Meta information of exception mechanisms.
+#![tactic(auto, unfolding(crate::specs::Mechanisms::mechanism_meta_fields))]
 
 ghost use Rattle.sentry_frames.specs.Mechanisms.{mechanism_meta_fields, meta_in_order, no_meta};
 
@@ -53,7 +54,6 @@ impl Formed for MechanismMeta {
     type Form = AsTable;
 }
 
-#[tactic(auto, unfolding(crate::specs::Mechanisms::mechanism_meta_fields))]
 impl Table for MechanismMeta {
     ghost lines = { mechanism_meta_fields };
 
@@ -66,7 +66,6 @@ impl Table for MechanismMeta {
     ghost ordered = { meta_in_order };
 }
 
-#[tactic(auto, unfolding(crate::specs::Mechanisms::mechanism_meta_fields))]
 impl ReadTable for MechanismMeta {
     fn read<N: Node>(from: &mut Reader<'_, N>) -> MechanismMeta {
         MechanismMeta {
@@ -77,7 +76,6 @@ impl ReadTable for MechanismMeta {
     }
 }
 
-#[tactic(auto, unfolding(crate::specs::Mechanisms::mechanism_meta_fields))]
 impl CopyTable for MechanismMeta {
     fn copy_rows(&self, copies: &mut Copier) -> Result<MechanismMeta, AllocError> {
         Ok(MechanismMeta {
@@ -89,7 +87,6 @@ impl CopyTable for MechanismMeta {
 }
 
 // A mechanism omits the member `meta` if no field is set.
-#[tactic(auto, unfolding(crate::specs::Mechanisms::mechanism_meta_fields))]
 impl DefaultedTable for MechanismMeta {
     ghost usual = { no_meta };
 

@@ -1,4 +1,5 @@
 //! POSIX signals.
+#![tactic(auto, unfolding(crate::specs::Causes::signal_fields))]
 
 ghost use Rattle.sentry_frames.specs.Causes.{signal_fields, signal_in_order};
 
@@ -96,7 +97,6 @@ impl From<PosixSignal> for i32 {
     }
 }
 
-#[tactic(auto, unfolding(crate::specs::Causes::signal_fields))]
 impl Table for PosixSignal {
     ghost lines = { signal_fields };
 
@@ -110,7 +110,6 @@ impl Table for PosixSignal {
     ghost ordered = { signal_in_order };
 }
 
-#[tactic(auto, unfolding(crate::specs::Causes::signal_fields))]
 impl ReadTable for PosixSignal {
     fn read<N: Node>(from: &mut Reader<'_, N>) -> PosixSignal {
         PosixSignal {
@@ -122,7 +121,6 @@ impl ReadTable for PosixSignal {
     }
 }
 
-#[tactic(auto, unfolding(crate::specs::Causes::signal_fields))]
 impl CopyTable for PosixSignal {
     fn copy_rows(&self, copies: &mut Copier) -> Result<PosixSignal, AllocError> {
         Ok(PosixSignal {

@@ -1,4 +1,5 @@
 //! Stack traces.
+#![tactic(auto, unfolding(crate::specs::Frames::stacktrace_fields))]
 
 ghost use Rattle.sentry_frames.specs.Frames.{stacktrace_fields, stacktrace_in_order};
 
@@ -74,7 +75,6 @@ impl Formed for Stacktrace {
     type Form = AsTable;
 }
 
-#[tactic(auto, unfolding(crate::specs::Frames::stacktrace_fields))]
 impl Table for Stacktrace {
     ghost lines = { stacktrace_fields };
 
@@ -87,7 +87,6 @@ impl Table for Stacktrace {
     ghost ordered = { stacktrace_in_order };
 }
 
-#[tactic(auto, unfolding(crate::specs::Frames::stacktrace_fields))]
 impl ReadTable for Stacktrace {
     fn read<N: Node>(from: &mut Reader<'_, N>) -> Stacktrace {
         Stacktrace {
@@ -98,7 +97,6 @@ impl ReadTable for Stacktrace {
     }
 }
 
-#[tactic(auto, unfolding(crate::specs::Frames::stacktrace_fields))]
 impl CopyTable for Stacktrace {
     fn copy_rows(&self, copies: &mut Copier) -> Result<Stacktrace, AllocError> {
         Ok(Stacktrace {

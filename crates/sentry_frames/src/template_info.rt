@@ -1,4 +1,5 @@
 //! Template information: locations of errors in templates.
+#![tactic(auto, unfolding(crate::specs::Frames::template_fields))]
 
 ghost use Rattle.sentry_frames.specs.Frames.{template_fields, template_in_order};
 
@@ -61,7 +62,6 @@ impl Formed for TemplateInfo {
     type Form = AsTable;
 }
 
-#[tactic(auto, unfolding(crate::specs::Frames::template_fields))]
 impl Table for TemplateInfo {
     ghost lines = { template_fields };
 
@@ -78,7 +78,6 @@ impl Table for TemplateInfo {
     ghost ordered = { template_in_order };
 }
 
-#[tactic(auto, unfolding(crate::specs::Frames::template_fields))]
 impl ReadTable for TemplateInfo {
     fn read<N: Node>(from: &mut Reader<'_, N>) -> TemplateInfo {
         TemplateInfo {
@@ -93,7 +92,6 @@ impl ReadTable for TemplateInfo {
     }
 }
 
-#[tactic(auto, unfolding(crate::specs::Frames::template_fields))]
 impl CopyTable for TemplateInfo {
     fn copy_rows(&self, copies: &mut Copier) -> Result<TemplateInfo, AllocError> {
         Ok(TemplateInfo {

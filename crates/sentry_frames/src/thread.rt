@@ -1,4 +1,5 @@
 //! Threads of the program.
+#![tactic(auto, unfolding(crate::specs::Threads::thread_fields))]
 
 ghost use Rattle.sentry_frames.specs.Threads.{thread_fields, thread_in_order};
 
@@ -60,7 +61,6 @@ impl Formed for Thread {
     type Form = AsTable;
 }
 
-#[tactic(auto, unfolding(crate::specs::Threads::thread_fields))]
 impl Table for Thread {
     ghost lines = { thread_fields };
 
@@ -76,7 +76,6 @@ impl Table for Thread {
     ghost ordered = { thread_in_order };
 }
 
-#[tactic(auto, unfolding(crate::specs::Threads::thread_fields))]
 impl ReadTable for Thread {
     fn read<N: Node>(from: &mut Reader<'_, N>) -> Thread {
         Thread {
@@ -90,7 +89,6 @@ impl ReadTable for Thread {
     }
 }
 
-#[tactic(auto, unfolding(crate::specs::Threads::thread_fields))]
 impl CopyTable for Thread {
     fn copy_rows(&self, copies: &mut Copier) -> Result<Thread, AllocError> {
         Ok(Thread {

@@ -213,26 +213,6 @@ fn split_header(body: &[u8]) -> Result<(&[u8], &[u8]), EnvelopeError>
 
 // Splits off the header, and parses it into `fields`.
 #[inline(always)]
-fn take_any_header<'l, 'a: 'l>(
-    lines: &mut LineReader<'l>,
-    body: &'a [u8],
-    fields: &mut ItemHeader,
-) -> Result<(&'a [u8], &'a [u8]), EnvelopeError>
-    ensures found { IfOk result (λ x. Opens body.now x.0.now x.1.now) }
-    ensures header { IfOk result (λ x.
-        read_header item_words x.0.now ≡ Some (header_view fields.new)) }
-    ensures fault { IfErr result (λ e. e ≢ EnvelopeError.OutOfMemory
-        → IsFault (stated_length item_words) body.now e) }
-{
-    let (header, after) = split_header(body)?;
-    // The frame is returned, and lives longer than what reads its header.
-    let line: &'l [u8] = header;
-    read_fields(lines, line, fields)?;
-    Ok((header, after))
-}
-
-// The same, at once where the header is short.
-#[inline(always)]
 fn take_header<'l, 'a: 'l>(
     lines: &mut LineReader<'l>,
     body: &'a [u8],
@@ -244,11 +224,15 @@ fn take_header<'l, 'a: 'l>(
     ensures fault { IfErr result (λ e. e ≢ EnvelopeError.OutOfMemory
         → IsFault (stated_length item_words) body.now e) }
 {
-    let Some((kind, length, after)) = split_short(body) else {
-        return take_any_header(lines, body, fields);
-    };
-    fields.set_short(kind, length);
-    Ok((&body[..body.len() - after.len()], after))
+    if let Some((kind, length, after)) = split_short(body) {
+        fields.set_short(kind, length);
+        return Ok((&body[..body.len() - after.len()], after));
+    }
+    let (header, after) = split_header(body)?;
+    // The frame is returned, and lives longer than what reads its header.
+    let line: &'l [u8] = header;
+    read_fields(lines, line, fields)?;
+    Ok((header, after))
 }
 
 // Returns the first frame and the bytes after the frame, and parses the item header into `fields`.

@@ -9,6 +9,9 @@ ghost use Rattle.sentry_framing.specs.ItemWords.{item_words, kind_word};
 use crate::kind::ItemKind;
 use sentry_json::leading_integer;
 
+// What stands before the word of the type.
+const FRONT: &[u8] = b"{\"type\":\"";
+
 // Returns what follows these bytes at the front; `None` if others stand there.
 #[inline(always)]
 fn after<'a>(bytes: &'a [u8], front: &[u8]) -> Option<&'a [u8]>
@@ -51,10 +54,10 @@ pub(crate) fn split_short(body: &[u8]) -> Option<(ItemKind, Option<u64>, &[u8])>
         × IsBalanced header × (read_header item_words header ≡ Some (short_header x.0 x.1))) }
 {
     // Attachments have a name too. Their first letter is asked for before anything else.
-    if let Some(b'a') = body.get(9) {
+    if let Some(b'a') = body.get(FRONT.len()) {
         return None;
     }
-    let word = after(body, b"{\"type\":\"")?;
+    let word = after(body, FRONT)?;
     let (kind, rest) = split_kind(word)?;
     if let Some(rest) = after(rest, b"}") {
         return Some((kind, None, rest));

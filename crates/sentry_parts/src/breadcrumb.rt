@@ -1,4 +1,5 @@
 //! Breadcrumbs: what happened before an event.
+#![tactic(auto, unfolding(crate::specs::Breadcrumbs::breadcrumb_fields))]
 
 ghost use Rattle.sentry_parts.specs.Breadcrumbs.{breadcrumb_fields, breadcrumb_in_order};
 
@@ -32,7 +33,6 @@ pub struct Breadcrumb {
     pub data_: Map<String, Value>,
 }
 
-#[tactic(auto, unfolding(crate::specs::Breadcrumbs::breadcrumb_fields))]
 impl Breadcrumb {
     ghost use Rattle.std.specs.Prelude.{◌≡◌, IfOk};
     ghost use Rattle.sentry_tables.specs.Defaults.{IsDefaultAt};
@@ -69,7 +69,6 @@ impl Formed for Breadcrumb {
     type Form = AsTable;
 }
 
-#[tactic(auto, unfolding(crate::specs::Breadcrumbs::breadcrumb_fields))]
 impl Table for Breadcrumb {
     ghost lines = { breadcrumb_fields };
 
@@ -85,7 +84,6 @@ impl Table for Breadcrumb {
     ghost ordered = { breadcrumb_in_order };
 }
 
-#[tactic(auto, unfolding(crate::specs::Breadcrumbs::breadcrumb_fields))]
 impl ReadTableAt for Breadcrumb {
     fn read<N: Node, R: Rng>(from: &mut Reader<'_, N>, now: Moment, _ids: &mut R) -> Breadcrumb {
         Breadcrumb {
@@ -99,7 +97,6 @@ impl ReadTableAt for Breadcrumb {
     }
 }
 
-#[tactic(auto, unfolding(crate::specs::Breadcrumbs::breadcrumb_fields))]
 impl CopyTable for Breadcrumb {
     fn copy_rows(&self, copies: &mut Copier) -> Result<Breadcrumb, AllocError> {
         Ok(Breadcrumb {

@@ -1,4 +1,5 @@
 //! Client SDK information.
+#![tactic(auto, unfolding(crate::specs::ClientSdk::sdk_fields))]
 
 ghost use Rattle.sentry_parts.specs.ClientSdk.{sdk_fields, sdk_in_order};
 
@@ -39,7 +40,6 @@ impl Formed for ClientSdkInfo {
     type Form = AsTable;
 }
 
-#[tactic(auto, unfolding(crate::specs::ClientSdk::sdk_fields))]
 impl Table for ClientSdkInfo {
     ghost lines = { sdk_fields };
 
@@ -53,7 +53,6 @@ impl Table for ClientSdkInfo {
     ghost ordered = { sdk_in_order };
 }
 
-#[tactic(auto, unfolding(crate::specs::ClientSdk::sdk_fields))]
 impl ReadTable for ClientSdkInfo {
     fn read<N: Node>(from: &mut Reader<'_, N>) -> ClientSdkInfo {
         ClientSdkInfo {
@@ -65,7 +64,6 @@ impl ReadTable for ClientSdkInfo {
     }
 }
 
-#[tactic(auto, unfolding(crate::specs::ClientSdk::sdk_fields))]
 impl CopyTable for ClientSdkInfo {
     fn copy_rows(&self, copies: &mut Copier) -> Result<ClientSdkInfo, AllocError> {
         Ok(ClientSdkInfo {

@@ -1,4 +1,5 @@
 //! Packages of the client SDK.
+#![tactic(auto, unfolding(crate::specs::ClientSdk::package_fields))]
 
 ghost use Rattle.sentry_parts.specs.ClientSdk.{package_fields, package_in_order};
 
@@ -34,7 +35,6 @@ impl Formed for ClientSdkPackage {
     type Form = AsTable;
 }
 
-#[tactic(auto, unfolding(crate::specs::ClientSdk::package_fields))]
 impl Table for ClientSdkPackage {
     ghost lines = { package_fields };
 
@@ -46,7 +46,6 @@ impl Table for ClientSdkPackage {
     ghost ordered = { package_in_order };
 }
 
-#[tactic(auto, unfolding(crate::specs::ClientSdk::package_fields))]
 impl ReadTable for ClientSdkPackage {
     fn read<N: Node>(from: &mut Reader<'_, N>) -> ClientSdkPackage {
         ClientSdkPackage {
@@ -56,7 +55,6 @@ impl ReadTable for ClientSdkPackage {
     }
 }
 
-#[tactic(auto, unfolding(crate::specs::ClientSdk::package_fields))]
 impl CopyTable for ClientSdkPackage {
     fn copy_rows(&self, copies: &mut Copier) -> Result<ClientSdkPackage, AllocError> {
         Ok(ClientSdkPackage {

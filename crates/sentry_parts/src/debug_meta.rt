@@ -1,4 +1,5 @@
 //! Debug meta information: debug images and SDK information for symbolication.
+#![tactic(auto, unfolding(crate::specs::Debugging::debug_meta_fields))]
 
 ghost use Rattle.sentry_parts.specs.Debugging.{empty_meta, debug_meta_fields, debug_meta_in_order};
 
@@ -20,7 +21,6 @@ pub struct DebugMeta {
     pub images: Vec<DebugImage>,
 }
 
-#[tactic(auto, unfolding(crate::specs::Debugging::debug_meta_fields))]
 impl DebugMeta {
     ghost use Rattle.std.specs.Prelude.{◌≡◌, ◌↔◌, [], None, IfOk, IsTrue};
     ghost use Rattle.sentry_tables.specs.Defaults.{IsDefault};
@@ -56,7 +56,6 @@ impl Formed for DebugMeta {
     type Form = AsTable;
 }
 
-#[tactic(auto, unfolding(crate::specs::Debugging::debug_meta_fields))]
 impl Table for DebugMeta {
     ghost lines = { debug_meta_fields };
 
@@ -68,7 +67,6 @@ impl Table for DebugMeta {
     ghost ordered = { debug_meta_in_order };
 }
 
-#[tactic(auto, unfolding(crate::specs::Debugging::debug_meta_fields))]
 impl ReadTable for DebugMeta {
     fn read<N: Node>(from: &mut Reader<'_, N>) -> DebugMeta {
         DebugMeta {
@@ -78,7 +76,6 @@ impl ReadTable for DebugMeta {
     }
 }
 
-#[tactic(auto, unfolding(crate::specs::Debugging::debug_meta_fields))]
 impl CopyTable for DebugMeta {
     fn copy_rows(&self, copies: &mut Copier) -> Result<DebugMeta, AllocError> {
         Ok(DebugMeta {

@@ -1,4 +1,5 @@
 //! Debug images of native code.
+#![tactic(auto, unfolding(crate::specs::DebugImages::apple_fields, crate::specs::DebugImages::symbolic_fields))]
 
 ghost use Rattle.sentry_parts.specs.DebugImages.{apple_fields, apple_in_order, symbolic_fields, symbolic_in_order};
 
@@ -49,7 +50,6 @@ impl Formed for AppleDebugImage {
     type Form = AsTable;
 }
 
-#[tactic(auto, unfolding(crate::specs::DebugImages::apple_fields))]
 impl Table for AppleDebugImage {
     ghost lines = { apple_fields };
 
@@ -67,7 +67,6 @@ impl Table for AppleDebugImage {
     ghost ordered = { apple_in_order };
 }
 
-#[tactic(auto, unfolding(crate::specs::DebugImages::apple_fields))]
 impl ReadTable for AppleDebugImage {
     fn read<N: Node>(from: &mut Reader<'_, N>) -> AppleDebugImage {
         AppleDebugImage {
@@ -83,7 +82,6 @@ impl ReadTable for AppleDebugImage {
     }
 }
 
-#[tactic(auto, unfolding(crate::specs::DebugImages::apple_fields))]
 impl CopyTable for AppleDebugImage {
     fn copy_rows(&self, copies: &mut Copier) -> Result<AppleDebugImage, AllocError> {
         Ok(AppleDebugImage {
@@ -138,7 +136,6 @@ impl Formed for SymbolicDebugImage {
     type Form = AsTable;
 }
 
-#[tactic(auto, unfolding(crate::specs::DebugImages::symbolic_fields))]
 impl Table for SymbolicDebugImage {
     ghost lines = { symbolic_fields };
 
@@ -156,7 +153,6 @@ impl Table for SymbolicDebugImage {
     ghost ordered = { symbolic_in_order };
 }
 
-#[tactic(auto, unfolding(crate::specs::DebugImages::symbolic_fields))]
 impl ReadTable for SymbolicDebugImage {
     fn read<N: Node>(from: &mut Reader<'_, N>) -> SymbolicDebugImage {
         SymbolicDebugImage {
@@ -172,7 +168,6 @@ impl ReadTable for SymbolicDebugImage {
     }
 }
 
-#[tactic(auto, unfolding(crate::specs::DebugImages::symbolic_fields))]
 impl CopyTable for SymbolicDebugImage {
     fn copy_rows(&self, copies: &mut Copier) -> Result<SymbolicDebugImage, AllocError> {
         Ok(SymbolicDebugImage {

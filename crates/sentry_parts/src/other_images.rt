@@ -1,4 +1,5 @@
 //! Debug images of code that is not native: ProGuard and WebAssembly.
+#![tactic(auto, unfolding(crate::specs::DebugImages::proguard_fields, crate::specs::DebugImages::wasm_fields))]
 
 ghost use Rattle.sentry_parts.specs.DebugImages.{proguard_fields, proguard_in_order, wasm_fields, wasm_in_order};
 
@@ -34,7 +35,6 @@ impl Formed for ProguardDebugImage {
     type Form = AsTable;
 }
 
-#[tactic(auto, unfolding(crate::specs::DebugImages::proguard_fields))]
 impl Table for ProguardDebugImage {
     ghost lines = { proguard_fields };
 
@@ -45,7 +45,6 @@ impl Table for ProguardDebugImage {
     ghost ordered = { proguard_in_order };
 }
 
-#[tactic(auto, unfolding(crate::specs::DebugImages::proguard_fields))]
 impl ReadTable for ProguardDebugImage {
     fn read<N: Node>(from: &mut Reader<'_, N>) -> ProguardDebugImage {
         ProguardDebugImage {
@@ -54,7 +53,6 @@ impl ReadTable for ProguardDebugImage {
     }
 }
 
-#[tactic(auto, unfolding(crate::specs::DebugImages::proguard_fields))]
 impl CopyTable for ProguardDebugImage {
     fn copy_rows(&self, copies: &mut Copier) -> Result<ProguardDebugImage, AllocError> {
         Ok(ProguardDebugImage {
@@ -96,7 +94,6 @@ impl Formed for WasmDebugImage {
     type Form = AsTable;
 }
 
-#[tactic(auto, unfolding(crate::specs::DebugImages::wasm_fields))]
 impl Table for WasmDebugImage {
     ghost lines = { wasm_fields };
 
@@ -111,7 +108,6 @@ impl Table for WasmDebugImage {
     ghost ordered = { wasm_in_order };
 }
 
-#[tactic(auto, unfolding(crate::specs::DebugImages::wasm_fields))]
 impl ReadTable for WasmDebugImage {
     fn read<N: Node>(from: &mut Reader<'_, N>) -> WasmDebugImage {
         WasmDebugImage {
@@ -124,7 +120,6 @@ impl ReadTable for WasmDebugImage {
     }
 }
 
-#[tactic(auto, unfolding(crate::specs::DebugImages::wasm_fields))]
 impl CopyTable for WasmDebugImage {
     fn copy_rows(&self, copies: &mut Copier) -> Result<WasmDebugImage, AllocError> {
         Ok(WasmDebugImage {

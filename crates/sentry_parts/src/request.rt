@@ -1,4 +1,5 @@
 //! HTTP requests.
+#![tactic(auto, unfolding(crate::specs::Requests::request_fields))]
 
 ghost use Rattle.sentry_parts.specs.Requests.{request_fields, request_in_order};
 
@@ -31,7 +32,6 @@ pub struct Request {
     pub env: Map<String, String>,
 }
 
-#[tactic(auto, unfolding(crate::specs::Requests::request_fields))]
 impl Request {
     ghost use Rattle.std.specs.Prelude.{◌≡◌, IfOk};
     ghost use Rattle.sentry_tables.specs.Defaults.{IsDefault};
@@ -64,7 +64,6 @@ impl Formed for Request {
     type Form = AsTable;
 }
 
-#[tactic(auto, unfolding(crate::specs::Requests::request_fields))]
 impl Table for Request {
     ghost lines = { request_fields };
 
@@ -81,7 +80,6 @@ impl Table for Request {
     ghost ordered = { request_in_order };
 }
 
-#[tactic(auto, unfolding(crate::specs::Requests::request_fields))]
 impl ReadTable for Request {
     fn read<N: Node>(from: &mut Reader<'_, N>) -> Request {
         Request {
@@ -96,7 +94,6 @@ impl ReadTable for Request {
     }
 }
 
-#[tactic(auto, unfolding(crate::specs::Requests::request_fields))]
 impl CopyTable for Request {
     fn copy_rows(&self, copies: &mut Copier) -> Result<Request, AllocError> {
         Ok(Request {

@@ -1,4 +1,5 @@
 //! System SDK information: the SDK of the system that an application runs on.
+#![tactic(auto, unfolding(crate::specs::Debugging::system_fields))]
 
 ghost use Rattle.sentry_parts.specs.Debugging.{system_fields, system_in_order};
 
@@ -38,7 +39,6 @@ impl Formed for SystemSdkInfo {
     type Form = AsTable;
 }
 
-#[tactic(auto, unfolding(crate::specs::Debugging::system_fields))]
 impl Table for SystemSdkInfo {
     ghost lines = { system_fields };
 
@@ -52,7 +52,6 @@ impl Table for SystemSdkInfo {
     ghost ordered = { system_in_order };
 }
 
-#[tactic(auto, unfolding(crate::specs::Debugging::system_fields))]
 impl ReadTable for SystemSdkInfo {
     fn read<N: Node>(from: &mut Reader<'_, N>) -> SystemSdkInfo {
         SystemSdkInfo {
@@ -64,7 +63,6 @@ impl ReadTable for SystemSdkInfo {
     }
 }
 
-#[tactic(auto, unfolding(crate::specs::Debugging::system_fields))]
 impl CopyTable for SystemSdkInfo {
     fn copy_rows(&self, copies: &mut Copier) -> Result<SystemSdkInfo, AllocError> {
         Ok(SystemSdkInfo {

@@ -1,11 +1,12 @@
 //! Users affected by events.
+#![tactic(auto, unfolding(crate::specs::Users::user_fields))]
 
 ghost use Rattle.std.specs.Prelude.{[]};
 ghost use Rattle.serde_json.specs.View.{members_view};
 ghost use Rattle.sentry_parts.specs.Users.{user_fields, user_in_order};
 
 use sentry_json::Node;
-use sentry_rows::{AsKept, Copier, CopyKept, KeptTable, ReadKept, Reader, Sink, Table};
+use sentry_rows::{AsKept, Copier, KeptTable, Reader, Sink, Table};
 use sentry_tables::{Formed, Member};
 use sentry_text::IpAddress;
 use serde_json::{Map, Value};
@@ -28,7 +29,6 @@ pub struct User {
     pub other: Map<String, Value>,
 }
 
-#[tactic(auto, unfolding(crate::specs::Users::user_fields))]
 impl User {
     ghost use Rattle.std.specs.Prelude.{◌≡◌, IfOk};
     ghost use Rattle.serde_json.specs.Data.{no_members};
@@ -61,7 +61,6 @@ impl Formed for User {
     type Form = AsKept;
 }
 
-#[tactic(auto, unfolding(crate::specs::Users::user_fields))]
 impl Table for User {
     ghost lines = { user_fields };
 
@@ -75,7 +74,6 @@ impl Table for User {
     ghost ordered = { user_in_order };
 }
 
-#[tactic(auto, unfolding(crate::specs::Users::user_fields))]
 impl KeptTable for User {
     ghost reserved = { [] };
 
@@ -88,10 +86,7 @@ impl KeptTable for User {
     fn names() -> &'static [&'static str] {
         &["email", "id", "ip_address", "username"]
     }
-}
 
-#[tactic(auto, unfolding(crate::specs::Users::user_fields))]
-impl ReadKept for User {
     fn read<N: Node>(from: &mut Reader<'_, N>) -> User {
         User {
             email: from.optional("email"),
@@ -101,10 +96,7 @@ impl ReadKept for User {
             other: from.others(User::names()),
         }
     }
-}
 
-#[tactic(auto, unfolding(crate::specs::Users::user_fields))]
-impl CopyKept for User {
     fn copy_rows(&self, copies: &mut Copier) -> Result<User, AllocError> {
         Ok(User {
             email: copies.optional(&self.email),

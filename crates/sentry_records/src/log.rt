@@ -1,4 +1,5 @@
 //! Structured logs.
+#![tactic(auto, unfolding(crate::specs::Logs::log_fields))]
 
 ghost use Rattle.sentry_records.specs.Logs.{log_fields, log_in_order};
 
@@ -50,7 +51,6 @@ impl Formed for Log {
     type Form = AsTable;
 }
 
-#[tactic(auto, unfolding(crate::specs::Logs::log_fields))]
 impl Table for Log {
     ghost lines = { log_fields };
 
@@ -66,7 +66,6 @@ impl Table for Log {
     ghost ordered = { log_in_order };
 }
 
-#[tactic(auto, unfolding(crate::specs::Logs::log_fields))]
 impl ReadTable for Log {
     fn read<N: Node>(from: &mut Reader<'_, N>) -> Log {
         Log {
@@ -80,7 +79,6 @@ impl ReadTable for Log {
     }
 }
 
-#[tactic(auto, unfolding(crate::specs::Logs::log_fields))]
 impl CopyTable for Log {
     fn copy_rows(&self, copies: &mut Copier) -> Result<Log, AllocError> {
         Ok(Log {

@@ -1,4 +1,5 @@
 //! Metrics: measured or counted numbers.
+#![tactic(auto, unfolding(crate::specs::Metrics::metric_fields))]
 
 ghost use Rattle.sentry_records.specs.Metrics.{metric_fields, metric_in_order};
 
@@ -54,7 +55,6 @@ impl Formed for Metric {
     type Form = AsTable;
 }
 
-#[tactic(auto, unfolding(crate::specs::Metrics::metric_fields))]
 impl Table for Metric {
     ghost lines = { metric_fields };
 
@@ -72,7 +72,6 @@ impl Table for Metric {
     ghost ordered = { metric_in_order };
 }
 
-#[tactic(auto, unfolding(crate::specs::Metrics::metric_fields))]
 impl ReadTable for Metric {
     fn read<N: Node>(from: &mut Reader<'_, N>) -> Metric {
         Metric {
@@ -88,7 +87,6 @@ impl ReadTable for Metric {
     }
 }
 
-#[tactic(auto, unfolding(crate::specs::Metrics::metric_fields))]
 impl CopyTable for Metric {
     fn copy_rows(&self, copies: &mut Copier) -> Result<Metric, AllocError> {
         Ok(Metric {

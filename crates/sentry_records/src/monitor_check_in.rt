@@ -1,4 +1,5 @@
 //! Monitor check-ins.
+#![tactic(auto, unfolding(crate::specs::Monitors::check_in_fields))]
 
 ghost use Rattle.sentry_records.specs.Monitors.{check_in_fields, check_in_in_order};
 
@@ -46,7 +47,6 @@ impl Formed for MonitorCheckIn {
     type Form = AsTable;
 }
 
-#[tactic(auto, unfolding(crate::specs::Monitors::check_in_fields))]
 impl Table for MonitorCheckIn {
     ghost lines = { check_in_fields };
 
@@ -62,7 +62,6 @@ impl Table for MonitorCheckIn {
     ghost ordered = { check_in_in_order };
 }
 
-#[tactic(auto, unfolding(crate::specs::Monitors::check_in_fields))]
 impl ReadTable for MonitorCheckIn {
     fn read<N: Node>(from: &mut Reader<'_, N>) -> MonitorCheckIn {
         MonitorCheckIn {
@@ -76,7 +75,6 @@ impl ReadTable for MonitorCheckIn {
     }
 }
 
-#[tactic(auto, unfolding(crate::specs::Monitors::check_in_fields))]
 impl CopyTable for MonitorCheckIn {
     fn copy_rows(&self, copies: &mut Copier) -> Result<MonitorCheckIn, AllocError> {
         Ok(MonitorCheckIn {

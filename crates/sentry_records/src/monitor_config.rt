@@ -1,4 +1,5 @@
 //! Monitor configurations.
+#![tactic(auto, unfolding(crate::specs::Monitors::config_fields))]
 
 ghost use Rattle.sentry_records.specs.Monitors.{config_fields, config_in_order};
 
@@ -43,7 +44,6 @@ impl Formed for MonitorConfig {
     type Form = AsTable;
 }
 
-#[tactic(auto, unfolding(crate::specs::Monitors::config_fields))]
 impl Table for MonitorConfig {
     ghost lines = { config_fields };
 
@@ -59,7 +59,6 @@ impl Table for MonitorConfig {
     ghost ordered = { config_in_order };
 }
 
-#[tactic(auto, unfolding(crate::specs::Monitors::config_fields))]
 impl ReadTable for MonitorConfig {
     fn read<N: Node>(from: &mut Reader<'_, N>) -> MonitorConfig {
         MonitorConfig {
@@ -73,7 +72,6 @@ impl ReadTable for MonitorConfig {
     }
 }
 
-#[tactic(auto, unfolding(crate::specs::Monitors::config_fields))]
 impl CopyTable for MonitorConfig {
     fn copy_rows(&self, copies: &mut Copier) -> Result<MonitorConfig, AllocError> {
         Ok(MonitorConfig {

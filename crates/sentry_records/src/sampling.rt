@@ -1,4 +1,5 @@
 //! The dynamic sampling context.
+#![tactic(auto, unfolding(crate::specs::Sampling::sampling_fields))]
 
 ghost use Rattle.sentry_records.specs.Sampling.{sampling_fields, sampling_in_order};
 
@@ -28,7 +29,6 @@ pub struct DynamicSamplingContext {
     org_id: Option<OrganizationId>,
 }
 
-#[tactic(auto, unfolding(crate::specs::Sampling::sampling_fields))]
 impl DynamicSamplingContext {
     ghost use Rattle.std.specs.Prelude.{◌≡◌, IfOk, codes};
     ghost use Rattle.sentry_tables.specs.Defaults.{IsDefault};
@@ -243,7 +243,6 @@ impl Formed for DynamicSamplingContext {
     type Form = AsTable;
 }
 
-#[tactic(auto, unfolding(crate::specs::Sampling::sampling_fields))]
 impl Table for DynamicSamplingContext {
     ghost lines = { sampling_fields };
 
@@ -262,7 +261,6 @@ impl Table for DynamicSamplingContext {
     ghost ordered = { sampling_in_order };
 }
 
-#[tactic(auto, unfolding(crate::specs::Sampling::sampling_fields))]
 impl ReadTable for DynamicSamplingContext {
     fn read<N: Node>(from: &mut Reader<'_, N>) -> DynamicSamplingContext {
         DynamicSamplingContext {
@@ -279,7 +277,6 @@ impl ReadTable for DynamicSamplingContext {
     }
 }
 
-#[tactic(auto, unfolding(crate::specs::Sampling::sampling_fields))]
 impl CopyTable for DynamicSamplingContext {
     fn copy_rows(&self, copies: &mut Copier) -> Result<DynamicSamplingContext, AllocError> {
         Ok(DynamicSamplingContext {

@@ -1,4 +1,5 @@
 //! Rows of the cases of monitor schedules.
+#![tactic(auto, unfolding(crate::specs::Monitors::crontab_fields, crate::specs::Monitors::interval_fields, crate::specs::Monitors::lent_fields))]
 
 ghost use Rattle.sentry_records.specs.Monitors.{crontab_fields, crontab_in_order, interval_fields, interval_in_order, lent_fields, lent_in_order};
 
@@ -18,7 +19,6 @@ impl Formed for CrontabRows {
     type Form = AsTable;
 }
 
-#[tactic(auto, unfolding(crate::specs::Monitors::crontab_fields))]
 impl Table for CrontabRows {
     ghost lines = { crontab_fields };
 
@@ -29,7 +29,6 @@ impl Table for CrontabRows {
     ghost ordered = { crontab_in_order };
 }
 
-#[tactic(auto, unfolding(crate::specs::Monitors::crontab_fields))]
 impl ReadTable for CrontabRows {
     fn read<N: Node>(from: &mut Reader<'_, N>) -> CrontabRows {
         CrontabRows {
@@ -38,7 +37,6 @@ impl ReadTable for CrontabRows {
     }
 }
 
-#[tactic(auto, unfolding(crate::specs::Monitors::crontab_fields))]
 impl CopyTable for CrontabRows {
     fn copy_rows(&self, copies: &mut Copier) -> Result<CrontabRows, AllocError> {
         Ok(CrontabRows {
@@ -58,7 +56,6 @@ impl Formed for IntervalRows {
     type Form = AsTable;
 }
 
-#[tactic(auto, unfolding(crate::specs::Monitors::interval_fields))]
 impl Table for IntervalRows {
     ghost lines = { interval_fields };
 
@@ -70,7 +67,6 @@ impl Table for IntervalRows {
     ghost ordered = { interval_in_order };
 }
 
-#[tactic(auto, unfolding(crate::specs::Monitors::interval_fields))]
 impl ReadTable for IntervalRows {
     fn read<N: Node>(from: &mut Reader<'_, N>) -> IntervalRows {
         IntervalRows {
@@ -80,7 +76,6 @@ impl ReadTable for IntervalRows {
     }
 }
 
-#[tactic(auto, unfolding(crate::specs::Monitors::interval_fields))]
 impl CopyTable for IntervalRows {
     fn copy_rows(&self, copies: &mut Copier) -> Result<IntervalRows, AllocError> {
         Ok(IntervalRows {
@@ -96,7 +91,6 @@ pub(crate) struct LentCrontab<'s> {
     pub value: &'s String,
 }
 
-#[tactic(auto, unfolding(crate::specs::Monitors::lent_fields))]
 impl<'s> Table for LentCrontab<'s> {
     ghost lines = { lent_fields };
 

@@ -1,4 +1,5 @@
 //! Groups of sessions in session aggregates.
+#![tactic(auto, unfolding(crate::specs::Sessions::group_fields))]
 
 ghost use Rattle.sentry_records.specs.Sessions.{group_fields, group_in_order};
 
@@ -45,7 +46,6 @@ impl Formed for SessionAggregateItem {
     type Form = AsTable;
 }
 
-#[tactic(auto, unfolding(crate::specs::Sessions::group_fields))]
 impl Table for SessionAggregateItem {
     ghost lines = { group_fields };
 
@@ -61,7 +61,6 @@ impl Table for SessionAggregateItem {
     ghost ordered = { group_in_order };
 }
 
-#[tactic(auto, unfolding(crate::specs::Sessions::group_fields))]
 impl ReadTable for SessionAggregateItem {
     fn read<N: Node>(from: &mut Reader<'_, N>) -> SessionAggregateItem {
         SessionAggregateItem {
@@ -75,7 +74,6 @@ impl ReadTable for SessionAggregateItem {
     }
 }
 
-#[tactic(auto, unfolding(crate::specs::Sessions::group_fields))]
 impl CopyTable for SessionAggregateItem {
     fn copy_rows(&self, copies: &mut Copier) -> Result<SessionAggregateItem, AllocError> {
         Ok(SessionAggregateItem {

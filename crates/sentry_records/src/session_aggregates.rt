@@ -1,4 +1,5 @@
 //! Session aggregates.
+#![tactic(auto, unfolding(crate::specs::Sessions::groups_fields))]
 
 ghost use Rattle.sentry_records.specs.Sessions.{groups_fields, groups_in_order};
 
@@ -36,7 +37,6 @@ impl<'a> Formed for SessionAggregates<'a> {
     type Form = AsTable;
 }
 
-#[tactic(auto, unfolding(crate::specs::Sessions::groups_fields))]
 impl<'a> Table for SessionAggregates<'a> {
     ghost lines = { groups_fields };
 
@@ -48,7 +48,6 @@ impl<'a> Table for SessionAggregates<'a> {
     ghost ordered = { groups_in_order };
 }
 
-#[tactic(auto, unfolding(crate::specs::Sessions::groups_fields))]
 impl<'a> ReadTable for SessionAggregates<'a> {
     fn read<N: Node>(from: &mut Reader<'_, N>) -> SessionAggregates<'a> {
         SessionAggregates {
@@ -58,7 +57,6 @@ impl<'a> ReadTable for SessionAggregates<'a> {
     }
 }
 
-#[tactic(auto, unfolding(crate::specs::Sessions::groups_fields))]
 impl<'a> CopyTable for SessionAggregates<'a> {
     fn copy_rows(&self, copies: &mut Copier) -> Result<SessionAggregates<'a>, AllocError> {
         Ok(SessionAggregates {

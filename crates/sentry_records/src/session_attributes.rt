@@ -1,4 +1,5 @@
 //! Session attributes.
+#![tactic(auto, unfolding(crate::specs::Sessions::attributes_fields))]
 
 ghost use Rattle.sentry_records.specs.Sessions.{attributes_fields, attributes_in_order};
 
@@ -53,7 +54,6 @@ impl<'a> Formed for SessionAttributes<'a> {
     type Form = AsTable;
 }
 
-#[tactic(auto, unfolding(crate::specs::Sessions::attributes_fields))]
 impl<'a> Table for SessionAttributes<'a> {
     ghost lines = { attributes_fields };
 
@@ -67,7 +67,6 @@ impl<'a> Table for SessionAttributes<'a> {
     ghost ordered = { attributes_in_order };
 }
 
-#[tactic(auto, unfolding(crate::specs::Sessions::attributes_fields))]
 impl<'a> ReadTable for SessionAttributes<'a> {
     fn read<N: Node>(from: &mut Reader<'_, N>) -> SessionAttributes<'a> {
         SessionAttributes {
@@ -79,7 +78,6 @@ impl<'a> ReadTable for SessionAttributes<'a> {
     }
 }
 
-#[tactic(auto, unfolding(crate::specs::Sessions::attributes_fields))]
 impl<'a> CopyTable for SessionAttributes<'a> {
     fn copy_rows(&self, copies: &mut Copier) -> Result<SessionAttributes<'a>, AllocError> {
         Ok(SessionAttributes {

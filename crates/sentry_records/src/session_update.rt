@@ -1,4 +1,5 @@
 //! Session updates.
+#![tactic(auto, unfolding(crate::specs::Sessions::session_fields))]
 
 ghost use Rattle.sentry_records.specs.Sessions.{session_fields, session_in_order};
 
@@ -59,7 +60,6 @@ impl<'a> Formed for SessionUpdate<'a> {
     type Form = AsTable;
 }
 
-#[tactic(auto, unfolding(crate::specs::Sessions::session_fields))]
 impl<'a> Table for SessionUpdate<'a> {
     ghost lines = { session_fields };
 
@@ -79,7 +79,6 @@ impl<'a> Table for SessionUpdate<'a> {
     ghost ordered = { session_in_order };
 }
 
-#[tactic(auto, unfolding(crate::specs::Sessions::session_fields))]
 impl<'a> ReadTableAt for SessionUpdate<'a> {
     fn read<N: Node, R: Rng>(
         from: &mut Reader<'_, N>,
@@ -101,7 +100,6 @@ impl<'a> ReadTableAt for SessionUpdate<'a> {
     }
 }
 
-#[tactic(auto, unfolding(crate::specs::Sessions::session_fields))]
 impl<'a> CopyTable for SessionUpdate<'a> {
     fn copy_rows(&self, copies: &mut Copier) -> Result<SessionUpdate<'a>, AllocError> {
         Ok(SessionUpdate {

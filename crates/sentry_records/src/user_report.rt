@@ -1,4 +1,5 @@
 //! User reports.
+#![tactic(auto, unfolding(crate::specs::UserReports::user_report_fields))]
 
 ghost use Rattle.sentry_records.specs.UserReports.{user_report_fields, user_report_in_order};
 
@@ -40,7 +41,6 @@ impl Formed for UserReport {
     type Form = AsTable;
 }
 
-#[tactic(auto, unfolding(crate::specs::UserReports::user_report_fields))]
 impl Table for UserReport {
     ghost lines = { user_report_fields };
 
@@ -54,7 +54,6 @@ impl Table for UserReport {
     ghost ordered = { user_report_in_order };
 }
 
-#[tactic(auto, unfolding(crate::specs::UserReports::user_report_fields))]
 impl ReadTable for UserReport {
     fn read<N: Node>(from: &mut Reader<'_, N>) -> UserReport {
         UserReport {
@@ -66,7 +65,6 @@ impl ReadTable for UserReport {
     }
 }
 
-#[tactic(auto, unfolding(crate::specs::UserReports::user_report_fields))]
 impl CopyTable for UserReport {
     fn copy_rows(&self, copies: &mut Copier) -> Result<UserReport, AllocError> {
         Ok(UserReport {

@@ -1,4 +1,5 @@
 //! Items of client reports.
+#![tactic(auto, unfolding(crate::specs::ItemTable::item_fields))]
 
 ghost use Rattle.sentry_reports.specs.ItemTable.{item_fields, item_in_order};
 
@@ -40,7 +41,6 @@ impl Formed for Item {
     type Form = AsTable;
 }
 
-#[tactic(auto, unfolding(crate::specs::ItemTable::item_fields))]
 impl Table for Item {
     ghost lines = { item_fields };
 
@@ -53,7 +53,6 @@ impl Table for Item {
     ghost ordered = { item_in_order };
 }
 
-#[tactic(auto, unfolding(crate::specs::ItemTable::item_fields))]
 impl ReadTable for Item {
     fn read<N: Node>(from: &mut Reader<'_, N>) -> Item {
         Item {
@@ -64,7 +63,6 @@ impl ReadTable for Item {
     }
 }
 
-#[tactic(auto, unfolding(crate::specs::ItemTable::item_fields))]
 impl CopyTable for Item {
     fn copy_rows(&self, copies: &mut Copier) -> Result<Item, AllocError> {
         Ok(Item {

@@ -1,4 +1,5 @@
 //! The rows of client reports.
+#![tactic(auto, unfolding(crate::specs::Reports::report_fields))]
 
 ghost use Rattle.std.specs.Prelude.{◌≡◌};
 ghost use Rattle.sentry_reports.specs.Reports.{report_fields, report_in_order};
@@ -62,7 +63,6 @@ impl Formed for ReportRows {
     type Form = AsTable;
 }
 
-#[tactic(auto, unfolding(crate::specs::Reports::report_fields))]
 impl Table for ReportRows {
     ghost lines = { report_fields };
 
@@ -74,7 +74,6 @@ impl Table for ReportRows {
     ghost ordered = { report_in_order };
 }
 
-#[tactic(auto, unfolding(crate::specs::Reports::report_fields))]
 impl ReadTableAt for ReportRows {
     fn read<N: Node, R: Rng>(from: &mut Reader<'_, N>, now: Moment, _ids: &mut R) -> ReportRows {
         let discarded_events = from.required("discarded_events", Vec::new(from.alloc));
@@ -83,7 +82,6 @@ impl ReadTableAt for ReportRows {
     }
 }
 
-#[tactic(auto, unfolding(crate::specs::Reports::report_fields))]
 impl CopyTable for ReportRows {
     fn copy_rows(&self, copies: &mut Copier) -> Result<ReportRows, AllocError> {
         let discarded_events = copies.list(&self.discarded_events);

@@ -12,6 +12,7 @@ ghost use Rattle.sentry_tables.specs.Reading.{Reads};
 ghost use Rattle.sentry_moments.specs.Moments.{moment_cell};
 ghost use Rattle.sentry_rows.specs.Cased.{but_tag, TakesCase, MakesCase, ReadsCase, ReadsCaseAt};
 
+use crate::read::KeptTable;
 use crate::reader::Reader;
 use crate::tagged::tag;
 use crate::taken::{PlainCase, TextCase, TreeCase};
@@ -21,9 +22,9 @@ use sentry_json::keys::place;
 use sentry_json::{Node, Writer};
 use sentry_moments::Moment;
 use sentry_tables::{Codec, ReadCodec, TreeError, Way};
+use sentry_writing::Table;
 use sentry_writing::kept::copy_others;
 use sentry_writing::table::leave;
-use sentry_writing::{KeptTable, Table};
 use serde_json::{Map, Value};
 use std::alloc::{AllocError, Global};
 

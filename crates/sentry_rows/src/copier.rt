@@ -5,12 +5,12 @@ ghost use Rattle.serde_json.specs.View.{members_view};
 ghost use Rattle.sentry_tables.specs.Kind.{must, may, may_strict, list as list_kind, map as map_kind, values as values_kind};
 ghost use Rattle.sentry_tables.specs.Cells.{text_cell, cow_cell, option_cell, list_cell, map_cell};
 ghost use Rattle.sentry_tables.specs.Kinds.{text_kind};
-ghost use Rattle.sentry_rows.specs.Copied.{CopiesField, CopiesFields, CopiesOthers, CopiesKept};
+ghost use Rattle.sentry_rows.specs.Copied.{CopiesField, CopiesFields, CopiesOthers};
 
 use sentry_tables::codec::{remake_option_as, remake_strict_as};
 use sentry_tables::{Codec, Member, Own, Way};
 use sentry_writing::kept::copy_others;
-use sentry_writing::{KeptTable, Table, Values};
+use sentry_writing::{Table, Values};
 use serde_json::{Map, Value};
 use std::alloc::AllocError;
 use std::borrow::CowStr;
@@ -26,21 +26,6 @@ pub trait CopyTable: Table {
     /// `AllocError` if an allocation fails for a row that has no stand-in.
     fn copy_rows(&self, copies: &mut Copier) -> Result<Self, AllocError>
         ensures { IfOk result (λ v. CopiesFields Self.lines self.now v copies.old copies.new) };
-}
-
-/// A table that keeps additional members and is copied row by row.
-pub trait CopyKept: KeptTable {
-    /// Returns a copy of the value, or its normal form, as `copies` asks.
-    ///
-    /// An allocation failure is remembered in `copies`, and a stand-in fills the copy.
-    ///
-    /// # Errors
-    ///
-    /// `AllocError` if an allocation fails for a row that has no stand-in.
-    fn copy_rows(&self, copies: &mut Copier) -> Result<Self, AllocError>
-        ensures { IfOk result (λ v.
-            CopiesKept Self.lines self.now v (Self.others_of self.now)
-            (Self.others_of v) copies.old copies.new) };
 }
 
 /// A copier of rows, which makes copies or normal forms.

@@ -6,8 +6,8 @@ ghost use Rattle.sentry_tables.specs.Cell.{Cell, fields, same_cell};
 ghost use Rattle.sentry_tables.specs.Kind.{table, kept};
 ghost use Rattle.sentry_tables.specs.Norm.{norm};
 
-use crate::copier::{Copier, CopyKept, CopyTable};
-use crate::read::{ReadKept, ReadTable, ReadTableAt};
+use crate::copier::{Copier, CopyTable};
+use crate::read::{KeptTable, ReadTable, ReadTableAt};
 use crate::reader::Reader;
 use crate::timed::ReadCodecAt;
 use rand_core::Rng;
@@ -15,12 +15,12 @@ use sentry_json::{Node, Writer};
 use sentry_moments::Moment;
 use sentry_tables::codec::DefaultedCodec;
 use sentry_tables::{Codec, ReadCodec, TreeError, Way};
+use sentry_writing::Table;
 use sentry_writing::beside::{Kept, Tag};
 use sentry_writing::kept::others_are_plain;
 use sentry_writing::plain::rows_are_plain;
 use sentry_writing::table::{rows_tree, table_tree, write_rows, write_table};
 use sentry_writing::tree::TreeRows;
-use sentry_writing::{KeptTable, Table};
 use serde_json::Value;
 use std::alloc::{AllocError, Global};
 
@@ -104,7 +104,7 @@ impl<T: DefaultedTable + CopyTable> DefaultedCodec<T> for AsTable {
 /// Codec of a table that keeps additional members.
 pub struct AsKept;
 
-impl<T: CopyKept> Codec<T> for AsKept {
+impl<T: KeptTable> Codec<T> for AsKept {
     ghost kind = { table (rows_of T.lines) (kept T.reserved) };
 
     ghost cell_of = { λ v. fields (cells_by T.lines v) (T.others_of v) };
@@ -119,7 +119,7 @@ impl<T: CopyKept> Codec<T> for AsKept {
 
     fn remake(value: &T, way: Way) -> Result<T, AllocError> {
         let mut copies = Copier::new(way);
-        let copy = CopyKept::copy_rows(value, &mut copies)?;
+        let copy = KeptTable::copy_rows(value, &mut copies)?;
         copies.end(copy)
     }
 
@@ -132,7 +132,7 @@ impl<T: CopyKept> Codec<T> for AsKept {
     }
 }
 
-impl<T: ReadKept + CopyKept> ReadCodec<T> for AsKept {
+impl<T: KeptTable> ReadCodec<T> for AsKept {
     #[tactic(auto, using(crate::proofs::Answering::no_object_fails))]
     fn from_node<N: Node>(alloc: Global, node: &N) -> Result<T, TreeError> {
         let mut from = Reader::new(alloc, node)?;

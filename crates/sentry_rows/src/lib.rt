@@ -22,13 +22,11 @@ pub mod timed;
 
 pub use case_map::{AsCaseMap, CasedByKey};
 pub use cased::{AsCase, CaseSink, Cased, ReadCased, ReadCasedAt};
-pub use copier::{Copier, CopyKept, CopyTable};
+pub use copier::{Copier, CopyTable};
 pub use form::{AsKept, AsTable, DefaultedTable};
-pub use read::{ReadKept, ReadTable, ReadTableAt};
+pub use read::{KeptTable, ReadTable, ReadTableAt};
 pub use reader::Reader;
 pub use rows::MadeCodec;
 pub use sentry_tables::Drawn;
-pub use sentry_writing::{
-    KeptTable, Sink, Table, Values, beside, kept, sink, table, text, tree, values,
-};
+pub use sentry_writing::{Sink, Table, Values, beside, kept, sink, table, text, tree, values};
 pub use timed::{FromTreeAt, ReadCodecAt};

@@ -4,13 +4,14 @@ ghost use Rattle.sentry_rows.specs.Taken.{IsCaseTree, WritesCase, TestsCase};
 ghost use Rattle.sentry_rows.specs.NoRows.{no_lines, no_lines_in_order};
 
 use crate::cased::CaseSink;
+use crate::read::KeptTable;
 use sentry_json::Writer;
 use sentry_writing::beside::{Kept, NoOthers};
 use sentry_writing::kept::others_are_plain;
 use sentry_writing::plain::rows_are_plain;
 use sentry_writing::table::{case_tree, write_case};
 use sentry_writing::tree::TreeRows;
-use sentry_writing::{KeptTable, Sink, Table};
+use sentry_writing::{Sink, Table};
 use serde_json::{Map, Value};
 use std::alloc::{AllocError, Global};
 

@@ -16,5 +16,5 @@ pub mod tree;
 pub mod values;
 
 pub use sink::Sink;
-pub use table::{KeptTable, Table};
+pub use table::Table;
 pub use values::{AsValues, Values};

@@ -37,23 +37,6 @@ pub trait Table: Sized + Drop {
     ghost ordered: { in_order (keys (rows_of lines)) ≡ true };
 }
 
-/// A table that keeps additional members, whose keys no row has.
-pub trait KeptTable: Table {
-    // keys that additional members may not have, besides those of the rows
-    ghost reserved: { List (List ℕ) };
-
-    // the additional members
-    ghost others_of: { Self → Members };
-
-    /// Returns the additional members.
-    fn others(&self) -> &Map<String, Value>
-        ensures { members_view result.now.entries ≡ others_of self.now };
-
-    /// Returns the keys that additional members may not have: those of the rows among them.
-    fn names() -> &'static [&'static str]
-        ensures { map_list (λ name. name.now) result.now ≡ reserved ++ keys (rows_of Self.lines) };
-}
-
 /// Ends a mutable borrow; the borrowed value is unchanged.
 pub fn leave<S>(_sink: &mut S)
     ensures { _sink.new ≡ _sink.old }

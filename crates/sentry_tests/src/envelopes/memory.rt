@@ -177,15 +177,15 @@ fn long_bytes(alloc: Global) -> Result<Vec<u8>, AllocError> {
 }
 
 /// Whether an envelope is written as more bytes than its attachment has, and the same by a writer
-/// that counts.
+/// that counts and into a vector of its own.
 fn is_long(alloc: Global, envelope: &Envelope) -> bool {
     let mut out = Vec::new(alloc);
     let mut counted = CountedWriter::new(Vec::new(alloc));
     envelope.to_writer(alloc, &mut out).is_ok()
         && envelope.write_counted(alloc, &mut counted).is_ok()
-        && envelope.to_vec(alloc).is_ok()
         && out.len() > LENGTH
         && counted.into_inner() == out
+        && holds(alloc, envelope.to_vec(alloc), |_, text| *text == out)
 }
 
 /// Whether an envelope and its normal form are long.
