@@ -5,7 +5,7 @@ use thiserror::Error;
 #[derive(Debug, Drop, Error)]
 pub enum EnvelopeWriteError {
     /// The envelope is structured and isn't plain: a JSON value in the envelope holds a float, or
-    /// an additional member has the key of a field. Nothing was written.
+    /// an additional member has the key of a field or, in a context, `type`. Nothing was written.
     #[error("NotPlain")]
     NotPlain,
     /// An allocation failed; nothing was written.

@@ -30,7 +30,7 @@ pub enum EnvelopeError {
     /// A payload isn't one JSON text without floats that reads as its item type.
     #[error("invalid item payload")]
     InvalidItemPayload,
-    /// An allocation failed; the bytes may be an envelope.
+    /// An allocation failed, or a URL would take 4 GB; the bytes may be an envelope.
     #[error("out of memory")]
     OutOfMemory,
 }

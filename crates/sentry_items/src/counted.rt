@@ -49,6 +49,11 @@ impl<W> CountedWriter<W> {
 impl<W: Write> CountedWriter<W> {
     /// Writes to the wrapped writer once, and counts a failure. The count before has to be below
     /// 2^64-1.
+    ///
+    /// # Errors
+    ///
+    /// Those of the wrapped writer. Each is counted, as is a write that takes none of one or more
+    /// bytes.
     pub fn write(&mut self, bytes: &[u8]) -> io::Result<usize>
         requires { writer_failures self.old < 2 ^ 64 - 1 }
         ensures bound { WritesAtMost result bytes.now }
@@ -101,6 +106,10 @@ impl<R: Read> CountedReader<R> {
 
     /// Reads from the wrapped reader once, and counts a failure. The count before has to be below
     /// 2^64-1.
+    ///
+    /// # Errors
+    ///
+    /// Those of the wrapped reader; each is counted.
     pub fn read(&mut self, buffer: &mut [u8]) -> io::Result<usize>
         requires { reader_failures self.old < 2 ^ 64 - 1 }
         ensures bound { ReadsAtMost result buffer.new }

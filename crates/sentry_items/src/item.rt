@@ -96,8 +96,8 @@ impl EnvelopeItem {
     }
 
     /// Returns whether the item can be written: no JSON value in the item holds a float, and no
-    /// additional member has the key of a field. Always true for `Raw`, which is left out of what
-    /// is written.
+    /// additional member has the key of a field or, in a context, `type`. Always true for `Raw`,
+    /// which is left out of what is written.
     pub fn is_plain(&self) -> bool
         ensures plain { IsTrue result ↔ IsItemPlain (item_held self.now) }
         ensures stored { IsTrue result → IsItemStored (item_held self.now) }

@@ -163,7 +163,7 @@ impl Writer {
         self.token(Token::String(text))
     }
 
-    /// Writes a number as it is given, such as `-1.5e3`.
+    /// Writes a number as it is given, such as `-1.5e3`. The text has to be a number of JSON.
     ///
     /// # Errors
     ///
@@ -226,8 +226,8 @@ impl Writer {
         self.integer(n)
     }
 
-    /// Writes a float that is finite, as a text that reads back as this float; an exponent has a
-    /// sign, as in `1e+30`.
+    /// Writes a float, which has to be finite, as a text that reads back as this float; an exponent
+    /// has a sign, as in `1e+30`.
     ///
     /// # Errors
     ///

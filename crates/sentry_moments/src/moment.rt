@@ -14,7 +14,7 @@ use jiff_core::civil::Date;
 use std::alloc::{AllocError, Global};
 use std::{fmt, str};
 
-/// A timestamp in nanoseconds, from 1970-01-01T00:00:00Z to 9999-12-31T23:59:59.999999999Z.
+/// A point in time, to the nanosecond, from 1970-01-01T00:00:00Z to 9999-12-31T23:59:59.999999999Z.
 ///
 /// Moments are compared by their seconds, then by their nanoseconds, and printed as RFC 3339 texts.
 #[derive(Clone, Copy, Debug, PartialEq, Eq, PartialOrd, Ord, Hash)]

@@ -11,7 +11,7 @@ pub enum TreeError {
     /// The tree is not a value of the type, or [`read_tree`](crate::read_tree) rejects the line.
     #[error("Misfit")]
     Misfit,
-    /// An allocation failed.
+    /// An allocation failed, or a URL would take 4 GB.
     #[error("out of memory")]
     Memory,
 }

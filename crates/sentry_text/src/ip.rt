@@ -19,8 +19,8 @@ use thiserror::Error;
 ///
 /// An IPv6 address is parsed from any text of RFC 4291, section 2.2, and written as RFC 5952
 /// recommends: in lower case without leading zeros, with `::` for the longest run of two or more
-/// zero groups. An IPv6 address that holds an IPv4 address is written as `::ffff:` and the IPv4
-/// address.
+/// zero groups. An IPv6 address that an IPv4 address is mapped to is written as `::ffff:` and the
+/// IPv4 address.
 #[derive(Clone, Copy, Debug, Default, PartialEq, Eq, PartialOrd, Ord, Hash)]
 pub enum IpAddress {
     /// `{{auto}}`: the address of the user's connection.

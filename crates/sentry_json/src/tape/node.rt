@@ -216,16 +216,31 @@ fn grow(node: TapeNode<'_, '_>, alloc: Global) -> Result<Value, AllocError>
     }
 }
 
+// Room is made for so many items at first; a shorter list gets room for its items alone.
+const FEW: usize = 4;
+
+// Returns how many items an array has, or `FEW` if it has more.
+fn few_items(inside: &[Token<'_>]) -> usize {
+    let mut place = 0_usize;
+    for count in 0..FEW {
+        let Some(token) = inside.get(place) else {
+            return count;
+        };
+        place = place.saturating_add(token.width()).saturating_add(1);
+    }
+    FEW
+}
+
 // Copies the items of an array.
 #[cycle(grow)]
 #[inline(never)]
 fn grow_items(node: TapeNode<'_, '_>, alloc: Global) -> Result<Vec<Value>, AllocError>
     ensures { IfOk result (λ v. items_view v.items ≡ items_of (drop 1 node.entry.tokens.now)) }
 {
-    let mut values = Vec::new(alloc);
     let Some((_, inside)) = node.tokens.split_first() else {
-        return Ok(values);
+        return Ok(Vec::new(alloc));
     };
+    let mut values = Vec::with_capacity(alloc, few_items(inside))?;
     let mut rest = inside;
     while let Some((item, after)) = split_item(rest) {
         values.push(grow(item, alloc)?)?;

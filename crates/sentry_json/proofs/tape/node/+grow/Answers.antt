@@ -25,12 +25,12 @@ grow-returns-in_ok-grow_members-in-Object t c = view-Object _ ∙ ap object c.in
 pub grow_items-returns-in_default : goal.grow_items-returns-in_default
 grow_items-returns-in_default t c =
     let none = nil_from_length c.args.node.tokens.now c.in_default.ensures.cases in
-    ap items_view c.new-values.ensures.items ∙ sym (ap (λ ts. items_of (drop 1 ts)) none ∙ items_end)
+    ap items_view c.new.ensures.items ∙ sym (ap (λ ts. items_of (drop 1 ts)) none ∙ items_end)
 
 pub grow_items-loop-item-init : goal.grow_items-loop-item-init
 grow_items-loop-item-init t c =
     let first = c.in-Some in
-    let none : c.new-values.result.items ≡ [] = c.new-values.ensures.items in
+    let none : c.in_ok-values.values.items ≡ [] = c.in_ok-values.ensures.items in
     (ap (λ ts. items_of (drop 1 ts)) first.ensures.cases.0 ∙ ap (λ vs. items_before view vs (items_of first.inside.now)) (sym none), omega (arith, first.ensures.cases.1))
 
 pub grow_items-grow-requires : goal.grow_items-grow-requires
