@@ -1,14 +1,15 @@
 -- Keys among others, and the members of other keys.
-use Rattle.std.proofs.Common.{◌≡◌, ℕ, zero, suc, ◌<◌, List, [], ◌∷◌, length, get_or, map, bytes_eq, Bor, refl, sym, ap, ◌∙◌, Bool, true, false, cond, ◌||◌, arith, true≢false, Ordering, Less, Equal, Greater, nat_cmp}
+use Rattle.std.proofs.Common.{◌≡◌, ℕ, zero, suc, ◌<◌, List, [], ◌∷◌, length, get_or, map, bytes_eq, Bor, refl, sym, ap, ◌∙◌, Bool, true, false, cond, ◌||◌, not, Some, arith, true≢false, Ordering, Less, Equal, Greater, nat_cmp}
 use Rattle.std.proofs.lemmas.Map.Text.{is_eq-slice_cmp}
 use Rattle.std.proofs.lemmas.Bool.{false_from_ne_true}
 use Rattle.std.proofs.lemmas.Slice.Eq.{bytes_eq-Decides}
 use Rattle.std.specs.Ordering.{match_ordering, is_eq}
 use Rattle.std.specs.Cmp.Lexicographic.{slice_cmp}
 use Rattle.serde_json.specs.Data.{Data, Members, no_members, member, put}
+use Rattle.serde_json.specs.Find.{get_member}
 use Rattle.sentry_json.specs.Sound.{AllAfter, IsOrdered}
 use Rattle.sentry_json.proofs.Regular.{put_ordered}
-use Rattle.sentry_json.specs.Keys.{is_among, StandsAt, beside}
+use Rattle.sentry_json.specs.Keys.{is_among, StandsAt, beside, filtered}
 
 -- ---- a search for a key
 
@@ -48,45 +49,83 @@ among key (suc i) (k ∷ ks) h = rw (among key i ks h) (or_true (bytes_eq key k)
     or_true true = refl
     or_true false = refl
 
--- ---- the members of other keys
+-- ---- the members whose keys pass a test, and those of other keys
 
 same_key : (k l : List ℕ) → slice_cmp nat_cmp k l ≡ Equal → k ≡ l
 same_key k l is = (bytes_eq-Decides k l).0 (sym (is_eq-slice_cmp k l) ∙ ap is_eq is)
-
-beside_named_at : (o : Ordering) (names : List (List ℕ)) (k l : List ℕ) (d e : Data) (ms : Members) → slice_cmp nat_cmp k l ≡ o → is_among k names ≡ true → beside names (put k d ms) ≡ beside names ms
-    → beside names (match_ordering o (member k d (member l e ms)) (member l d ms) (member l e (put k d ms))) ≡ beside names (member l e ms)
-beside_named_at Less names k l d e ms is named more = rw named
-beside_named_at Equal names k l d e ms is named more = let l_named : is_among l names ≡ true = rw (← same_key k l is) named in rw l_named
-beside_named_at Greater names k l d e ms is named more = rw more
-
--- a member of one of the names changes nothing
-pub beside_named : (names : List (List ℕ)) (k : List ℕ) (d : Data) (ms : Members) → is_among k names ≡ true → beside names (put k d ms) ≡ beside names ms
-beside_named names k d no_members named = rw named
-beside_named names k d (member l e ms) named = beside_named_at _ names k l d e ms refl named (beside_named names k d ms named)
-
-pub all_after : (names : List (List ℕ)) (k : List ℕ) (ms : Members) → AllAfter k ms → AllAfter k (beside names ms)
-all_after names k no_members h = tt
-all_after names k (member l d ms) h = at (is_among l names) (all_after names k ms h.1)
-  where
-    at : (b : Bool) → AllAfter k (beside names ms) → AllAfter k (cond b (beside names ms) (member l d (beside names ms)))
-    at true more = more
-    at false more = (h.0, more)
 
 put_first : (k : List ℕ) (d : Data) (ms : Members) → AllAfter k ms → put k d ms ≡ member k d ms
 put_first k d no_members h = refl
 put_first k d (member l e ms) h = rw h.0
 
-beside_put_at : (o : Ordering) (names : List (List ℕ)) (k l : List ℕ) (d e : Data) (ms : Members) → slice_cmp nat_cmp k l ≡ o → IsOrdered (match_ordering o (member k d (member l e ms)) (member l d ms) (member l e (put k d ms))) → is_among k names ≡ false
-    → beside names (put k d ms) ≡ put k d (beside names ms) → beside names (match_ordering o (member k d (member l e ms)) (member l d ms) (member l e (put k d ms))) ≡ put k d (beside names (member l e ms))
-beside_put_at Less names k l d e ms is ordered other more = rw other (sym (put_first k d (beside names (member l e ms)) (all_after names k (member l e ms) ordered.0)))
-beside_put_at Equal names k l d e ms is ordered other more = let l_other : is_among l names ≡ false = rw (← same_key k l is) other in rw (l_other, is)
-beside_put_at Greater names k l d e ms is ordered other more = rw more (at (is_among l names))
+module _ (passes : List ℕ → Bool) where
+  fails_at : (o : Ordering) (k l : List ℕ) (d e : Data) (ms : Members) → slice_cmp nat_cmp k l ≡ o → passes k ≡ false → filtered passes (put k d ms) ≡ filtered passes ms
+      → filtered passes (match_ordering o (member k d (member l e ms)) (member l d ms) (member l e (put k d ms))) ≡ filtered passes (member l e ms)
+  fails_at Less k l d e ms is fails more = rw fails
+  fails_at Equal k l d e ms is fails more = let l_fails : passes l ≡ false = rw (← same_key k l is) fails in rw l_fails
+  fails_at Greater k l d e ms is fails more = rw more
+
+  -- a member whose key fails the test changes nothing
+  pub put_fails : (k : List ℕ) (d : Data) (ms : Members) → passes k ≡ false → filtered passes (put k d ms) ≡ filtered passes ms
+  put_fails k d no_members fails = rw fails
+  put_fails k d (member l e ms) fails = fails_at _ k l d e ms refl fails (put_fails k d ms fails)
+
+  filtered_after : (k : List ℕ) (ms : Members) → AllAfter k ms → AllAfter k (filtered passes ms)
+  filtered_after k no_members h = tt
+  filtered_after k (member l d ms) h = at (passes l) (filtered_after k ms h.1)
+    where
+      at : (b : Bool) → AllAfter k (filtered passes ms) → AllAfter k (cond b (member l d (filtered passes ms)) (filtered passes ms))
+      at true more = (h.0, more)
+      at false more = more
+
+  passes_at : (o : Ordering) (k l : List ℕ) (d e : Data) (ms : Members) → slice_cmp nat_cmp k l ≡ o → IsOrdered (match_ordering o (member k d (member l e ms)) (member l d ms) (member l e (put k d ms))) → passes k ≡ true
+      → filtered passes (put k d ms) ≡ put k d (filtered passes ms) → filtered passes (match_ordering o (member k d (member l e ms)) (member l d ms) (member l e (put k d ms))) ≡ put k d (filtered passes (member l e ms))
+  passes_at Less k l d e ms is ordered pass more = rw pass (sym (put_first k d (filtered passes (member l e ms)) (filtered_after k (member l e ms) ordered.0)))
+  passes_at Equal k l d e ms is ordered pass more = let l_passes : passes l ≡ true = rw (← same_key k l is) pass in rw (l_passes, is)
+  passes_at Greater k l d e ms is ordered pass more = rw more (at (passes l))
+    where
+      at : (b : Bool) → cond b (member l e (put k d (filtered passes ms))) (put k d (filtered passes ms)) ≡ put k d (cond b (member l e (filtered passes ms)) (filtered passes ms))
+      at true = rw is
+      at false = refl
+
+  -- a member whose key passes it is put among those that pass
+  pub put_passes : (k : List ℕ) (d : Data) (ms : Members) → IsOrdered ms → passes k ≡ true → filtered passes (put k d ms) ≡ put k d (filtered passes ms)
+  put_passes k d no_members ordered pass = rw pass
+  put_passes k d (member l e ms) ordered pass = passes_at _ k l d e ms refl (put_ordered k d (member l e ms) ordered) pass (put_passes k d ms ordered.1 pass)
+
+  -- a key that passes it is found there
+  pub get_passes : (k : List ℕ) (ms : Members) → passes k ≡ true → get_member k (filtered passes ms) ≡ get_member k ms
+  get_passes k no_members pass = refl
+  get_passes k (member l d ms) pass = at (slice_cmp nat_cmp k l) refl (get_passes k ms pass)
+    where
+      at : (o : Ordering) → slice_cmp nat_cmp k l ≡ o → get_member k (filtered passes ms) ≡ get_member k ms → get_member k (filtered passes (member l d ms)) ≡ match_ordering o (get_member k ms) (Some d) (get_member k ms)
+      at Less is more = by_test (passes l)
+        where
+          by_test : (b : Bool) → get_member k (cond b (member l d (filtered passes ms)) (filtered passes ms)) ≡ get_member k ms
+          by_test true = rw is more
+          by_test false = more
+      at Equal is more = let l_passes : passes l ≡ true = rw (← same_key k l is) pass in rw (l_passes, is)
+      at Greater is more = by_test (passes l)
+        where
+          by_test : (b : Bool) → get_member k (cond b (member l d (filtered passes ms)) (filtered passes ms)) ≡ get_member k ms
+          by_test true = rw is more
+          by_test false = more
+
+beside_is : (names : List (List ℕ)) (ms : Members) → beside names ms ≡ filtered (λ k. not (is_among k names)) ms
+beside_is names no_members = refl
+beside_is names (member k d ms) = at (is_among k names) (beside_is names ms)
   where
-    at : (b : Bool) → cond b (put k d (beside names ms)) (member l e (put k d (beside names ms))) ≡ put k d (cond b (beside names ms) (member l e (beside names ms)))
-    at true = refl
-    at false = rw is
+    at : (b : Bool) → beside names ms ≡ filtered (λ k. not (is_among k names)) ms → cond b (beside names ms) (member k d (beside names ms)) ≡ cond (not b) (member k d (filtered (λ k. not (is_among k names)) ms)) (filtered (λ k. not (is_among k names)) ms)
+    at true is = is
+    at false is = ap (member k d) is
+
+-- a member of one of the names changes nothing
+pub beside_named : (names : List (List ℕ)) (k : List ℕ) (d : Data) (ms : Members) → is_among k names ≡ true → beside names (put k d ms) ≡ beside names ms
+beside_named names k d ms named = beside_is names (put k d ms) ∙ put_fails (λ l. not (is_among l names)) k d ms (ap not named) ∙ sym (beside_is names ms)
 
 -- a member of another key is put among them
 pub beside_put : (names : List (List ℕ)) (k : List ℕ) (d : Data) (ms : Members) → IsOrdered ms → is_among k names ≡ false → beside names (put k d ms) ≡ put k d (beside names ms)
-beside_put names k d no_members ordered other = rw other
-beside_put names k d (member l e ms) ordered other = beside_put_at _ names k l d e ms refl (put_ordered k d (member l e ms) ordered) other (beside_put names k d ms ordered.1 other)
+beside_put names k d ms ordered other = beside_is names (put k d ms) ∙ put_passes (λ l. not (is_among l names)) k d ms ordered (ap not other) ∙ ap (put k d) (sym (beside_is names ms))
+
+pub all_after : (names : List (List ℕ)) (k : List ℕ) (ms : Members) → AllAfter k ms → AllAfter k (beside names ms)
+all_after names k ms h = rw (beside_is names ms) (filtered_after (λ l. not (is_among l names)) k ms h)

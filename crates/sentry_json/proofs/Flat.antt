@@ -1,10 +1,11 @@
--- Lines that are a flat object, read member by member.
-use Rattle.std.proofs.Common.{◌≡◌, ℕ, List, [], ◌∷◌, ◌++◌, length, Some, IsUtf8, true, false, refl, sym, ap, subst, ◌∙◌, append_assoc, append-nil, arith}
+-- Lines that are an object, read member by member.
+use Rattle.std.proofs.Common.{◌≡◌, ℕ, List, [], ◌∷◌, ◌++◌, length, Some, IsUtf8, true, false, refl, sym, ap, subst, ◌∙◌, append_assoc, append-nil, ap₂, ◌<◌, take_at}
+use Rattle.std.proofs.lemmas.List.{drop_at}
 use Rattle.serde_json.specs.Data.{object, Members, no_members, put}
 use Rattle.sentry_json.specs.Line.{tree_of}
 use Rattle.sentry_json.specs.Scalars.{scalar_data, token_of}
 use Rattle.sentry_json.specs.Spelled.{Spells, SpellsString, IsSpaced}
-use Rattle.sentry_json.specs.Tokens.{text_of, value_of, value_at, members_of}
+use Rattle.sentry_json.specs.Tokens.{width, text_of, value_of, value_at, members_of}
 use Rattle.sentry_json.specs.declared.tape.flat.Scalar.{Scalar}
 use Rattle.sentry_json.specs.declared.tape.flat.Scalar.TheVariants as scalar
 use Rattle.sentry_json.specs.declared.tape.token.Token.{Token}
@@ -14,7 +15,7 @@ use Rattle.sentry_json.proofs.SoFar.{Before, begins, next_key, next_value, ends,
 use Rattle.sentry_json.proofs.TokenLists.{members_next, members_end, value_object}
 
 -- a scalar has no tokens inside
-scalar_value : (s : Scalar) → value_of (token_of s) [] ≡ scalar_data s
+pub scalar_value : (s : Scalar) → value_of (token_of s) [] ≡ scalar_data s
 unfolding value_at
 scalar_value (scalar.Text s) = refl
 scalar_value (scalar.Whole n) = refl
@@ -23,46 +24,46 @@ scalar_value (scalar.Whole n) = refl
 abbrev pub AreMembers : List Token → Members → Type 0
 AreMembers done ms = (ts : List Token) → members_of (done ++ ts) no_members ≡ members_of ts ms
 
-one_more : (done : List Token) (ms : Members) (k : Token) (s : Scalar) (key : List ℕ) → text_of k ≡ Some key → AreMembers done ms
-    → AreMembers ((done ++ k ∷ []) ++ token_of s ∷ []) (put key (scalar_data s) ms)
-one_more done ms k (scalar.Text x) key named are ts =
-    ap (λ us. members_of us no_members) (append_assoc (done ++ k ∷ []) (token.Text x ∷ []) ts ∙ append_assoc done (k ∷ []) (token.Text x ∷ ts)) ∙ are (k ∷ token.Text x ∷ ts)
-    ∙ members_next k (token.Text x) ts key ms named ∙ ap (λ d. members_of ts (put key d ms)) (scalar_value (scalar.Text x))
-one_more done ms k (scalar.Whole n) key named are ts =
-    ap (λ us. members_of us no_members) (append_assoc (done ++ k ∷ []) (token.Whole n ∷ []) ts ∙ append_assoc done (k ∷ []) (token.Whole n ∷ ts)) ∙ are (k ∷ token.Whole n ∷ ts)
-    ∙ members_next k (token.Whole n) ts key ms named ∙ ap (λ d. members_of ts (put key d ms)) (scalar_value (scalar.Whole n))
+pub one_more : (done : List Token) (ms : Members) (k first : Token) (inside : List Token) (key : List ℕ) → text_of k ≡ Some key → width first ≡ length inside → AreMembers done ms
+    → AreMembers (done ++ k ∷ (first ∷ inside)) (put key (value_of first inside) ms)
+one_more done ms k first inside key named closed are ts =
+    ap (λ us. members_of us no_members) (append_assoc done (k ∷ first ∷ inside) ts) ∙ are (k ∷ first ∷ (inside ++ ts)) ∙ members_next k first (inside ++ ts) key ms named
+    ∙ ap₂ (λ us vs. members_of vs (put key (value_of first us) ms)) (take_at inside ts (width first) (sym closed)) (drop_at inside ts (width first) (sym closed))
 
 -- what was read behind the brace: these tokens, which are these members
-pub record ReadSoFar (brace left : List ℕ) (ms : Members) : Type 0 where
+pub record ReadSoFar (brace left : List ℕ) (ms : Members) (most : ℕ) : Type 0 where
   pub done : List Token
-  pub before : Before true true brace left done 0
+  pub before : Before true true brace left done most
   pub are : AreMembers done ms
 
 -- a key, its colon and a value
-module _ (brace left behind colon_at colon value rest : List ℕ) (ms : Members) (k : Token) (key : List ℕ) (s : Scalar)
-    (so : ReadSoFar brace left ms) (name : SpellsString left behind k) (named : text_of k ≡ Some key)
-    (at_colon : IsSpaced behind colon_at) (is_colon : colon_at ≡ 58 ∷ colon) (at_value : IsSpaced colon value) (spelled : Spells value rest (token_of s) [] 0) where
-  due : Before true false brace value (so.done ++ k ∷ []) 0
-  due = skipped true false brace colon value (so.done ++ k ∷ []) 0 at_value (next_key true true brace left colon_at colon so.done k 0 refl so.before (string_before left behind colon_at k name at_colon) is_colon)
+module _ (brace left behind colon_at colon value rest : List ℕ) (ms : Members) (most : ℕ) (k : Token) (key : List ℕ) (first : Token) (inside : List Token)
+    (so : ReadSoFar brace left ms most) (name : SpellsString left behind k) (named : text_of k ≡ Some key)
+    (at_colon : IsSpaced behind colon_at) (is_colon : colon_at ≡ 58 ∷ colon) (at_value : IsSpaced colon value) (spelled : Spells value rest first inside most) where
+  due : Before true false brace value (so.done ++ k ∷ []) most
+  due = skipped true false brace colon value (so.done ++ k ∷ []) most at_value (next_key true true brace left colon_at colon so.done k most refl so.before (string_before left behind colon_at k name at_colon) is_colon)
+
+  are_more : AreMembers ((so.done ++ k ∷ []) ++ (first ∷ inside)) (put key (value_of first inside) ms)
+  are_more = rw (append_assoc so.done (k ∷ []) (first ∷ inside)) (one_more so.done ms k first inside key named spelled.closed so.are)
 
   -- and then a comma
-  pub comma_next : (comma_at comma next : List ℕ) → IsSpaced rest comma_at → comma_at ≡ 44 ∷ comma → IsSpaced comma next → ReadSoFar brace next (put key (scalar_data s) ms)
+  pub comma_next : (comma_at comma next : List ℕ) → IsSpaced rest comma_at → comma_at ≡ 44 ∷ comma → IsSpaced comma next → ReadSoFar brace next (put key (value_of first inside) ms) most
   comma_next comma_at comma next at_comma is_comma at_next =
       record {
-        done = (so.done ++ k ∷ []) ++ token_of s ∷ [];
-        before = skipped true true brace comma next ((so.done ++ k ∷ []) ++ token_of s ∷ []) 0 at_next
-            (next_value true false brace value comma_at comma (so.done ++ k ∷ []) (token_of s) [] 0 refl due (value_before value rest comma_at (token_of s) [] 0 spelled at_comma) is_comma);
-        are = one_more so.done ms k s key named so.are;
+        done = (so.done ++ k ∷ []) ++ (first ∷ inside);
+        before = skipped true true brace comma next ((so.done ++ k ∷ []) ++ (first ∷ inside)) most at_next
+            (next_value true false brace value comma_at comma (so.done ++ k ∷ []) first inside most refl due (value_before value rest comma_at first inside most spelled at_comma) is_comma);
+        are = are_more;
       }
 
   -- or the end of the object
-  pub object_ends : (close end : List ℕ) → IsSpaced rest close → close ≡ 125 ∷ end
-      → (all : List Token) × Spells (123 ∷ brace) end (token.Object (length all)) all 127 × (members_of all no_members ≡ put key (scalar_data s) ms)
-  object_ends close end at_close closes =
-      let all = (so.done ++ k ∷ []) ++ token_of s ∷ [] in (
+  pub object_ends : (close end : List ℕ) (deep : ℕ) → IsSpaced rest close → close ≡ 125 ∷ end → most < deep
+      → (all : List Token) × Spells (123 ∷ brace) end (token.Object (length all)) all deep × (members_of all no_members ≡ put key (value_of first inside) ms)
+  object_ends close end deep at_close closes room =
+      let all = (so.done ++ k ∷ []) ++ (first ∷ inside) in (
         all,
-        ends true false brace value close end (so.done ++ k ∷ []) (token_of s) [] 0 127 refl due (value_before value rest close (token_of s) [] 0 spelled at_close) closes (omega arith),
-        ap (λ ts. members_of ts no_members) (sym (append-nil all)) ∙ one_more so.done ms k s key named so.are [] ∙ members_end (put key (scalar_data s) ms),
+        ends true false brace value close end (so.done ++ k ∷ []) first inside most deep refl due (value_before value rest close first inside most spelled at_close) closes room,
+        ap (λ ts. members_of ts no_members) (sym (append-nil all)) ∙ are_more [] ∙ members_end (put key (value_of first inside) ms),
       )
 
 -- a line that is such an object
@@ -73,5 +74,5 @@ object_line line text inside rest all same utf8 opens none whole =
     parsed line text rest (token.Object (length all) ∷ all) (token.Object (length all)) all same utf8 none refl opened ∙ ap Some (value_object (length all) all)
 
 -- nothing was read yet
-pub begun : (brace left : List ℕ) → IsSpaced brace left → ReadSoFar brace left no_members
-begun brace left space = record { done = []; before = skipped true true brace brace left [] 0 space (begins true brace 0); are = λ ts. refl }
+pub begun : (brace left : List ℕ) (most : ℕ) → IsSpaced brace left → ReadSoFar brace left no_members most
+begun brace left most space = record { done = []; before = skipped true true brace brace left [] most space (begins true brace most); are = λ ts. refl }

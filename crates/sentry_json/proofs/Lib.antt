@@ -22,6 +22,7 @@ pub mod Escapes
 pub mod SoFar
 pub mod Lists
 pub mod Flat
+pub mod AtKeys
 pub mod RunLengths
 pub mod StopMasks
 pub mod Spaces

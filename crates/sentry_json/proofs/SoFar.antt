@@ -1,5 +1,6 @@
 -- The items of an array and the members of an object, one after the other: whatever the rest has, the whole has those so far and then these.
-use Rattle.std.proofs.Common.{◌≡◌, ◌≤◌, ◌<◌, ◌-◌, ℕ, List, [], ◌∷◌, ◌++◌, length, slice_set, if◌then◌else◌, true, false, true≢false, Bool, subst, Some, option_map, option_and_then, refl, sym, ap, ap₂, ◌∙◌, arith, append_assoc, append-nil, length-append, drop, take_at}
+use Rattle.std.proofs.Common.{◌≡◌, ◌≤◌, ◌<◌, ◌-◌, ℕ, List, [], ◌∷◌, ◌++◌, length, slice_set, if◌then◌else◌, true, false, true≢false, Bool, subst, Some, option_map, option_and_then, refl, sym, ap, ap₂, ◌∙◌, arith, append_assoc, append-nil, length-append, drop, take_at, not, ◌==◌}
+use Rattle.std.proofs.lemmas.Bool.{eqb-true}
 use Rattle.std.proofs.lemmas.List.{drop_at}
 use Rattle.json.specs.Token as json_token
 use Rattle.json.specs.Json.{Json, array, object, Items, no_items, item, Members, no_members, member}
@@ -9,7 +10,7 @@ use Rattle.json.specs.Word.{ends_word}
 use Rattle.serde_json.specs.Data as serde
 use Rattle.serde_json.specs.Read.{of_json, of_items, of_members}
 use Rattle.sentry_json.specs.Spelled.{lexemes, items_lexemes, members_lexemes, IsSpaced, Spells, SpellsString}
-use Rattle.sentry_json.specs.Tokens.{width, text_of, value_of, items_by, items_of, members_by, members_of}
+use Rattle.sentry_json.specs.Tokens.{kept, width, text_of, value_of, items_by, items_of, members_by, members_of}
 use Rattle.sentry_json.specs.declared.tape.token.Token.{Token}
 use Rattle.sentry_json.specs.declared.tape.token.Token.TheVariants as value
 use Rattle.sentry_json.proofs.TokenLists.{items_next, members_next, value_array, value_object}
@@ -172,6 +173,19 @@ empty true text after deep is room =
     record { json = object no_members; lexed = λ ended. ap (λ t. token json_token.begin_object ∷ lex between t) is; meant = ap Some (sym (value_object 0 [])); closed = refl; shallow = omega (arith, room) }
 
 -- ---- the tokens
+
+-- they are kept, where the constant that says so isn't 0
+pub are_kept : (n : ℕ) → ¬ (n ≡ 0) → (ts : List Token) → kept (not (n == 0)) ts ≡ ts
+are_kept n isnt ts = at (n == 0) refl
+  where
+    at : (b : Bool) → (n == 0) ≡ b → kept (not b) ts ≡ ts
+    at true is = absurd (isnt (eqb-true n 0 is))
+    at false is = refl
+
+-- kept tokens, one behind the other
+pub kept_more : (keeps : Bool) (old done more : List Token) (t : Token) → (old ++ kept keeps (t ∷ done)) ++ kept keeps more ≡ old ++ kept keeps (t ∷ (done ++ more))
+kept_more true old done more t = append_assoc old (t ∷ done) more
+kept_more false old done more t = append-nil (old ++ [])
 
 set_at : (old done : List Token) (t u : Token) → slice_set (old ++ t ∷ done) (length old) u ≡ old ++ u ∷ done
 set_at [] done t u = refl

@@ -1,5 +1,5 @@
 -- What a list of tokens means: each token is a value, and what is inside an array or an object comes behind it.
-use Rattle.std.specs.Prelude.{ℕ, zero, suc, ℤ, pos, negsuc, List, [], ◌∷◌, length, take, drop, Option, Some, None}
+use Rattle.std.specs.Prelude.{ℕ, zero, suc, ℤ, pos, negsuc, List, [], ◌∷◌, length, take, drop, Option, Some, None, Bool, if◌then◌else◌}
 use Rattle.serde_json.specs.Data.{Num, unsigned, negative, Data, null, boolean, number, string, array, object, Items, no_items, item, Members, no_members, put}
 use Rattle.sentry_json.specs.declared.tape.token.Token.{Token}
 use Rattle.sentry_json.specs.declared.tape.token.Token.TheVariants as token
@@ -23,6 +23,10 @@ text_of (token.Negative z) = None
 text_of (token.Text s) = Some s.now
 text_of (token.Array n) = None
 text_of (token.Object n) = None
+
+-- these tokens, if they are kept
+abbrev pub kept : Bool → List Token → List Token
+kept keeps ts = if keeps then ts else []
 
 -- the number that an integer is
 abbrev pub integer : ℤ → Num

@@ -3,6 +3,7 @@
 mod escape;
 mod flat;
 mod list;
+mod members;
 mod node;
 mod number;
 mod rest;
@@ -10,10 +11,10 @@ mod run;
 mod scalar;
 mod token;
 
-ghost use Rattle.std.specs.Prelude.{◌≡◌, ◌++◌, ◌∷◌, ◌<◌, [], ℕ, IfSome, List, Some, if◌then◌else◌, length, true};
+ghost use Rattle.std.specs.Prelude.{◌≡◌, ◌++◌, ◌∷◌, ◌<◌, [], ℕ, IfSome, IsUtf8, List, Some, if◌then◌else◌, length, true};
 ghost use Rattle.sentry_json.specs.Line.{tree_of};
 ghost use Rattle.sentry_json.specs.Spelled.{IsBehind, IsQuoted, Spells, SpellsString};
-ghost use Rattle.sentry_json.specs.Tokens.{text_of};
+ghost use Rattle.sentry_json.specs.Tokens.{kept, text_of};
 ghost use Rattle.sentry_json.specs.TapeView.{node_data};
 ghost use Rattle.sentry_json.specs.declared.tape.token.Token.{Token};
 ghost use Rattle.sentry_json.specs.declared.tape.token.Token.TheVariants as token;
@@ -60,6 +61,19 @@ impl<'a> Tape<'a> {
         }
     }
 
+    // Clears the tape, makes room for the tokens of a line, and returns the line as a text.
+    #[inline(always)]
+    fn start(&mut self, line: &'a [u8]) -> Option<Rest<'a>>
+        ensures text { IfSome result (λ rest. rest.text.now ≡ line.now) }
+        ensures utf8 { IfSome result (λ rest. IsUtf8 line.now) }
+        ensures empty { IfSome result (λ rest. self.new.tokens.items ≡ []) }
+    {
+        self.tokens.clear();
+        let text = Rest::new(line)?;
+        self.tokens.reserve((line.len() / BYTES).max(LEAST)).ok()?;
+        Some(text)
+    }
+
     /// Reads a line, in place of the one before, and returns its root node.
     ///
     /// The line is JSON by RFC 8259, nested at most 127 deep. Its numbers are integers of 64 bits, in
@@ -68,11 +82,9 @@ impl<'a> Tape<'a> {
     pub fn parse(&mut self, line: &'a [u8]) -> Option<TapeNode<'_, 'a>>
         ensures { IfSome result (λ root. tree_of line.now ≡ Some (node_data root)) }
     {
-        self.tokens.clear();
-        let text = Rest::new(line)?;
-        self.tokens.reserve((line.len() / BYTES).max(LEAST)).ok()?;
+        let text = self.start(line)?;
         let front = text.skip_space();
-        let rest = take_value(
+        let rest = take_value::<true>(
             self.alloc,
             self.texts,
             front,
@@ -88,42 +100,59 @@ impl<'a> Tape<'a> {
     }
 }
 
+// Appends a token, if the tokens of a value are kept.
+#[inline(always)]
+fn keep<'a, const KEPT: bool>(tokens: &mut Vec<Token<'a>>, token: Token<'a>) -> Option<()>
+    ensures { IfSome result (λ _. tokens.new.items ≡ tokens.old.items ++ kept KEPT (token.entry ∷ [])) }
+{
+    if KEPT {
+        tokens.push(token).ok()?;
+    }
+    Some(())
+}
+
 // Appends the token of a string with escapes, behind its opening quote, and returns what follows it.
 #[inline(always)]
-fn take_escaped<'a>(
+fn take_escaped<'a, const KEPT: bool>(
     alloc: Global,
     texts: &'a Bump,
     inside: Rest<'a>,
     tokens: &mut Vec<Token<'a>>,
 ) -> Option<Rest<'a>>
     ensures spelled { IfSome result (λ rest. (token : Token) × (s : List ℕ)
-        × (text_of token ≡ Some s) × (tokens.new.items ≡ tokens.old.items ++ token ∷ [])
+        × (text_of token ≡ Some s) × (tokens.new.items ≡ tokens.old.items ++ kept KEPT (token ∷ []))
         × IsQuoted inside.entry.text.now s rest.text.now) }
     ensures shorter { IfSome result (λ rest. length rest.text.now < length inside.entry.text.now) }
 {
     let (text, rest) = split_escaped(alloc, inside)?;
+    if !KEPT {
+        return Some(rest);
+    }
     let kept = texts.try_alloc_str(&text).ok()?;
-    tokens.push(Token::Text(kept)).ok()?;
+    keep::<KEPT>(tokens, Token::Text(kept))?;
     Some(rest)
 }
 
 // The same of a word, an integer with a minus or one of many digits.
 #[inline(always)]
-fn take_scalar<'a>(text: Rest<'a>, tokens: &mut Vec<Token<'a>>) -> Option<Rest<'a>>
+fn take_scalar<'a, const KEPT: bool>(
+    text: Rest<'a>,
+    tokens: &mut Vec<Token<'a>>,
+) -> Option<Rest<'a>>
     ensures spelled { IfSome result (λ rest. (token : Token)
-        × (tokens.new.items ≡ tokens.old.items ++ token ∷ [])
+        × (tokens.new.items ≡ tokens.old.items ++ kept KEPT (token ∷ []))
         × Spells text.entry.text.now rest.text.now token [] 0) }
     ensures shorter { IfSome result (λ rest. length rest.text.now < length text.entry.text.now) }
 {
     let (token, rest) = split_scalar(text)?;
-    tokens.push(token).ok()?;
+    keep::<KEPT>(tokens, token)?;
     Some(rest)
 }
 
 // Appends the token of a string, a word or a number at the front, and returns what follows it; a
 // key is a string. Not inlined: most are strings without escapes, which `take_value` takes itself.
 #[inline(never)]
-fn take_leaf<'a>(
+fn take_leaf<'a, const KEPT: bool>(
     alloc: Global,
     texts: &'a Bump,
     text: Rest<'a>,
@@ -131,30 +160,30 @@ fn take_leaf<'a>(
     tokens: &mut Vec<Token<'a>>,
 ) -> Option<Rest<'a>>
     ensures spelled { IfSome result (λ rest. (token : Token)
-        × (tokens.new.items ≡ tokens.old.items ++ token ∷ [])
+        × (tokens.new.items ≡ tokens.old.items ++ kept KEPT (token ∷ []))
         × Spells text.entry.text.now rest.text.now token [] 0) }
     ensures string { IfSome result (λ rest. key ≡ true → (name : Token)
-        × (tokens.new.items ≡ tokens.old.items ++ name ∷ [])
+        × (tokens.new.items ≡ tokens.old.items ++ kept KEPT (name ∷ []))
         × SpellsString text.entry.text.now rest.text.now name) }
     ensures shorter { IfSome result (λ rest. length rest.text.now < length text.entry.text.now) }
 {
     if let Some(inside) = text.after(b'"') {
-        return take_escaped(alloc, texts, inside, tokens);
+        return take_escaped::<KEPT>(alloc, texts, inside, tokens);
     }
     if key {
         return None;
     }
     if let Some((number, rest)) = split_whole(text) {
-        tokens.push(number).ok()?;
+        keep::<KEPT>(tokens, number)?;
         return Some(rest);
     }
-    take_scalar(text, tokens)
+    take_scalar::<KEPT>(text, tokens)
 }
 
 // The same, inlined, so that the call's answer is cleared on this way alone: a place is cleared
 // where the function begins that has it.
 #[inline(always)]
-fn take_rare<'a>(
+fn take_rare<'a, const KEPT: bool>(
     alloc: Global,
     texts: &'a Bump,
     text: Rest<'a>,
@@ -162,21 +191,21 @@ fn take_rare<'a>(
     tokens: &mut Vec<Token<'a>>,
 ) -> Option<Rest<'a>>
     ensures spelled { IfSome result (λ rest. (token : Token)
-        × (tokens.new.items ≡ tokens.old.items ++ token ∷ [])
+        × (tokens.new.items ≡ tokens.old.items ++ kept KEPT (token ∷ []))
         × Spells text.entry.text.now rest.text.now token [] 0) }
     ensures string { IfSome result (λ rest. key ≡ true → (name : Token)
-        × (tokens.new.items ≡ tokens.old.items ++ name ∷ [])
+        × (tokens.new.items ≡ tokens.old.items ++ kept KEPT (name ∷ []))
         × SpellsString text.entry.text.now rest.text.now name) }
     ensures shorter { IfSome result (λ rest. length rest.text.now < length text.entry.text.now) }
 {
-    let rest = take_leaf(alloc, texts, text, key, tokens)?;
+    let rest = take_leaf::<KEPT>(alloc, texts, text, key, tokens)?;
     Some(rest)
 }
 
 // Appends the tokens of the value at the front, and returns what follows it; a key is a string.
 #[cycle(take)]
 #[inline(always)]
-fn take_value<'a>(
+fn take_value<'a, const KEPT: bool>(
     alloc: Global,
     texts: &'a Bump,
     text: Rest<'a>,
@@ -185,30 +214,30 @@ fn take_value<'a>(
     tokens: &mut Vec<Token<'a>>,
 ) -> Option<Rest<'a>>
     ensures spelled { IfSome result (λ rest. (first : Token) × (inside : List Token)
-        × (tokens.new.items ≡ tokens.old.items ++ first ∷ inside)
+        × (tokens.new.items ≡ tokens.old.items ++ kept KEPT (first ∷ inside))
         × Spells text.entry.text.now rest.text.now first inside depth) }
     ensures string { IfSome result (λ rest. key ≡ true → (name : Token)
-        × (tokens.new.items ≡ tokens.old.items ++ name ∷ [])
+        × (tokens.new.items ≡ tokens.old.items ++ kept KEPT (name ∷ []))
         × SpellsString text.entry.text.now rest.text.now name) }
     ensures shorter { IfSome result (λ rest. length rest.text.now < length text.entry.text.now) }
 {
     // Each call's answer is taken apart before the ways join, so that the place in the line stays in
     // registers.
     if let Some((string, rest)) = text.split_plain() {
-        tokens.push(Token::Text(string)).ok()?;
+        keep::<KEPT>(tokens, Token::Text(string))?;
         return Some(rest);
     }
     let byte = *text.bytes().first()?;
     if !key && (byte == b'{' || byte == b'[') {
-        return take_nested(alloc, texts, text.after(byte)?, byte == b'{', depth, tokens);
+        return take_nested::<KEPT>(alloc, texts, text.after(byte)?, byte == b'{', depth, tokens);
     }
-    take_rare(alloc, texts, text, key, tokens)
+    take_rare::<KEPT>(alloc, texts, text, key, tokens)
 }
 
 // The same of an object or an array, behind its opening bracket; inlined as `take_rare` is.
 #[cycle(take)]
 #[inline(always)]
-fn take_nested<'a>(
+fn take_nested<'a, const KEPT: bool>(
     alloc: Global,
     texts: &'a Bump,
     text: Rest<'a>,
@@ -217,12 +246,12 @@ fn take_nested<'a>(
     tokens: &mut Vec<Token<'a>>,
 ) -> Option<Rest<'a>>
     ensures spelled { IfSome result (λ rest. (first : Token) × (inside : List Token)
-        × (tokens.new.items ≡ tokens.old.items ++ first ∷ inside)
+        × (tokens.new.items ≡ tokens.old.items ++ kept KEPT (first ∷ inside))
         × Spells ((if object then 123 else 91) ∷ text.entry.text.now)
         rest.text.now first inside depth) }
     ensures shorter { IfSome result (λ rest. length rest.text.now < length text.entry.text.now) }
 {
-    let rest = take_inside(alloc, texts, text, object, depth, tokens)?;
+    let rest = take_inside::<KEPT>(alloc, texts, text, object, depth, tokens)?;
     Some(rest)
 }
 
@@ -230,7 +259,7 @@ fn take_nested<'a>(
 // string stands in it once.
 #[cycle(take)]
 #[inline(never)]
-fn take_inside<'a>(
+fn take_inside<'a, const KEPT: bool>(
     alloc: Global,
     texts: &'a Bump,
     text: Rest<'a>,
@@ -239,14 +268,14 @@ fn take_inside<'a>(
     tokens: &mut Vec<Token<'a>>,
 ) -> Option<Rest<'a>>
     ensures spelled { IfSome result (λ rest. (first : Token) × (inside : List Token)
-        × (tokens.new.items ≡ tokens.old.items ++ first ∷ inside)
+        × (tokens.new.items ≡ tokens.old.items ++ kept KEPT (first ∷ inside))
         × Spells ((if object then 123 else 91) ∷ text.entry.text.now)
         rest.text.now first inside depth) }
     ensures shorter { IfSome result (λ rest. length rest.text.now < length text.entry.text.now) }
 {
     let depth = depth.checked_sub(1)?;
     let place = tokens.len();
-    tokens.push(bracket(object, 0)).ok()?;
+    keep::<KEPT>(tokens, bracket(object, 0))?;
     let close = closing(object);
     if let Some(rest) = text.after(close) {
         return Some(rest);
@@ -258,7 +287,7 @@ fn take_inside<'a>(
             left = next.skip_space();
             continue;
         }
-        let rest = take_value(alloc, texts, left, key, depth, tokens)?;
+        let rest = take_value::<KEPT>(alloc, texts, left, key, depth, tokens)?;
         if key {
             left = rest.after_spaced(b':')?;
             key = false;
@@ -270,8 +299,21 @@ fn take_inside<'a>(
             key = object;
             continue;
         }
-        tokens[place] = bracket(object, tokens.len() - place - 1);
+        tell_width::<KEPT>(tokens, place, object);
         return Some(next);
+    }
+}
+
+// Tells the bracket at `place` how many tokens stand behind it, if they are kept.
+#[inline(always)]
+fn tell_width<'a, const KEPT: bool>(tokens: &mut Vec<Token<'a>>, place: usize, object: bool)
+    requires { KEPT ≡ true → place < length tokens.old.items }
+    ensures { (old done : List Token) (first : Token) → place ≡ length old
+        → tokens.old.items ≡ old ++ kept KEPT (first ∷ done) → tokens.new.items ≡ old ++ kept KEPT
+        ((if object then token.Object (length done) else token.Array (length done)) ∷ done) }
+{
+    if KEPT {
+        tokens[place] = bracket(object, tokens.len() - place - 1);
     }
 }
 

@@ -82,7 +82,7 @@ fn visit_items<'a, T: Visitor>(
     let mut left = inside.skip_space();
     loop {
         tokens.clear();
-        let rest = take_value(alloc, texts, left, false, ITEM_DEEPEST, tokens)?;
+        let rest = take_value::<true>(alloc, texts, left, false, ITEM_DEEPEST, tokens)?;
         if !visitor.visit(&TapeNode::new(tokens)) {
             return None;
         }

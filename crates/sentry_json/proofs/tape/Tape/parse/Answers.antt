@@ -11,6 +11,5 @@ returns c =
     let front = c.skip_space-front in
     let end = c.skip_space-end.result.text.now in
     let none : end ≡ [] = no_bytes end (c.if-not-is_empty.ensures) in
-    let start : c.reserve.new.self.items ≡ [] = search rules in
-    let held : c.new-2.result.tokens.now ≡ c.take_value.new.tokens.items = search rules in
-    parsed line text end c.new-2.result.tokens.now v.0 v.1 c.in_ok-text.ensures.text c.in_ok-text.ensures.utf8 none (held ∙ v.2 ∙ ap (λ ts. ts ++ (v.0 ∷ v.1)) start) (value_behind text front.result.text.now end v.0 v.1 127 front.ensures.spaced (value_before front.result.text.now c.in_ok-rest.rest.text.now end v.0 v.1 127 v.3 c.skip_space-end.ensures.spaced))
+    let held : c.new.result.tokens.now ≡ c.take_value.new.tokens.items = search rules in
+    parsed line text end c.new.result.tokens.now v.0 v.1 c.in_ok-text.ensures.text c.in_ok-text.ensures.utf8 none (held ∙ v.2 ∙ ap (λ ts. ts ++ (v.0 ∷ v.1)) c.in_ok-text.ensures.empty) (value_behind text front.result.text.now end v.0 v.1 127 front.ensures.spaced (value_before front.result.text.now c.in_ok-rest.rest.text.now end v.0 v.1 127 v.3 c.skip_space-end.ensures.spaced))

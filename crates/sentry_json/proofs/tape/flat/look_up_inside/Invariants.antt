@@ -7,7 +7,7 @@ use Rattle.sentry_json.proofs.tape.flat.look_up_inside.Given as goal
 
 -- `ms` are the members so far
 abbrev pub invariant-loop-key : goal.invariant-loop-key
-invariant-loop-key l = (ms : Members) × ReadSoFar l.fn.inside.text.now l.left.text.now ms × (map (option_map scalar_data) l.places ≡ values_at l.keys ms)
+invariant-loop-key l = (ms : Members) × ReadSoFar l.fn.inside.text.now l.left.text.now ms 0 × (map (option_map scalar_data) l.places ≡ values_at l.keys ms)
 
 abbrev pub decreases-loop-key : goal.decreases-loop-key
 decreases-loop-key l = length l.left.text.now

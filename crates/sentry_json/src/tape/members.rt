@@ -1,0 +1,115 @@
+//! Lines that are an object of which the members of some keys alone are wanted.
+
+ghost use Rattle.std.specs.Prelude.{◌≡◌, ◌<◌, ◌++◌, ◌∷◌, [], IfSome, List, Some, length, map};
+ghost use Rattle.serde_json.specs.Data.{Data, no_members};
+ghost use Rattle.sentry_json.specs.Keys.{among, at_keys, is_among as is_one};
+ghost use Rattle.sentry_json.specs.Line.{tree_of};
+ghost use Rattle.sentry_json.specs.Spelled.{Spells, SpellsString};
+ghost use Rattle.sentry_json.specs.TapeView.{node_data};
+ghost use Rattle.sentry_json.specs.Tokens.{kept, members_of};
+ghost use Rattle.sentry_json.specs.declared.tape.token.Token.{Token};
+ghost use Rattle.sentry_json.specs.declared.tape.token.Token.TheVariants as token;
+
+use crate::keys::is_among;
+use crate::tape::escape::split_escaped;
+use crate::tape::rest::Rest;
+use crate::tape::token::Token;
+use crate::tape::{DEEPEST, Tape, TapeNode, after_value, take_value, tell_width};
+use bumpalo::Bump;
+use std::alloc::Global;
+
+impl<'a> Tape<'a> {
+    /// Reads a line that is an object, in place of the one before, and returns the root node of what
+    /// the members of `keys` leave of it. Those of other keys take no memory.
+    ///
+    /// `None` if it isn't such a line, or none that [`Tape::parse`] takes, or if an allocation fails.
+    pub fn parse_at(&mut self, line: &'a [u8], keys: &[&str]) -> Option<TapeNode<'_, 'a>>
+        ensures { IfSome result (λ root. (d : Data) × (tree_of line.now ≡ Some d)
+            × (node_data root ≡ at_keys (map (λ key. key.now) keys.now) d)) }
+    {
+        let text = self.start(line)?;
+        let inside = text.skip_space().after(b'{')?;
+        let rest = take_members(self.alloc, self.texts, inside, keys, &mut self.tokens)?;
+        let end = rest.skip_space();
+        if !end.text.is_empty() {
+            return None;
+        }
+        Some(TapeNode::new(&self.tokens))
+    }
+}
+
+// As deep as the value of a member may nest, which stands in an object.
+const MEMBER_DEEPEST: u8 = DEEPEST - 1;
+
+// Splits off a string.
+#[inline(always)]
+fn split_string<'a>(alloc: Global, texts: &'a Bump, text: Rest<'a>) -> Option<(&'a str, Rest<'a>)>
+    ensures spelled { IfSome result (λ x.
+        SpellsString text.entry.text.now x.1.text.now (token.Text x.0)) }
+    ensures shorter { IfSome result (λ x. length x.1.text.now < length text.entry.text.now) }
+{
+    if let Some((string, rest)) = text.split_plain() {
+        return Some((string, rest));
+    }
+    let (string, rest) = split_escaped(alloc, text.after(b'"')?)?;
+    Some((texts.try_alloc_str(&string).ok()?, rest))
+}
+
+// Appends the tokens of a member whose value stands at the front, if its key is one of `keys`, and
+// returns what follows it.
+#[inline(never)]
+fn take_member<'a>(
+    alloc: Global,
+    texts: &'a Bump,
+    key: &'a str,
+    value: Rest<'a>,
+    keys: &[&str],
+    tokens: &mut Vec<Token<'a>>,
+) -> Option<Rest<'a>>
+    ensures spelled { IfSome result (λ rest. (first : Token) × (inside : List Token)
+        × (tokens.new.items ≡ tokens.old.items
+        ++ kept (is_one key.entry.now (map (λ k. k.now) keys.now)) (token.Text key.entry ∷ first ∷ inside))
+        × Spells value.entry.text.now rest.text.now first inside 126) }
+    ensures shorter { IfSome result (λ rest. length rest.text.now < length value.entry.text.now) }
+{
+    if !is_among(keys, key) {
+        return take_value::<false>(alloc, texts, value, false, MEMBER_DEEPEST, tokens);
+    }
+    tokens.push(Token::Text(key)).ok()?;
+    take_value::<true>(alloc, texts, value, false, MEMBER_DEEPEST, tokens)
+}
+
+// Appends the tokens of an object of the members of `keys`, behind its brace, and returns what
+// follows it.
+#[inline(never)]
+fn take_members<'a>(
+    alloc: Global,
+    texts: &'a Bump,
+    inside: Rest<'a>,
+    keys: &[&str],
+    tokens: &mut Vec<Token<'a>>,
+) -> Option<Rest<'a>>
+    requires { tokens.old.items ≡ [] }
+    ensures { IfSome result (λ rest. (all : List Token) × (left : List Token)
+        × Spells (123 ∷ inside.entry.text.now) rest.text.now (token.Object (length all)) all 127
+        × (tokens.new.items ≡ token.Object (length left) ∷ left)
+        × (members_of left no_members
+        ≡ among (map (λ k. k.now) keys.now) (members_of all no_members))) }
+{
+    tokens.push(Token::Object(0)).ok()?;
+    if let Some(rest) = inside.after(b'}') {
+        return Some(rest);
+    }
+    let mut left = inside.skip_space();
+    loop {
+        let (key, behind) = split_string(alloc, texts, left)?;
+        let value = behind.after_spaced(b':')?.skip_space();
+        let rest = take_member(alloc, texts, key, value, keys, tokens)?;
+        let (comma, next) = after_value(rest, b'}')?;
+        if !comma {
+            tell_width::<true>(tokens, 0, true);
+            return Some(next);
+        }
+        left = next.skip_space();
+    }
+}
