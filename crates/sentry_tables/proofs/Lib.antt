@@ -17,6 +17,7 @@ pub mod Laws
 pub mod Given
 pub mod Sample
 pub mod DrawnSample
+pub mod AtKeys
 pub mod ByRows
 pub mod WrittenAs
 pub mod Collections

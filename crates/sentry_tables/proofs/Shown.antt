@@ -145,7 +145,7 @@ module _ (P : List ℕ → Data → Cell → Type 0) (Q : Cell → Type 0) (poin
   object_meets A keys None c s h = absurd h
   object_meets A keys (Some ms) c s h = mapping_meets A ms c (keys ms s.0 s.1) s.1 h
 
-fields_meet : (P Q : Cells → Members → Type 0) → ((cs : Cells) (other : Members) → P cs other → Q cs other) → (c : Cell) → AreFields P c → AreFields Q c
+pub fields_meet : (P Q : Cells → Members → Type 0) → ((cs : Cells) (other : Members) → P cs other → Q cs other) → (c : Cell) → AreFields P c → AreFields Q c
 fields_meet P Q f (fields cs other) h = f cs other h
 fields_meet P Q f _ h = absurd h
 

@@ -44,6 +44,13 @@ unfolding LineRefused
 line_refused P line d Misfit is h = λ x s. subst P (same_Some d x (sym is ∙ s)) h
 line_refused P line d Memory is h = tt
 
+-- where it is refused of what the line's tree is read as, it is refused of the line
+pub line_refused_as : {A : Type 0} (P : Data → Type 0) (line : List ℕ) (d e : Data) (r : Result A TreeError) → tree_of line ≡ Some d → (P e → P d) → IfErr r (λ error. Only error (P e)) → IfErr r (λ error. Only error (LineRefused P line))
+unfolding LineRefused
+line_refused_as P line d e (Ok v) is means h = tt
+line_refused_as P line d e (Err Misfit) is means h = λ x s. subst P (same_Some d x (sym is ∙ s)) (means h)
+line_refused_as P line d e (Err Memory) is means h = tt
+
 pub no_line : (P : Data → Type 0) (line : List ℕ) (e : TreeError) → Only e (tree_of line ≡ None) → Only e (LineRefused P line)
 unfolding LineRefused
 no_line P line Misfit none = λ d s. absurd (none-some d (sym none ∙ s))

@@ -1,7 +1,8 @@
 -- What a reader of a tree answers.
-use Rattle.std.specs.Prelude.{◌≡◌, ℕ, List, Some, Result, Ok, Err}
+use Rattle.std.specs.Prelude.{◌≡◌, ◌↔◌, ℕ, List, Some, Result, Ok, Err}
 use Rattle.serde_json.specs.Data.{Data}
 use Rattle.serde_json.specs.Find.{get}
+use Rattle.sentry_json.specs.Keys.{at_keys}
 use Rattle.sentry_json.specs.Line.{tree_of}
 use Rattle.sentry_tables.specs.Cell.{Cell}
 use Rattle.sentry_tables.specs.Kind.{Rule, Kind}
@@ -38,6 +39,10 @@ ReadsAt now K f d (Err e) = Only e (RefusedAt now K d)
 abbrev pub ReadsRowAt : {A : Type 0} → Cell → List ℕ → Rule → Kind → (A → Cell) → Data → Result A TreeError → Type 0
 ReadsRowAt now key r K f d (Ok v) = RowShownAt now key r K d (f v)
 ReadsRowAt now key r K f d (Err e) = Only e (RowRefusedAt now key r K d)
+
+-- only the members of these keys matter to what an object shows
+unfoldable pub IsReadAt : List (List ℕ) → Kind → Type 0
+IsReadAt ks K = (now : Cell) (d : Data) (c : Cell) → Shows K now (at_keys ks d) c ↔ Shows K now d c
 
 -- ---- at every moment
 

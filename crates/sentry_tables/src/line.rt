@@ -1,9 +1,10 @@
 //! Reading of values from lines of JSON.
 
-ghost use Rattle.std.specs.Prelude.{◌≡◌, ◌↔◌, ◌++◌, ◌∷◌, [], IsTrue, IfOk, IfErr, IfSome, Some, None, false};
+ghost use Rattle.std.specs.Prelude.{◌≡◌, ◌↔◌, ◌++◌, ◌∷◌, [], IsTrue, IfOk, IfErr, IfSome, Some, None, false, map};
 ghost use Rattle.serde_json.specs.Data.{Data, no_members};
 ghost use Rattle.serde_json.specs.View.{view};
 ghost use Rattle.serde_json.specs.Written.{has_float};
+ghost use Rattle.sentry_json.specs.Keys.{at_keys};
 ghost use Rattle.sentry_json.specs.Line.{tree_of};
 ghost use Rattle.sentry_json.specs.Sound.{IsSound};
 ghost use Rattle.sentry_json.specs.TapeView.{node_data};
@@ -68,6 +69,9 @@ pub trait ReadsNode<T>: Drop {
         ensures err { IfErr result (λ e. Only e (refused self (N.data_of node.now))) };
 }
 
+// A shorter line takes little memory, whatever its members are, and less time if none is left out.
+const LONG: usize = 16384;
+
 /// A reader of lines of JSON, which keeps its working memory from line to line.
 ///
 /// A line is read in one pass onto a tape ([`Tape::parse`]). One that the tape doesn't take, such as
@@ -113,6 +117,37 @@ impl<'a> LineReader<'a> {
         ensures err { IfErr result (λ e. Only e (LineRefused (λ d. R.refused reader d) line.now)) }
     {
         match self.tape.parse(line) {
+            Some(root) => reader.read(self.alloc, &root),
+            None => read_as_tree(self.alloc, line, reader),
+        }
+    }
+
+    /// Reads a value from a line with a `reader` that the members of `keys` alone matter to.
+    ///
+    /// Of a long line, members of other keys take no memory, at any size.
+    ///
+    /// # Errors
+    ///
+    /// As of [`LineReader::read_by`].
+    #[tactic(auto, using(crate::proofs::Texts::line_shows, crate::proofs::Texts::line_refused))]
+    pub fn read_by_keys<T, R: ReadsNode<T>>(
+        &mut self,
+        line: &'a [u8],
+        keys: &[&str],
+        reader: R,
+    ) -> Result<T, TreeError>
+        requires shown { (d : Data) (value : T) →
+            R.shown reader (at_keys (map (λ key. key.now) keys.now) d) value
+            → R.shown reader d value }
+        requires refused { (d : Data) →
+            R.refused reader (at_keys (map (λ key. key.now) keys.now) d) → R.refused reader d }
+        ensures ok { IfOk result (λ value. LineShows (λ d. R.shown reader d value) line.now) }
+        ensures err { IfErr result (λ e. Only e (LineRefused (λ d. R.refused reader d) line.now)) }
+    {
+        if line.len() < LONG {
+            return self.read_by(line, reader);
+        }
+        match self.tape.parse_at(line, keys) {
             Some(root) => reader.read(self.alloc, &root),
             None => read_as_tree(self.alloc, line, reader),
         }
