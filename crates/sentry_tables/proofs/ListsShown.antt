@@ -125,9 +125,13 @@ unfolding Refused
 list_fails w K d vs i v Misfit is lt same refused = λ now c h. sequence_refused _ c (λ cs. each_refuses w (Shows K now) vs i v cs lt (rw (← same) (refused now))) (rw is at h)
 list_fails w K d vs i v Memory is lt same refused = tt
 
-pub not_map : (K : Kind) (d : Data) → as_object d ≡ None → Refused (map K) d
+not_map : (K : Kind) (d : Data) → as_object d ≡ None → Refused (map K) d
 unfolding Refused
 not_map K d is = λ now c h. rw is at h
+
+pub no_map_fails : (K : Kind) (d : Data) (e : TreeError) → Only e (as_object d ≡ None) → Only e (Refused (map K) d)
+no_map_fails K d Misfit is = not_map K d is
+no_map_fails K d Memory is = tt
 
 pub map_shown : {A : Type 0} (K : Kind) (f : A → Cell) (d : Data) (ms : Members) (es : List (String Global × A)) → as_object d ≡ Some ms → ((now : Cell) → MembersShow (λ k. Shows K now) ms (entries f es)) → Shown (map K) d (map_cell f es)
 unfolding Shown

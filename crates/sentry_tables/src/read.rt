@@ -1,14 +1,15 @@
 //! Reading of values from JSON trees.
 
-ghost use Rattle.std.specs.Prelude.{◌≡◌, ◌^◌, option_map, option_and_then, IfOk};
-ghost use Rattle.serde_json.specs.Find.{as_number};
+ghost use Rattle.std.specs.Prelude.{◌≡◌, ◌^◌, None, Some, option_map, option_and_then, IfErr, IfOk};
+ghost use Rattle.serde_json.specs.Data.{Data};
+ghost use Rattle.serde_json.specs.Find.{as_number, as_object};
 ghost use Rattle.serde_json.specs.View.{view};
 ghost use Rattle.sentry_json.specs.Nodes.{items_by, named_by};
 ghost use Rattle.sentry_tables.specs.Basic.{signed_at, pair_of};
 ghost use Rattle.sentry_tables.specs.Cell.{Cell, whole};
-ghost use Rattle.sentry_tables.specs.Kind.{values as values_kind};
-ghost use Rattle.sentry_tables.specs.Cells.{pair_cell, list_cell, entries};
-ghost use Rattle.sentry_tables.specs.Reading.{Reads};
+ghost use Rattle.sentry_tables.specs.Kind.{map as map_kind, values as values_kind};
+ghost use Rattle.sentry_tables.specs.Cells.{pair_cell, list_cell, map_cell, entries};
+ghost use Rattle.sentry_tables.specs.Reading.{Only, Reads};
 ghost use Rattle.sentry_tables.specs.Shows.{Shows, MembersShow};
 
 use crate::codec::{Codec, Own};
@@ -224,7 +225,20 @@ impl<T: FromTree> FromTree for Vec<T> {
 // So many members make a map at once: fewer are inserted one by one, which costs less then.
 const MANY: usize = 16;
 
-// Reads the members of an object into a map at once: they are sorted, and the map is built of them.
+// Returns the members of an object.
+fn members_of<'n, N: Node>(alloc: Global, node: &'n N) -> Result<Vec<Named<'n, N>>, TreeError>
+    ensures ok { IfOk result (λ members.
+        as_object (N.data_of node.now) ≡ Some (named_by N.data_of members.items)) }
+    ensures err { IfErr result (λ e. Only e (as_object (N.data_of node.now) ≡ None)) }
+{
+    match node.members(alloc)? {
+        Some(members) => Ok(members),
+        None => Err(TreeError::Misfit),
+    }
+}
+
+// Reads the members of an object into a map at once: they are sorted, and the map is built of them,
+// when they themselves are given back.
 //
 // # Errors
 //
@@ -233,43 +247,54 @@ const MANY: usize = 16;
 #[inline(never)]
 fn read_many<T: FromTree, N: Node>(
     alloc: Global,
-    members: &[Named<'_, N>],
+    members: Vec<Named<'_, N>>,
 ) -> Result<Map<String, T>, TreeError>
     ensures { IfOk result (λ map. (now : Cell) → MembersShow (λ key. Shows T.kind now)
-        (named_by N.data_of members.now) (entries T.cell_of map.entries)) }
+        (named_by N.data_of members.entry.items) (entries T.cell_of map.entries)) }
 {
     let mut pairs = Vec::with_capacity(alloc, members.len())?;
-    for member in members {
+    for member in &members {
         let name = String::from_str(alloc, member.key)?;
         pairs.push((name, T::from_node(alloc, &member.node)?))?;
     }
+    drop(members);
     Ok(pairs.into_iter().collect(alloc)?)
 }
 
-// Of members with equal keys, the last counts: members are read from the last to the first.
+// Reads the members of an object into a map one by one. Of members with equal keys, the last counts:
+// they are read from the last to the first.
+fn read_each<T: FromTree, N: Node>(
+    alloc: Global,
+    members: &[Named<'_, N>],
+) -> Result<Map<String, T>, TreeError>
+    ensures { (d : Data) → as_object d ≡ Some (named_by N.data_of members.now)
+        → Reads (map_kind T.kind) (λ m. map_cell T.cell_of m.entries) d result }
+{
+    let mut map = Map::new(alloc);
+    let mut left = members.len();
+    while left > 0 {
+        left -= 1;
+        let member = &members[left];
+        let name = String::from_str(alloc, member.key)?;
+        // A member whose key comes again later isn't even read.
+        if let Entry::Vacant(place) = map.entry(name)? {
+            place.insert(T::from_node(alloc, &member.node)?);
+        }
+    }
+    Ok(map)
+}
+
 impl<T: FromTree> FromTree for Map<String, T> {
+    #[tactic(auto, using(crate::proofs::ListsShown::no_map_fails))]
     fn from_node<N: Node>(alloc: Global, node: &N) -> Result<Map<String, T>, TreeError> {
-        let members = match node.members(alloc)? {
-            Some(members) => members,
-            None => return Err(TreeError::Misfit),
-        };
-        if members.len() >= MANY {
-            if let Ok(map) = read_many(alloc, &members) {
-                return Ok(map);
-            }
+        let members = members_of(alloc, node)?;
+        if members.len() < MANY {
+            return read_each(alloc, &members);
         }
-        let mut map = Map::new(alloc);
-        let mut left = members.len();
-        while left > 0 {
-            left -= 1;
-            let member = &members[left];
-            let name = String::from_str(alloc, member.key)?;
-            // A member whose key comes again later isn't even read.
-            if let Entry::Vacant(place) = map.entry(name)? {
-                place.insert(T::from_node(alloc, &member.node)?);
-            }
+        match read_many(alloc, members) {
+            Ok(map) => Ok(map),
+            Err(_) => read_each(alloc, &members_of(alloc, node)?),
         }
-        Ok(map)
     }
 }
 

@@ -7,4 +7,4 @@ use Rattle.sentry_tables.proofs.read.read_many.Given as goal
 -- the pairs show the members that were read
 abbrev pub invariant-loop-member : goal.invariant-loop-member
 invariant-loop-member g l =
-    (now : Cell) → PairsShow (λ key. Shows g.T.Member.kind now) g.N.Node.data_of g.T.Member.cell_of (take l.member-index l.members) l.pairs.items
+    (now : Cell) → PairsShow (λ key. Shows g.T.Member.kind now) g.N.Node.data_of g.T.Member.cell_of (take l.member-index l.fn.members.items) l.pairs.items
