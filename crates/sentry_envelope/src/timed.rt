@@ -1,6 +1,7 @@
 //! Reading of JSON lines that fills absent timestamps and ids.
 
-ghost use Rattle.sentry_tables.specs.Reading.{ReadsTextAt, ShownAt, RefusedAt};
+ghost use Rattle.std.specs.Prelude.{IfSome, map};
+ghost use Rattle.sentry_tables.specs.Reading.{IsReadAt, ReadsTextAt, ShownAt, RefusedAt};
 ghost use Rattle.sentry_moments.specs.Moments.{moment_cell};
 
 use bumpalo::Bump;
@@ -29,7 +30,7 @@ impl<'r, T: FromTreeAt, R: Rng> ReadsNode<T> for AtMoment<'r, R> {
 }
 
 // Reads a value from a line with the caller's reader; `now` fills absent timestamps, `ids` absent
-// ids.
+// ids. Where `keys` are given, members of other keys don't matter to the type.
 //
 // # Errors
 //
@@ -39,12 +40,18 @@ impl<'r, T: FromTreeAt, R: Rng> ReadsNode<T> for AtMoment<'r, R> {
 pub(crate) fn read_at<'a, T: FromTreeAt, R: Rng>(
     lines: &mut LineReader<'a>,
     line: &'a [u8],
+    keys: Option<&[&str]>,
     now: Moment,
     ids: &mut R,
 ) -> Result<T, TreeError>
+    requires { IfSome keys (λ ks. IsReadAt (map (λ key. key.now) ks.now) T.kind) }
     ensures { ReadsTextAt (moment_cell now) T.kind T.cell_of line.now result }
 {
-    lines.read_by(line, AtMoment { now, ids })
+    let reader = AtMoment { now, ids };
+    match keys {
+        Some(keys) => lines.read_by_keys(line, keys, reader),
+        None => lines.read_by(line, reader),
+    }
 }
 
 /// Reads a value from a JSON line; `now` fills absent timestamps, `ids` absent ids.
@@ -63,5 +70,5 @@ pub fn read_line_at<T: FromTreeAt, R: Rng>(
     ensures { ReadsTextAt (moment_cell now) T.kind T.cell_of line.now result }
 {
     let texts = Bump::new(alloc);
-    read_at(&mut LineReader::new(alloc, &texts), line, now, ids)
+    read_at(&mut LineReader::new(alloc, &texts), line, None, now, ids)
 }

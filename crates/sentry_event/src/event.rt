@@ -1,6 +1,9 @@
 //! Events: errors and messages with their data.
 #![tactic(auto, unfolding(crate::specs::Events::event_fields))]
 
+ghost use Rattle.std.specs.Prelude.{◌≡◌, map};
+ghost use Rattle.sentry_tables.specs.Fields.{rows_of};
+ghost use Rattle.sentry_tables.specs.Kind.{keys};
 ghost use Rattle.sentry_event.specs.Events.{event_fields, event_in_order};
 
 use crate::fingerprint::{AsFingerprint, owned_texts};
@@ -342,4 +345,39 @@ impl<'a> CopyTable for Event<'a> {
             user: copies.optional(&self.user),
         })
     }
+}
+
+/// Returns the keys of an event's rows. Members of other keys are ignored on reading.
+pub fn event_keys() -> &'static [&'static str]
+    ensures { map (λ key. key.now) result.now ≡ keys (rows_of event_fields) }
+{
+    &[
+        "breadcrumbs",
+        "contexts",
+        "culprit",
+        "debug_meta",
+        "dist",
+        "environment",
+        "event_id",
+        "exception",
+        "extra",
+        "fingerprint",
+        "level",
+        "logentry",
+        "logger",
+        "message",
+        "modules",
+        "platform",
+        "release",
+        "request",
+        "sdk",
+        "server_name",
+        "stacktrace",
+        "tags",
+        "template",
+        "threads",
+        "timestamp",
+        "transaction",
+        "user",
+    ]
 }

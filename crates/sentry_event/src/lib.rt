@@ -8,11 +8,11 @@ mod owned;
 pub mod span;
 pub mod transaction;
 
-pub use event::Event;
+pub use event::{Event, event_keys};
 pub use fingerprint::AsFingerprint;
 pub use sentry_contexts::{
     AppContext, BrowserContext, Context, DeviceContext, GpuContext, OsContext, OtelContext,
     ResponseContext, RuntimeContext, TraceContext,
 };
 pub use span::Span;
-pub use transaction::Transaction;
+pub use transaction::{Transaction, transaction_keys};

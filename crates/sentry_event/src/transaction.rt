@@ -1,6 +1,9 @@
 //! Transactions: traced operations with their spans.
 #![tactic(auto, unfolding(crate::specs::Transactions::transaction_fields))]
 
+ghost use Rattle.std.specs.Prelude.{◌≡◌, map};
+ghost use Rattle.sentry_tables.specs.Fields.{rows_of};
+ghost use Rattle.sentry_tables.specs.Kind.{keys};
 ghost use Rattle.sentry_event.specs.Transactions.{transaction_fields, transaction_in_order};
 
 use crate::owned::{owned_option, owned_text};
@@ -247,4 +250,27 @@ impl<'a> CopyTable for Transaction<'a> {
             user: copies.optional(&self.user),
         })
     }
+}
+
+/// Returns the keys of a transaction's rows. Members of other keys are ignored on reading.
+pub fn transaction_keys() -> &'static [&'static str]
+    ensures { map (λ key. key.now) result.now ≡ keys (rows_of transaction_fields) }
+{
+    &[
+        "contexts",
+        "environment",
+        "event_id",
+        "extra",
+        "platform",
+        "release",
+        "request",
+        "sdk",
+        "server_name",
+        "spans",
+        "start_timestamp",
+        "tags",
+        "timestamp",
+        "transaction",
+        "user",
+    ]
 }

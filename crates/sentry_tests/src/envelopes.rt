@@ -2,6 +2,7 @@
 
 mod files;
 mod headers;
+mod long;
 pub(crate) mod memory;
 mod writing;
 

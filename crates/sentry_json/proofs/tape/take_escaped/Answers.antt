@@ -1,5 +1,4 @@
-use Rattle.std.proofs.Common.{rules, refl, ◌≡◌, ◌++◌, ◌∷◌, [], Some, string_bytes}
-use Rattle.sentry_json.specs.Tokens.{kept, text_of}
+use Rattle.std.proofs.Common.{rules, refl, string_bytes}
 use Rattle.sentry_json.specs.declared.tape.token.Token.TheVariants as token
 use Rattle.sentry_json.proofs.tape.take_escaped.Goals as goal
 

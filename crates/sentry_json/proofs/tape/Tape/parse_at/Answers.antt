@@ -1,4 +1,4 @@
-use Rattle.std.proofs.Common.{◌≡◌, ◌∷◌, [], Some, length, map, refl, rules, ap, sym, subst, ◌∙◌}
+use Rattle.std.proofs.Common.{◌≡◌, ◌∷◌, [], Some, length, refl, rules, ap, sym, subst, ◌∙◌}
 use Rattle.serde_json.specs.Data.{object, no_members}
 use Rattle.sentry_json.specs.Spelled.{Spells}
 use Rattle.sentry_json.specs.Tokens.{members_of, tokens_value}

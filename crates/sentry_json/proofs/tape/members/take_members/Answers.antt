@@ -1,4 +1,4 @@
-use Rattle.std.proofs.Common.{rules, refl, true, ◌≡◌, ◌∷◌, [], ◌++◌, arith, ap, sym, ◌∙◌, if◌then◌else◌, length, map}
+use Rattle.std.proofs.Common.{rules, refl, true, ◌≡◌, ◌∷◌, [], ◌++◌, arith, ap, sym, ◌∙◌, if◌then◌else◌, map}
 use Rattle.serde_json.specs.Data.{no_members, put}
 use Rattle.sentry_json.specs.Keys.{among, is_among}
 use Rattle.sentry_json.specs.Tokens.{kept, value_of}
