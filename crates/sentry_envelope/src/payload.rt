@@ -144,7 +144,7 @@ impl Payload for ReportRows {
 }
 
 // Appends the item of a frame whose payload is JSON.
-#[tactic(auto, using(crate::specs::ItemAdded::alone, crate::specs::ItemAdded::listed))]
+#[tactic(auto, using(crate::specs::ItemAdded::alone, crate::specs::ItemAdded::listed, sentry_tables::proofs::AtKeys::table_at))]
 #[inline(never)]
 pub(crate) fn add_json_item<'a, R: Rng>(
     lines: &mut LineReader<'a>,

@@ -36,7 +36,7 @@ impl<'r, T: FromTreeAt, R: Rng> ReadsNode<T> for AtMoment<'r, R> {
 //
 // - `Misfit` if the line isn't one JSON text without floats that reads as the type.
 // - `Memory` if an allocation fails.
-#[tactic(auto, using(sentry_tables::proofs::Texts::text_read_by_at))]
+#[tactic(auto, using(sentry_tables::proofs::Texts::text_read_by_at, sentry_tables::proofs::AtKeys::shown_at, sentry_tables::proofs::AtKeys::refused_at))]
 pub(crate) fn read_at<'a, T: FromTreeAt, R: Rng>(
     lines: &mut LineReader<'a>,
     line: &'a [u8],

@@ -17,9 +17,12 @@ fn envelope(alloc: Global, members: &str, bytes: usize) -> Result<String, AllocE
 
 /// The message of an envelope's event.
 fn message(envelope: &Envelope) -> &str {
-    match envelope.event() {
-        Some(event) => event.message.as_ref().map_or("", String::as_str),
-        None => REFUSED,
+    let Some(event) = envelope.event() else {
+        return REFUSED;
+    };
+    match &event.message {
+        Some(text) => text.as_str(),
+        None => "",
     }
 }
 
@@ -27,9 +30,9 @@ fn message(envelope: &Envelope) -> &str {
 fn is_said(alloc: Global, text: &str, said: &str) -> bool {
     match read(alloc, text.as_bytes()) {
         Ok(envelope) => {
-            let same = message(&envelope) == said;
+            let is_said = message(&envelope) == said;
             drop(envelope);
-            same
+            is_said
         }
         Err(_) => said == REFUSED,
     }
