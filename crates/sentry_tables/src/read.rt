@@ -226,6 +226,7 @@ impl<T: FromTree> FromTree for Vec<T> {
 const MANY: usize = 16;
 
 // Returns the members of an object.
+#[inline(always)]
 fn members_of<'n, N: Node>(alloc: Global, node: &'n N) -> Result<Vec<Named<'n, N>>, TreeError>
     ensures ok { IfOk result (λ members.
         as_object (N.data_of node.now) ≡ Some (named_by N.data_of members.items)) }
@@ -263,6 +264,7 @@ fn read_many<T: FromTree, N: Node>(
 
 // Reads the members of an object into a map one by one. Of members with equal keys, the last counts:
 // they are read from the last to the first.
+#[inline(always)]
 fn read_each<T: FromTree, N: Node>(
     alloc: Global,
     members: &[Named<'_, N>],
