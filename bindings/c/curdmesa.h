@@ -17,6 +17,9 @@
  *   structs, counts and buffers to zero before the first call. A bool is 0 or 1.
  * - Functions aren't called from a signal handler, nor in the forked child of a process with
  *   threads. Each calls malloc, realloc and free of the program, and keeps nothing allocated.
+ * - There are 128 KiB of stack: as measured, an envelope whose JSON nests as deep as it may takes
+ *   96. What memory a call takes grows with the input, and can be 150 times as much: limit the
+ *   length of what you hand in.
  *
  * Buffers: a function with `out`, `out_len` and `needed` writes a text of `*needed` bytes, without
  * a terminating zero byte, to the front of `out`, and leaves the rest of `out` as it was. If the
@@ -26,7 +29,8 @@
  *
  * Link libsentry_c.a, and liblibc_c.a of the Rattle kit. libsentry_c.a divides integers of 128 bits
  * by `__udivti3`, which `cc` takes from libgcc or compiler-rt by itself. With -nostdlib, or where
- * the linker is called directly, add -lgcc after the two archives.
+ * the linker is called directly, add -lgcc after the two archives; memcpy, memmove, memset, malloc,
+ * realloc and free are the program's then.
  */
 #ifndef CURDMESA_H
 #define CURDMESA_H
@@ -45,7 +49,7 @@ extern "C" {
 enum {
     /* Done; all results are set. */
     SENTRY_OK = 0,
-    /* The text is longer than `out`; only `*needed` is set. */
+    /* The text is longer than `out`, which is unchanged; `*needed` is set, and the filter's losses. */
     SENTRY_NO_ROOM = 1,
     /* No such moment: past the year 9999, or 10^9 nanoseconds or more. */
     SENTRY_NO_MOMENT = 2,
@@ -81,7 +85,8 @@ enum {
     /* An allocation failed, in any function; nothing is known of the input. */
     SENTRY_OUT_OF_MEMORY = 17,
 
-    /* The text is no DSN: the first check that fails. */
+    /* The text is no DSN: the first check that fails, in this order: no URL (20), the path (23),
+     * the project id (24), the user name (22), the scheme (21), no host (20). */
 
     /* No URL, or a URL without a host. */
     SENTRY_DSN_INVALID_URL = 20,
@@ -98,7 +103,7 @@ enum {
 
     /* The text doesn't begin with the word "sentry", in any ASCII case. */
     SENTRY_AUTH_NON_SENTRY = 30,
-    /* A sentry_version isn't a whole number of 16 bits. */
+    /* A sentry_version, up to its first '.', isn't a whole number of 16 bits. */
     SENTRY_AUTH_INVALID_VERSION = 31,
     /* The public key (sentry_key) is absent or empty. */
     SENTRY_AUTH_MISSING_PUBLIC_KEY = 32
@@ -241,10 +246,10 @@ typedef struct SentryAuth {
     SentryPlace secret_key;
     /* The client's name and version. Length 0 if there is none, or an empty one. */
     SentryPlace client;
-    /* The client's timestamp; 0 without `has_timestamp`. */
+    /* The client's timestamp; 0 without `has_timestamp`: it is absent, or can't be read. */
     uint64_t timestamp_secs;
     uint32_t timestamp_nanos;
-    /* The protocol version. */
+    /* The protocol version; 7 if it is absent. */
     uint32_t version;
     /* 1 or 0. */
     uint32_t has_secret_key;
@@ -254,7 +259,8 @@ typedef struct SentryAuth {
 
 /*
  * Parses the value of an X-Sentry-Auth header, writes its printed form to `out`, and sets `*auth`
- * to its parts. `*auth` is unchanged unless the status is SENTRY_OK.
+ * to its parts. `*auth` is unchanged unless the status is SENTRY_OK. A value may have any characters
+ * but commas, line ends too, and is printed as it is.
  *
  * SENTRY_OK, SENTRY_NO_ROOM, SENTRY_NOT_UTF8, SENTRY_OUT_OF_MEMORY, SENTRY_AUTH_NON_SENTRY to
  * SENTRY_AUTH_MISSING_PUBLIC_KEY.

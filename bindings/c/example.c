@@ -69,6 +69,18 @@ static int32_t print_normal_form(const uint8_t *bytes, size_t len, uint64_t now,
     return status;
 }
 
+/* A seed that no other call has: the system's random numbers, or `now` where it has none. */
+static uint64_t random_seed(uint64_t now) {
+    uint64_t seed = now;
+    FILE *random = fopen("/dev/urandom", "rb");
+    if (random != NULL) {
+        if (fread(&seed, sizeof seed, 1, random) != 1)
+            seed = now;
+        fclose(random);
+    }
+    return seed;
+}
+
 int main(int argc, char **argv) {
     if (argc != 2) {
         fprintf(stderr, "usage: example FILE\n");
@@ -83,7 +95,7 @@ int main(int argc, char **argv) {
     uint64_t now = (uint64_t)time(NULL);
     int32_t status = list_items(bytes, len);
     if (status == SENTRY_OK)
-        status = print_normal_form(bytes, len, now, now);
+        status = print_normal_form(bytes, len, now, random_seed(now));
     free(bytes);
     if (status != SENTRY_OK)
         fprintf(stderr, "example: status %d\n", (int)status);

@@ -13,12 +13,13 @@ from __future__ import annotations
 
 import ctypes
 import enum
+import operator
 import os
 import threading
 from dataclasses import dataclass
 from datetime import datetime, timedelta, timezone
 from pathlib import Path
-from typing import Callable, Iterable, Iterator, NamedTuple, Optional, Union
+from typing import Callable, Iterable, Iterator, List, NamedTuple, Optional, Tuple, Union
 
 # ---- statuses ------------------------------------------------------------------------------------
 
@@ -209,7 +210,7 @@ class AuthNonSentry(AuthError):
 
 
 class AuthInvalidVersion(AuthError):
-    """A sentry_version isn't a whole number of 16 bits."""
+    """A sentry_version, up to its first '.', isn't a whole number of 16 bits."""
 
     status = Status.AUTH_INVALID_VERSION
 
@@ -382,14 +383,17 @@ _FUNCTIONS = {
 
 
 def _load() -> ctypes.CDLL:
-    path = os.environ.get("CURDMESA_SO") or Path(__file__).with_name("libcurdmesa.so")
+    path = os.path.abspath(os.environ.get("CURDMESA_SO") or Path(__file__).with_name("libcurdmesa.so"))
     try:
         library = ctypes.CDLL(str(path))
     except OSError as error:
         raise ImportError(f"can't load {path} ({error}): `make` in bindings/python links it; "
                           "CURDMESA_SO may name another file") from error
     for name, arguments in _FUNCTIONS.items():
-        function = getattr(library, name)
+        try:
+            function = getattr(library, name)
+        except AttributeError as error:
+            raise ImportError(f"{path} isn't the library of this module: {error}") from error
         function.argtypes = arguments
         function.restype = ctypes.c_int32
     return library
@@ -404,12 +408,12 @@ def _text(room: int, call: Callable[..., int]) -> bytes:
     needed = _U64(0)
     out = ctypes.create_string_buffer(room)
     status = call(out, room, needed)
-    if status == Status.NO_ROOM:
+    while status == Status.NO_ROOM:
         room = needed.value
         out = ctypes.create_string_buffer(room)
         status = call(out, room, needed)
     _done(status)
-    return ctypes.string_at(out, needed.value)
+    return memoryview(out)[: needed.value].tobytes()
 
 
 Data = Union[bytes, bytearray, memoryview]
@@ -448,7 +452,7 @@ class Moment(NamedTuple):
             since = time - datetime(1970, 1, 1, tzinfo=timezone.utc)
             secs = since // timedelta(seconds=1)
             time = secs, (since - timedelta(seconds=secs)) // timedelta(microseconds=1) * 1000
-        moment = cls(*time)
+        moment = cls(*map(operator.index, time))
         if not (0 <= moment.secs < 2**64 and 0 <= moment.nanos < 2**32):
             raise NoMoment()
         return moment
@@ -459,11 +463,12 @@ class Moment(NamedTuple):
         return cls.of(datetime.now(timezone.utc))
 
 
-When = Union[Moment, "tuple[int, int]", datetime]
+When = Union[Moment, Tuple[int, int], datetime]
 
 
 def _whole(number: int) -> int:
     """Refuses what isn't a whole number of 64 bits, which C would cut."""
+    number = operator.index(number)
     if not 0 <= number < 2**64:
         raise ValueError(f"not a whole number of 64 bits: {number}")
     return number
@@ -507,9 +512,10 @@ def _room(data: bytes) -> int:
 def normalize(data: Data, now: When, seed: int) -> bytes:
     """Parses an envelope and returns its normal form.
 
-    `now` fills absent timestamps; absent ids are drawn from a generator seeded with `seed`. Raises
-    NoMoment, the EnvelopeError of the first check that fails, OutOfMemory, and ValueError for a
-    datetime without a time zone or a seed outside 0 to 2^64-1.
+    `now` fills absent timestamps; absent ids are drawn from a generator seeded with `seed` alone, so
+    hand in another random number with each envelope. Raises NoMoment, the EnvelopeError of the first
+    check that fails, OutOfMemory, ValueError for a datetime without a time zone or a seed outside 0
+    to 2^64-1, and TypeError for a number that isn't whole.
     """
     data, (secs, nanos), seed = _bytes(data), Moment.of(now), _whole(seed)
     return _text(
@@ -546,10 +552,10 @@ class Filtered:
     envelope: Optional[bytes]
     #: What is lost with the removed items, above 0: by category; in each the loss without a reason
     #: first, then by reason.
-    losses: list[Loss]
+    losses: List[Loss]
 
 
-def _losses(sums: ctypes.Array) -> list[Loss]:
+def _losses(sums: ctypes.Array) -> List[Loss]:
     places = [(category, reason) for category in Category for reason in (None, *Reason)]
     return [Loss(*place, quantity) for place, quantity in zip(places, sums) if quantity > 0]
 
@@ -605,7 +611,11 @@ def frames(data: Data) -> Iterator[Frame]:
     After the items before it the framing's first fault is raised: UnexpectedEof, MissingNewline,
     InvalidItemHeader or OutOfMemory.
     """
-    data, offset, frame = _bytes(data), _U64(0), _Frame()
+    return _frames(_bytes(data))
+
+
+def _frames(data: bytes) -> Iterator[Frame]:
+    offset, frame = _U64(0), _Frame()
     while True:
         status = _library.sentry_frames_next(data, len(data), offset, frame)
         if status == Status.NOTHING_LEFT:
@@ -712,11 +722,12 @@ class Auth:
 
 class Ledger:
     """The quantity of each category that was lost for each reason and isn't reported yet. Threads
-    may share a ledger: its calls wait for each other."""
+    may share a ledger: its calls wait for each other. A finalizer or a handler of signals that runs
+    during such a call may record a loss too."""
 
     def __init__(self) -> None:
         self._sums = (_U64 * _SUMS)()
-        self._lock = threading.Lock()
+        self._lock = threading.RLock()
 
     def record(self, category: Category, reason: Reason, quantity: int) -> None:
         """Adds a loss.

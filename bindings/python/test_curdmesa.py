@@ -1,8 +1,12 @@
 """Worked rows of the format: what is given, and what is due."""
 
 import ctypes
+import importlib.util
+import os
 import pickle
 import re
+import subprocess
+import sys
 import threading
 import unittest
 from datetime import datetime, timedelta, timezone
@@ -118,6 +122,9 @@ class Envelopes(unittest.TestCase):
             check(b"{}", before, 0)
         with self.assertRaises(ValueError):
             check(b"{}", datetime(2020, 1, 1), 0)
+        for time in (1.5, 0), (1, 0.0), ("1", 0):
+            with self.subTest(time), self.assertRaises(TypeError):
+                check(b"{}", time, 0)
 
     def test_seeds(self):
         given = b'{}\n{"type":"event"}\n{}'
@@ -126,6 +133,8 @@ class Envelopes(unittest.TestCase):
         for seed in -1, 2**64:
             with self.assertRaises(ValueError):
                 normalize(given, NOW, seed)
+        with self.assertRaises(TypeError):
+            normalize(given, NOW, 1.0)
 
     def test_other_bytes(self):
         for data in bytearray(ATTACHMENT), memoryview(ATTACHMENT):
@@ -243,6 +252,14 @@ class Frames(unittest.TestCase):
             next(items)
         self.assertIsNone(next(items, None))
 
+    def test_frames_are_those_of_the_bytes_that_were_given(self):
+        data = bytearray(ATTACHMENT)
+        items = frames(data)
+        data[:] = b"{}"
+        self.assertEqual([item.payload for item in items], [b"helloworld"])
+        with self.assertRaises(TypeError):
+            frames("{}")
+
 
 class SmallTexts(unittest.TestCase):
     def refuses(self, call, rows):
@@ -291,6 +308,8 @@ class SmallTexts(unittest.TestCase):
             ("https://username@domain//", curdmesa.DsnInvalidProjectId),
             (b"https://username@domain/\xff", curdmesa.NotUtf8),
             ("https://username@domain/\ud800", curdmesa.NotUtf8),
+            ("https://domain/", curdmesa.DsnNoProjectId),
+            ("ftp://domain/1", curdmesa.DsnNoUsername),
         ])
 
     def test_auth(self):
@@ -411,6 +430,8 @@ class Ledgers(unittest.TestCase):
         for arguments in (12, 0, 1), (0, 9, 1), (0, 0, -1), (0, 0, 2**64):
             with self.subTest(arguments), self.assertRaises(ValueError):
                 Ledger().record(*arguments)
+        with self.assertRaises(TypeError):
+            Ledger().record(0, 0, 1.0)
 
     def test_threads_share_a_ledger(self):
         ledger = Ledger()
@@ -425,6 +446,47 @@ class Ledgers(unittest.TestCase):
         for thread in threads:
             thread.join()
         self.assertEqual(ledger.held(Category.SPAN, Reason.SAMPLE_RATE), 8000)
+
+    def test_a_loss_is_recorded_while_a_report_is_made(self):
+        # As a finalizer or a handler of signals may, in the thread that holds the ledger; the report
+        # is longer than its first room then.
+        ledger = Ledger()
+        done = [False]
+
+        def call(out, room, needed):
+            if not done[0]:
+                done[0] = True
+                for category in Category:
+                    for reason in Reason:
+                        ledger.record(category, reason, 1)
+            return curdmesa._library.sentry_ledger_flush(
+                ledger._sums, len(ledger._sums), 5, 0, out, room, needed)
+
+        ledger.record(Category.ERROR, Reason.BEFORE_SEND, 1)
+        with ledger._lock:
+            report = curdmesa._text(8, call)
+        self.assertEqual(report.count(b"quantity"), 108)
+        self.assertEqual(ledger.held(Category.ERROR, Reason.BEFORE_SEND), 0)
+
+
+class Library(unittest.TestCase):
+    def imports(self, path):
+        """Imports the module in another process, over this library."""
+        return subprocess.run(
+            [sys.executable, "-c", "import curdmesa"], cwd=Path(__file__).parent,
+            env={**os.environ, "CURDMESA_SO": str(path)}, capture_output=True, text=True)
+
+    def test_another_library(self):
+        # A library of the standard one, that has none of the functions.
+        other = importlib.util.find_spec("_ctypes").origin
+        for path in other, "absent.so":
+            with self.subTest(path):
+                self.assertIn("ImportError", self.imports(path).stderr)
+
+    def test_a_path_without_a_folder(self):
+        here = os.environ.get("CURDMESA_SO") or Path(__file__).with_name("libcurdmesa.so")
+        name = os.path.relpath(here, Path(__file__).parent)
+        self.assertEqual(self.imports(name).returncode, 0)
 
 
 class Errors(unittest.TestCase):

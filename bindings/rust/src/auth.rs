@@ -31,7 +31,7 @@ impl Auth {
                 sys::sentry_auth_parse(
                     bytes.as_ptr(),
                     bytes.len(),
-                    out.as_mut_ptr().cast(),
+                    out.as_mut_ptr(),
                     out.len(),
                     needed,
                     &mut parts,

@@ -14,8 +14,9 @@ fn capacity(length: usize) -> usize {
 
 /// Parses an envelope and returns its normal form.
 ///
-/// `now` fills absent timestamps; absent ids are drawn from a generator seeded with `seed`. The
-/// normal form of the normal form is the normal form, unless its JSON nests deeper than 127.
+/// `now` fills absent timestamps; absent ids are drawn from a generator seeded with `seed` alone, so
+/// hand in another random number with each envelope. The normal form of the normal form is the
+/// normal form, unless its JSON nests deeper than 127.
 ///
 /// # Errors
 ///
@@ -58,7 +59,7 @@ where
                 now.secs,
                 now.nanos,
                 seed,
-                out.as_mut_ptr().cast(),
+                out.as_mut_ptr(),
                 out.len(),
                 needed,
             )
@@ -151,7 +152,7 @@ where
                 kinds,
                 keep,
                 keep_headers,
-                out.as_mut_ptr().cast(),
+                out.as_mut_ptr(),
                 out.len(),
                 needed,
                 losses.sums.as_mut_ptr(),

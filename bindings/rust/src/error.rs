@@ -54,7 +54,7 @@ pub enum Error {
     DsnInvalidProjectId,
     /// The text doesn't begin with the word `sentry`, in any ASCII case.
     AuthNonSentry,
-    /// A `sentry_version` isn't a whole number of 16 bits.
+    /// A `sentry_version`, up to its first `.`, isn't a whole number of 16 bits.
     AuthInvalidVersion,
     /// The public key (`sentry_key`) is absent or empty.
     AuthMissingPublicKey,

@@ -89,7 +89,7 @@ impl Ledger {
                     SUMS,
                     now.secs,
                     now.nanos,
-                    out.as_mut_ptr().cast(),
+                    out.as_mut_ptr(),
                     out.len(),
                     needed,
                 )

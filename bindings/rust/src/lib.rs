@@ -17,6 +17,8 @@
 //! # Ok::<(), curdmesa::Error>(())
 //! ```
 //!
+//! `42` is the seed: a program hands in another random number with each call.
+//!
 //! To build, the variable `CURDMESA_LIB` names the folder with `libsentry_c.a`, and `RATTLE_C` the
 //! folder with `liblibc_c.a` of the Rattle kit.
 #![warn(missing_docs)]

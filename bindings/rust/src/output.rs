@@ -1,14 +1,14 @@
 //! Texts that the library writes to memory of this crate.
 
 use crate::error::{done, Error};
-use std::mem::MaybeUninit;
 use std::ops::Range;
 
-/// Returns an empty buffer with room for at least `room` bytes.
+/// Returns a buffer of `room` zeros.
 fn buffer(room: usize) -> Result<Vec<u8>, Error> {
     let mut out = Vec::new();
     out.try_reserve_exact(room)
         .map_err(|_| Error::OutOfMemory)?;
+    out.resize(room, 0);
     Ok(out)
 }
 
@@ -19,20 +19,19 @@ fn buffer(room: usize) -> Result<Vec<u8>, Error> {
 /// has written a text of that length to the front of the room.
 pub fn text(
     room: usize,
-    mut call: impl FnMut(&mut [MaybeUninit<u8>], &mut u64) -> i32,
+    mut call: impl FnMut(&mut [u8], &mut u64) -> i32,
 ) -> Result<Vec<u8>, Error> {
     let mut needed = 0;
     let mut out = buffer(room)?;
-    let mut status = call(out.spare_capacity_mut(), &mut needed);
+    let mut status = call(&mut out, &mut needed);
     if Error::from_status(status) == Some(Error::NoRoom) {
         out = buffer(usize::try_from(needed).map_err(|_| Error::OutOfMemory)?)?;
-        status = call(out.spare_capacity_mut(), &mut needed);
+        status = call(&mut out, &mut needed);
     }
     done(status)?;
     let length = usize::try_from(needed).map_err(|_| Error::OutOfMemory)?;
-    assert!(length <= out.capacity());
-    // SAFETY: the call has written so many bytes, for which there is room.
-    unsafe { out.set_len(length) };
+    assert!(length <= out.len());
+    out.truncate(length);
     Ok(out)
 }
 

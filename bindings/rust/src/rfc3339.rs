@@ -38,7 +38,7 @@ where
             sys::sentry_rfc3339_format(
                 moment.secs,
                 moment.nanos,
-                out.as_mut_ptr().cast(),
+                out.as_mut_ptr(),
                 out.len(),
                 needed,
             )
