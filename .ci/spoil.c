@@ -1,7 +1,7 @@
 // Preloaded into a program, spoils one of the program's calls of the C library.
 //
-// SPOIL says how: `memory` refuses a request for memory, `fail` lets a read or a write fail, and with `short` one does
-// one byte alone. SPOIL_CALL is the number of the call among those, from 1; with 0, or a number that is not reached, none
+// SPOIL says how: `memory` refuses a request for memory, `fail-read` lets a read fail and `fail-write` a write, and with
+// `short` one of either does one byte alone. SPOIL_CALL is the number of the call among those, from 1; with 0, or a number that is not reached, none
 // is spoiled. At the end their count is written to the file descriptor that SPOIL_COUNT names. Only calls from the
 // program itself count, so that the C library can start and end it.
 #define _GNU_SOURCE
@@ -83,7 +83,7 @@ ssize_t read(int from, void *to, size_t size) {
     void *caller = __builtin_return_address(0);
     if (!next)
         next = NEXT(read);
-    if (is_spoiled("fail", caller))
+    if (is_spoiled("fail-read", caller))
         return errno = EIO, -1;
     return next(from, to, size && is_spoiled("short", caller) ? 1 : size);
 }
@@ -93,7 +93,7 @@ ssize_t write(int to, const void *from, size_t size) {
     void *caller = __builtin_return_address(0);
     if (!next)
         next = NEXT(write);
-    if (is_spoiled("fail", caller))
+    if (is_spoiled("fail-write", caller))
         return errno = EIO, -1;
     return next(to, from, size && is_spoiled("short", caller) ? 1 : size);
 }

@@ -11,9 +11,11 @@ import sys
 
 
 def collected(program, *words):
-    """Returns the instructions of a run; None if the program fails."""
+    """Returns the instructions of a run; None if the envelope is refused."""
     command = ["valgrind", "--tool=callgrind", "--callgrind-out-file=/dev/null", program, "speed", "--once", *words]
     run = subprocess.run(command, stderr=subprocess.PIPE, text=True)
+    if run.returncode and "the envelope is refused" not in run.stderr:
+        sys.exit(run.stderr)
     return None if run.returncode else int(re.search(r"Collected : (\d+)", run.stderr).group(1))
 
 

@@ -1,6 +1,6 @@
 //! Compares the answers to many envelopes.
 
-use crate::answers::{self, Answer, Fault};
+use crate::answers::{self, Answer, Answers, Fault};
 use crate::compare;
 use crate::differences;
 use crate::envelopes;
@@ -35,16 +35,16 @@ struct Tally {
 }
 
 fn judge(bytes: &[u8]) -> Verdict {
-    let (ours, theirs) = (answers::ours(bytes), answers::theirs(bytes));
-    match compare::answers(&ours, &theirs) {
-        Ok(rows) => match ours {
+    let answers = answers::both(bytes);
+    match compare::answers(&answers.ours, &answers.theirs) {
+        Ok(rows) => match answers.ours {
             Answer::Refused(fault) => Verdict::Refused(fault),
             _ if rows::has_float(&frames::cut(bytes)) => {
                 Verdict::Unexplained("a float is read".to_owned())
             }
             _ => Verdict::Written(rows),
         },
-        Err(what) => match explain(bytes) {
+        Err(what) => match explain(bytes, &answers) {
             Ok(rows) => Verdict::Explained(rows),
             Err(Unlike::Values) => Verdict::Unexplained(what),
             Err(Unlike::Spelling) => {
@@ -54,8 +54,8 @@ fn judge(bytes: &[u8]) -> Verdict {
     }
 }
 
-fn agree(bytes: &[u8]) -> bool {
-    compare::answers(&answers::ours(bytes), &answers::theirs(bytes)).is_ok()
+fn agree(answers: &Answers) -> bool {
+    compare::answers(&answers.ours, &answers.theirs).is_ok()
 }
 
 /// A difference that no row explains.
@@ -65,23 +65,32 @@ enum Unlike {
     Values,
 }
 
-/// Returns the rows that explain a difference: one alone if one does, else all that apply.
-fn explain(bytes: &[u8]) -> std::result::Result<Vec<&'static str>, Unlike> {
+/// Returns the rows that explain a difference between answers: one alone if one does and they differ
+/// as it says, else all that apply.
+fn explain(bytes: &[u8], answers: &Answers) -> std::result::Result<Vec<&'static str>, Unlike> {
     let cut = frames::cut(bytes);
     // What a row mends is written without white space: that alone is no cause.
-    if agree(&frames::join(&cut)) {
+    if agree(&answers::both(&frames::join(&cut))) {
         return Err(Unlike::Spelling);
     }
     let applied: Vec<_> = ROWS
         .iter()
         .filter(|row| row.mend(&mut cut.clone()))
         .collect();
+    let mut unlike_the_row = false;
     for row in &applied {
         let mut mended = cut.clone();
         row.mend(&mut mended);
-        if agree(&frames::join(&mended)) {
-            return Ok(vec![row.name]);
+        let after = answers::both(&frames::join(&mended));
+        if agree(&after) {
+            if row.fits(answers, &after) {
+                return Ok(vec![row.name]);
+            }
+            unlike_the_row = true;
         }
+    }
+    if unlike_the_row {
+        return Err(Unlike::Values);
     }
     let mut mended = cut;
     let mut names = Vec::new();
@@ -90,7 +99,7 @@ fn explain(bytes: &[u8]) -> std::result::Result<Vec<&'static str>, Unlike> {
             names.push(row.name);
         }
     }
-    match agree(&frames::join(&mended)) {
+    match agree(&answers::both(&frames::join(&mended))) {
         true => Ok(names),
         false => Err(Unlike::Values),
     }

@@ -34,6 +34,26 @@ pub enum Answer {
     Unwritten(String),
 }
 
+/// What the two answer to the same bytes.
+pub struct Answers {
+    pub ours: Answer,
+    pub theirs: Answer,
+}
+
+/// Returns what the two answer.
+pub fn both(bytes: &[u8]) -> Answers {
+    Answers {
+        ours: ours(bytes),
+        theirs: theirs(bytes),
+    }
+}
+
+impl Answer {
+    pub fn is_refusal(&self) -> bool {
+        matches!(self, Answer::Refused(_))
+    }
+}
+
 /// Returns Curdmesa's answer.
 pub fn ours(bytes: &[u8]) -> Answer {
     match curdmesa::normalize(bytes, NOW, SEED) {

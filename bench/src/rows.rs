@@ -1,13 +1,16 @@
 //! The rows of `docs/DIFFERENCES.md` that show in what is read and written.
 //!
 //! A row mends an envelope: it takes out what the two judge differently, and leaves all else. Where
-//! the answers differ, and agree about the mended bytes, the row is the cause.
+//! the answers differ, and agree about the mended bytes, the row is the cause, if the answers differ
+//! as the row says.
 
+use crate::answers::Answers;
 use crate::frames::{Cut, Piece};
 use crate::json::{is_float, Json};
 use crate::schema::{self, Field, Kind, Rule, Table, CONTEXTS};
 use sentry_types::protocol::v7::debugid::DebugId;
 use std::collections::HashSet;
+use Shape::*;
 
 /// How a row mends an envelope; each answers whether it changed anything.
 enum Mend {
@@ -15,89 +18,172 @@ enum Mend {
     Node(fn(&mut Json, &Kind) -> bool),
     /// A line of JSON.
     Line(fn(&mut Json) -> bool),
+    /// Fields that are unknown, by whether their line nests past 127.
+    Unread,
     Items(fn(&mut Cut) -> bool),
+}
+
+/// What the two answer to an envelope that a row alone makes them judge differently.
+enum Shape {
+    /// Curdmesa answers as to the mended envelope.
+    OursStays,
+    /// Curdmesa refuses.
+    OursRefuses,
+    /// Curdmesa refuses, and the Rust crate answers as to the mended envelope.
+    OursAloneRefuses,
+    /// Curdmesa refuses, or answers as to the mended envelope.
+    OursRefusesOrStays,
+    /// The Rust crate refuses.
+    TheirsRefuses,
+    /// Curdmesa reads it, and the Rust crate answers as to the mended envelope.
+    TheirsStays,
+    /// Both read it.
+    BothRead,
+    /// Each of the two may read it or not.
+    Any,
 }
 
 /// A row.
 pub struct Row {
     /// A part of the row that stands in no other.
     pub name: &'static str,
+    shape: Shape,
     mend: Mend,
 }
 
-const fn node(name: &'static str, mend: fn(&mut Json, &Kind) -> bool) -> Row {
+const fn node(name: &'static str, shape: Shape, mend: fn(&mut Json, &Kind) -> bool) -> Row {
     let mend = Mend::Node(mend);
-    Row { name, mend }
+    Row { name, shape, mend }
 }
 
-const fn line(name: &'static str, mend: fn(&mut Json) -> bool) -> Row {
+const fn line(name: &'static str, shape: Shape, mend: fn(&mut Json) -> bool) -> Row {
     let mend = Mend::Line(mend);
-    Row { name, mend }
+    Row { name, shape, mend }
 }
 
-const fn items(name: &'static str, mend: fn(&mut Cut) -> bool) -> Row {
+const fn items(name: &'static str, shape: Shape, mend: fn(&mut Cut) -> bool) -> Row {
     let mend = Mend::Items(mend);
-    Row { name, mend }
+    Row { name, shape, mend }
 }
 
 /// All rows, in the order in which they mend together.
 pub static ROWS: [Row; 24] = [
-    items("no user reports and replay recordings", own_items),
+    items(
+        "no user reports and replay recordings",
+        TheirsRefuses,
+        own_items,
+    ),
     node(
         "an item header is read from a stream, and may be an array",
+        OursAloneRefuses,
         item_header_array,
     ),
     node(
         "a struct is read from an array of its fields too",
+        OursAloneRefuses,
         struct_array,
     ),
-    node("`Values` of a bare array", bare_values),
-    node("a key that comes twice in a struct is refused", key_twice),
+    node("`Values` of a bare array", OursStays, bare_values),
+    node(
+        "a key that comes twice in a struct is refused",
+        OursStays,
+        key_twice,
+    ),
     node(
         "of one that comes twice in a map each value has to fit",
+        OursStays,
         replaced_entry,
     ),
-    node("unknown fields are skipped", unread_field),
-    line("JSON floats", float),
+    Row {
+        name: "unknown fields are skipped",
+        shape: OursAloneRefuses,
+        mend: Mend::Unread,
+    },
+    line("JSON floats", OursRefuses, float),
     node(
         "a word of a derived enumeration is read from an object of one key too",
+        OursAloneRefuses,
         word_object,
     ),
-    node("no `feedback` and `replay` among categories", own_category),
-    node("whole numbers outside these are refused too", real_range),
-    node("severity numbers outside 1 to 24", severity),
-    node("`urn:uuid:` before a UUID in lower case only", urn_case),
-    node("debug ids in all forms of the crate `debugid`", debug_form),
-    node("a host with an invalid label in `xn--`", punycode),
-    node("a host with U+2061, U+2062 or U+2063", invisible),
-    node("`^` in the path of a URL", caret),
-    node("whole seconds past the end of 9999", past_last),
+    node(
+        "no `feedback` and `replay` among categories",
+        TheirsRefuses,
+        own_category,
+    ),
+    node(
+        "whole numbers outside these are refused too",
+        OursRefuses,
+        real_range,
+    ),
+    node("severity numbers outside 1 to 24", OursRefuses, severity),
+    node(
+        "`urn:uuid:` before a UUID in lower case only",
+        OursStays,
+        urn_case,
+    ),
+    node(
+        "debug ids in all forms of the crate `debugid`",
+        Any,
+        debug_form,
+    ),
+    node(
+        "a host with an invalid label in `xn--`",
+        TheirsRefuses,
+        punycode,
+    ),
+    node("a host with U+2061, U+2062 or U+2063", OursStays, invisible),
+    node("`^` in the path of a URL", OursStays, caret),
+    node("whole seconds past the end of 9999", OursRefuses, past_last),
     node(
         "RFC 3339 texts as the crate `time` reads them",
+        OursRefusesOrStays,
         rfc3339_form,
     ),
     node(
         "lose the sign of an offset of less than an hour",
+        TheirsStays,
         offset_sign,
     ),
-    node("`sample_rate: f32`, of any float text", rate_form),
+    node("`sample_rate: f32`, of any float text", Any, rate_form),
     node(
         "sample rands of `inf`, `nan` and exponents of any length",
+        Any,
         rand_word,
     ),
     node(
         "`SampleRand: TryFrom<f64>`; printed from the binary value",
+        Any,
         rand_form,
     ),
-    node("hidden clocks and random sources", drawn),
+    node("hidden clocks and random sources", BothRead, drawn),
 ];
 
 impl Row {
+    /// Returns whether the answers to an envelope and to the mended one differ as the row says.
+    pub fn fits(&self, before: &Answers, after: &Answers) -> bool {
+        let ours_stays = before.ours == after.ours;
+        let theirs_stays = before.theirs == after.theirs;
+        match self.shape {
+            OursStays => ours_stays,
+            OursRefuses => before.ours.is_refusal(),
+            OursAloneRefuses => before.ours.is_refusal() && theirs_stays,
+            OursRefusesOrStays => before.ours.is_refusal() || ours_stays,
+            TheirsRefuses => before.theirs.is_refusal(),
+            TheirsStays => !before.ours.is_refusal() && theirs_stays,
+            BothRead => !before.ours.is_refusal() && !before.theirs.is_refusal(),
+            Any => true,
+        }
+    }
+
     /// Mends an envelope, and returns whether anything changed.
     pub fn mend(&self, cut: &mut Cut) -> bool {
         match self.mend {
             Mend::Items(mend) => mend(cut),
             Mend::Line(mend) => each_line(cut, &mut |value, _| mend(value)),
+            Mend::Unread => each_line(cut, &mut |value, kind| match value.depth() > 127 {
+                true => walk(value, kind, unread_or_deep),
+                false => walk(value, kind, unread),
+            }),
             Mend::Node(mend) => each_line(cut, &mut |value, kind| walk(value, kind, mend)),
         }
     }
@@ -322,19 +408,30 @@ fn has_broken(value: &Json) -> bool {
     }
 }
 
-fn unread_field(value: &mut Json, kind: &Kind) -> bool {
+/// Empties the unknown fields that `counts`.
+fn unknown_fields(value: &mut Json, kind: &Kind, counts: fn(&Json) -> bool) -> bool {
     let (Kind::Table(table), Json::Object(members)) = (kind, value) else {
         return false;
     };
     let mut changed = false;
     for (key, value) in members {
         let known = key.as_text().is_some_and(|key| table.field(key).is_some());
-        if !known && (has_broken(value) || value.depth() > 100) {
+        if !known && counts(value) {
             *value = Json::Null;
             changed = true;
         }
     }
     changed
+}
+
+fn unread(value: &mut Json, kind: &Kind) -> bool {
+    unknown_fields(value, kind, has_broken)
+}
+
+fn unread_or_deep(value: &mut Json, kind: &Kind) -> bool {
+    unknown_fields(value, kind, |value| {
+        has_broken(value) || value.depth() > 100
+    })
 }
 
 fn float(value: &mut Json) -> bool {
@@ -428,7 +525,12 @@ fn debug_form(value: &mut Json, kind: &Kind) -> bool {
 
 fn punycode(value: &mut Json, kind: &Kind) -> bool {
     text(value, matches!(kind, Kind::Url | Kind::Dsn), |text| {
-        Some(text.replace("xn--", "xn-"))
+        let start = |at: usize| {
+            text.get(at..at + 4)
+                .is_some_and(|part| part.eq_ignore_ascii_case("xn--"))
+        };
+        let at = (0..text.len()).find(|&at| start(at))?;
+        Some(text[..at].to_owned() + "x" + text[at + 4..].trim_start_matches('-'))
     })
 }
 
@@ -463,9 +565,12 @@ fn rfc3339_form(value: &mut Json, kind: &Kind) -> bool {
     text(value, is_moment(kind), |text| {
         let (date, rest) = text.split_at_checked(10)?;
         let rest = rest.get(rest.chars().next()?.len_utf8()..)?;
-        let rest = match rest.strip_prefix("23:59:60") {
-            Some(after) => format!("23:59:59{after}"),
-            None => rest.to_owned(),
+        // Second 60 stands at the end of a month, which is another time of day beside an offset.
+        let rest = match rest.split_at_checked(5) {
+            Some((time, seconds)) if seconds.starts_with(":60") => {
+                format!("{time}:59{}", &seconds[3..])
+            }
+            _ => rest.to_owned(),
         };
         Some(format!("{date}T{rest}"))
     })
