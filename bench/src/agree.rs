@@ -42,6 +42,9 @@ fn judge(bytes: &[u8]) -> Verdict {
             _ if rows::has_float(&frames::cut(bytes)) => {
                 Verdict::Unexplained("a float is read".to_owned())
             }
+            Answer::Written(ours) if frames::join(&frames::cut(&ours)) != ours => {
+                Verdict::Unexplained("ours isn't compact".to_owned())
+            }
             _ => Verdict::Written(rows),
         },
         Err(what) => match explain(bytes, &answers) {

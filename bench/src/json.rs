@@ -324,6 +324,11 @@ pub fn write_text(text: &str, out: &mut Vec<u8>) {
     for byte in text.bytes() {
         match byte {
             b'"' | b'\\' => out.extend([b'\\', byte]),
+            8 => out.extend(b"\\b"),
+            b'\t' => out.extend(b"\\t"),
+            b'\n' => out.extend(b"\\n"),
+            12 => out.extend(b"\\f"),
+            b'\r' => out.extend(b"\\r"),
             0..=31 => out.extend(format!("\\u{byte:04x}").bytes()),
             _ => out.push(byte),
         }
