@@ -45,6 +45,11 @@ fn judge(bytes: &[u8]) -> Verdict {
             Answer::Written(ours) if frames::join(&frames::cut(&ours)) != ours => {
                 Verdict::Unexplained("ours isn't compact".to_owned())
             }
+            Answer::Written(ours)
+                if !compare::are_given(&frames::cut(bytes), &frames::cut(&ours)) =>
+            {
+                Verdict::Unexplained("ours has a number that wasn't given".to_owned())
+            }
             _ => Verdict::Written(rows),
         },
         Err(what) => match explain(bytes, &answers) {

@@ -100,6 +100,42 @@ fn values(key: &str, ours: &Json, theirs: &Json, rows: &mut Rows) -> Result<(), 
     }
 }
 
+/// Returns whether the numbers that `row` compares as floats stand in what was read, as they are
+/// written.
+pub fn are_given(read: &Cut, written: &Cut) -> bool {
+    let mut given = BTreeSet::new();
+    each_number(read, &mut |_, number| {
+        given.insert(number.to_owned());
+    });
+    let mut all = true;
+    each_number(written, &mut |key, number| {
+        let loose = matches!(key, "value" | "duration" | "battery_level");
+        all &= !loose || given.contains(number);
+    });
+    all
+}
+
+fn each_number(cut: &Cut, see: &mut dyn FnMut(&str, &str)) {
+    for item in &cut.items {
+        if let Piece::Json(payload) = &item.payload {
+            numbers_in("", payload, see);
+        }
+    }
+}
+
+fn numbers_in(key: &str, value: &Json, see: &mut dyn FnMut(&str, &str)) {
+    match value {
+        Json::Number(number) => see(key, number),
+        Json::List(values) => values.iter().for_each(|value| numbers_in(key, value, see)),
+        Json::Object(members) => {
+            for (key, value) in members {
+                numbers_in(key.as_text().unwrap_or(""), value, see);
+            }
+        }
+        _ => {}
+    }
+}
+
 fn sorted(members: &[(Json, Json)]) -> Vec<&(Json, Json)> {
     let mut members: Vec<_> = members.iter().collect();
     members.sort_by_key(|(key, _)| key.as_text().map(str::as_bytes));
