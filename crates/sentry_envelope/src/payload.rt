@@ -1,6 +1,6 @@
 //! Payloads of JSON: the values that they hold, as items.
 
-ghost use Rattle.std.specs.Prelude.{◌≡◌, ◌≢◌, IfErr, IfSome, OnOk, map};
+ghost use Rattle.std.specs.Prelude.{◌≡◌, ◌≢◌, IfErr, OnOk};
 ghost use Rattle.sentry_event.specs.Events.{event_cell};
 ghost use Rattle.sentry_event.specs.Transactions.{transaction_cell};
 ghost use Rattle.sentry_records.specs.Monitors.{check_in_cell};
@@ -12,15 +12,15 @@ ghost use Rattle.sentry_framing.specs.declared.kind.ItemKind.TheVariants as kind
 ghost use Rattle.sentry_items.specs.Containers.{container_cell};
 ghost use Rattle.sentry_items.specs.declared.container.ItemContainer.TheVariants as containers;
 ghost use Rattle.sentry_tables.specs.Cell.{Cell};
-ghost use Rattle.sentry_tables.specs.Reading.{IsReadAt, ReadsText};
+ghost use Rattle.sentry_tables.specs.Reading.{ReadsText};
 ghost use Rattle.sentry_envelope.specs.ItemAdded.{IsAdded, IsJson, IsNotAdded, IsOfKind, IsValueAdded};
 ghost use Rattle.sentry_envelope.specs.SentryProfile.{form_of};
 ghost use Rattle.sentry_framing.specs.View.{frame_of};
 ghost use Rattle.sentry_moments.specs.Moments.{moment_cell};
 
-use crate::timed::read_at;
+use crate::timed::{read_apart_at, read_at};
 use rand_core::Rng;
-use sentry_event::{Event, Transaction, event_keys, transaction_keys};
+use sentry_event::{Event, ReadApart, Transaction};
 use sentry_framing::{EnvelopeError, ItemFrame, ItemKind};
 use sentry_items::{EnvelopeItem, ItemContainer, Listed, read_listed};
 use sentry_moments::Moment;
@@ -144,7 +144,7 @@ impl Payload for ReportRows {
 }
 
 // Appends the item of a frame whose payload is JSON.
-#[tactic(auto, using(crate::specs::ItemAdded::alone, crate::specs::ItemAdded::listed, sentry_tables::proofs::AtKeys::table_at))]
+#[tactic(auto, using(crate::specs::ItemAdded::alone, crate::specs::ItemAdded::listed))]
 #[inline(never)]
 pub(crate) fn add_json_item<'a, R: Rng>(
     lines: &mut LineReader<'a>,
@@ -163,24 +163,20 @@ pub(crate) fn add_json_item<'a, R: Rng>(
 {
     match kind {
         ItemKind::Event => {
-            let keys = Some(event_keys());
-            add_value_at::<Box<Event<'static>>, R>(lines, frame, keys, now, ids, items)
+            add_value_apart::<Box<Event<'static>>, R>(lines, frame, now, ids, items)
         }
         ItemKind::SessionUpdate => {
-            add_value_at::<SessionUpdate<'static>, R>(lines, frame, None, now, ids, items)
+            add_value_at::<SessionUpdate<'static>, R>(lines, frame, now, ids, items)
         }
         ItemKind::SessionAggregates => add_value::<SessionAggregates<'static>>(lines, frame, items),
         ItemKind::Transaction => {
-            let keys = Some(transaction_keys());
-            add_value_at::<Box<Transaction<'static>>, R>(lines, frame, keys, now, ids, items)
+            add_value_apart::<Box<Transaction<'static>>, R>(lines, frame, now, ids, items)
         }
         ItemKind::MonitorCheckIn => add_value::<MonitorCheckIn>(lines, frame, items),
         ItemKind::UserReport => add_value::<UserReport>(lines, frame, items),
         ItemKind::Logs => add_read(read_listed::<Log>(lines, frame.payload), frame, items),
         ItemKind::Metrics => add_read(read_listed::<Metric>(lines, frame.payload), frame, items),
-        ItemKind::ClientReport => add_value_at::<ReportRows, R>(
-            lines, frame, None, now, ids, items,
-        ),
+        ItemKind::ClientReport => add_value_at::<ReportRows, R>(lines, frame, now, ids, items),
         ItemKind::Attachment | ItemKind::ReplayRecording => unreachable!(),
     }
 }
@@ -229,7 +225,6 @@ fn add_read<T: Member + Payload>(
 fn add_value_at<'a, T: FromTreeAt + Payload, R: Rng>(
     lines: &mut LineReader<'a>,
     frame: &ItemFrame<'a>,
-    keys: Option<&[&str]>,
     now: Moment,
     ids: &mut R,
     items: &mut Vec<EnvelopeItem>,
@@ -237,12 +232,35 @@ fn add_value_at<'a, T: FromTreeAt + Payload, R: Rng>(
     requires of_kind { IsOfKind (frame_of frame.now) T.item_kind }
     requires fits { IsJson (form_of T.item_kind) T.kind }
     requires held { (v : T) → T.cell v ≡ T.cell_of v }
-    requires read { IfSome keys (λ ks. IsReadAt (map (λ key. key.now) ks.now) T.kind) }
     ensures ok { OnOk result
         (IsAdded (moment_cell now) (frame_of frame.now) items.old.items items.new.items) }
     ensures err { IfErr result (IsNotAdded (frame_of frame.now)) }
 {
-    let value: T = match read_at(lines, frame.payload, keys, now, ids) {
+    let value: T = match read_at(lines, frame.payload, now, ids) {
+        Ok(value) => value,
+        Err(error) => return Err(payload_error(error)),
+    };
+    value.push_to(items)?;
+    Ok(())
+}
+
+// The same of a payload whose additional data is read apart.
+#[inline(never)]
+fn add_value_apart<'a, T: ReadApart + Payload, R: Rng>(
+    lines: &mut LineReader<'a>,
+    frame: &ItemFrame<'a>,
+    now: Moment,
+    ids: &mut R,
+    items: &mut Vec<EnvelopeItem>,
+) -> Result<(), EnvelopeError>
+    requires of_kind { IsOfKind (frame_of frame.now) T.item_kind }
+    requires fits { IsJson (form_of T.item_kind) T.kind }
+    requires held { (v : T) → T.cell v ≡ T.cell_of v }
+    ensures ok { OnOk result
+        (IsAdded (moment_cell now) (frame_of frame.now) items.old.items items.new.items) }
+    ensures err { IfErr result (IsNotAdded (frame_of frame.now)) }
+{
+    let value: T = match read_apart_at(lines, frame.payload, now, ids) {
         Ok(value) => value,
         Err(error) => return Err(payload_error(error)),
     };

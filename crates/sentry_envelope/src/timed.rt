@@ -1,11 +1,12 @@
 //! Reading of JSON lines that fills absent timestamps and ids.
 
-ghost use Rattle.std.specs.Prelude.{IfSome, map};
-ghost use Rattle.sentry_tables.specs.Reading.{IsReadAt, ReadsTextAt, ShownAt, RefusedAt};
+ghost use Rattle.std.specs.Prelude.{IfSome};
+ghost use Rattle.sentry_tables.specs.Reading.{ReadsTextAt, ShownAt, RefusedAt, TextShownAt};
 ghost use Rattle.sentry_moments.specs.Moments.{moment_cell};
 
 use bumpalo::Bump;
 use rand_core::Rng;
+use sentry_event::{EXTRA, ReadApart};
 use sentry_json::Node;
 use sentry_moments::Moment;
 use sentry_rows::FromTreeAt;
@@ -30,27 +31,58 @@ impl<'r, T: FromTreeAt, R: Rng> ReadsNode<T> for AtMoment<'r, R> {
 }
 
 // Reads a value from a line with the caller's reader; `now` fills absent timestamps, `ids` absent
-// ids. Where `keys` are given, members of other keys don't matter to the type.
+// ids.
 //
 // # Errors
 //
 // - `Misfit` if the line isn't one JSON text without floats that reads as the type.
 // - `Memory` if an allocation fails.
-#[tactic(auto, using(sentry_tables::proofs::Texts::text_read_by_at, sentry_tables::proofs::AtKeys::shown_at, sentry_tables::proofs::AtKeys::refused_at))]
+#[tactic(auto, using(sentry_tables::proofs::Texts::text_read_by_at))]
 pub(crate) fn read_at<'a, T: FromTreeAt, R: Rng>(
     lines: &mut LineReader<'a>,
     line: &'a [u8],
-    keys: Option<&[&str]>,
     now: Moment,
     ids: &mut R,
 ) -> Result<T, TreeError>
-    requires { IfSome keys (λ ks. IsReadAt (map (λ key. key.now) ks.now) T.kind) }
     ensures { ReadsTextAt (moment_cell now) T.kind T.cell_of line.now result }
 {
+    lines.read_by(line, AtMoment { now, ids })
+}
+
+// Reads a value from a long line, its additional data apart from its other members.
+//
+// `None` if the line isn't long or can't be read so: `read_at` decides then.
+fn read_long_at<'a, T: ReadApart, R: Rng>(
+    lines: &mut LineReader<'a>,
+    line: &'a [u8],
+    now: Moment,
+    ids: &mut R,
+) -> Option<T>
+    ensures { IfSome result (λ value.
+        TextShownAt (moment_cell now) T.kind line.now (T.cell_of value)) }
+{
     let reader = AtMoment { now, ids };
-    match keys {
-        Some(keys) => lines.read_by_keys(line, keys, reader),
-        None => lines.read_by(line, reader),
+    let (value, extra): (T, _) = lines.read_apart(line, T::keys(), EXTRA, reader)?;
+    Some(value.with_extra(extra))
+}
+
+// As `read_at`. Of a long line, neither additional data nor members that the type doesn't know leave
+// tokens.
+//
+// # Errors
+//
+// As of `read_at`.
+pub(crate) fn read_apart_at<'a, T: ReadApart, R: Rng>(
+    lines: &mut LineReader<'a>,
+    line: &'a [u8],
+    now: Moment,
+    ids: &mut R,
+) -> Result<T, TreeError>
+    ensures { ReadsTextAt (moment_cell now) T.kind T.cell_of line.now result }
+{
+    match read_long_at(lines, line, now, ids) {
+        Some(value) => Ok(value),
+        None => read_at(lines, line, now, ids),
     }
 }
 
@@ -70,5 +102,5 @@ pub fn read_line_at<T: FromTreeAt, R: Rng>(
     ensures { ReadsTextAt (moment_cell now) T.kind T.cell_of line.now result }
 {
     let texts = Bump::new(alloc);
-    read_at(&mut LineReader::new(alloc, &texts), line, None, now, ids)
+    read_at(&mut LineReader::new(alloc, &texts), line, now, ids)
 }

@@ -1,11 +1,13 @@
 //! Events: errors and messages with their data.
 #![tactic(auto, unfolding(crate::specs::Events::event_fields))]
 
-ghost use Rattle.std.specs.Prelude.{◌≡◌, map};
+ghost use Rattle.std.specs.Prelude.{◌≡◌, codes, false, map};
+ghost use Rattle.sentry_json.specs.Keys.{is_among};
 ghost use Rattle.sentry_tables.specs.Fields.{rows_of};
-ghost use Rattle.sentry_tables.specs.Kind.{keys};
+ghost use Rattle.sentry_tables.specs.Reading.{keys_but};
 ghost use Rattle.sentry_event.specs.Events.{event_fields, event_in_order};
 
+use crate::apart::ReadApart;
 use crate::fingerprint::{AsFingerprint, owned_texts};
 use crate::owned::{owned_option, owned_text};
 use rand_core::Rng;
@@ -347,37 +349,50 @@ impl<'a> CopyTable for Event<'a> {
     }
 }
 
-/// Returns the keys of an event's rows. Members of other keys are ignored on reading.
-pub fn event_keys() -> &'static [&'static str]
-    ensures { map (λ key. key.now) result.now ≡ keys (rows_of event_fields) }
-{
-    &[
-        "breadcrumbs",
-        "contexts",
-        "culprit",
-        "debug_meta",
-        "dist",
-        "environment",
-        "event_id",
-        "exception",
-        "extra",
-        "fingerprint",
-        "level",
-        "logentry",
-        "logger",
-        "message",
-        "modules",
-        "platform",
-        "release",
-        "request",
-        "sdk",
-        "server_name",
-        "stacktrace",
-        "tags",
-        "template",
-        "threads",
-        "timestamp",
-        "transaction",
-        "user",
-    ]
+impl<'a> ReadApart for Box<Event<'a>> {
+    ghost keys_beside = { keys_but (codes "extra") (rows_of event_fields) };
+
+    fn keys() -> &'static [&'static str]
+        ensures keys { map (λ key. key.now) result.now
+            ≡ keys_but (codes "extra") (rows_of event_fields) }
+        ensures apart { is_among (codes "extra")
+            (keys_but (codes "extra") (rows_of event_fields)) ≡ false }
+    {
+        &[
+            "breadcrumbs",
+            "contexts",
+            "culprit",
+            "debug_meta",
+            "dist",
+            "environment",
+            "event_id",
+            "exception",
+            "fingerprint",
+            "level",
+            "logentry",
+            "logger",
+            "message",
+            "modules",
+            "platform",
+            "release",
+            "request",
+            "sdk",
+            "server_name",
+            "stacktrace",
+            "tags",
+            "template",
+            "threads",
+            "timestamp",
+            "transaction",
+            "user",
+        ]
+    }
+
+    fn with_extra(self, extra: Option<Map<String, Value>>) -> Box<Event<'a>> {
+        let mut event = self;
+        if let Some(extra) = extra {
+            event.extra = extra;
+        }
+        event
+    }
 }

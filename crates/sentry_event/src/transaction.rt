@@ -1,11 +1,13 @@
 //! Transactions: traced operations with their spans.
 #![tactic(auto, unfolding(crate::specs::Transactions::transaction_fields))]
 
-ghost use Rattle.std.specs.Prelude.{◌≡◌, map};
+ghost use Rattle.std.specs.Prelude.{◌≡◌, codes, false, map};
+ghost use Rattle.sentry_json.specs.Keys.{is_among};
 ghost use Rattle.sentry_tables.specs.Fields.{rows_of};
-ghost use Rattle.sentry_tables.specs.Kind.{keys};
+ghost use Rattle.sentry_tables.specs.Reading.{keys_but};
 ghost use Rattle.sentry_event.specs.Transactions.{transaction_fields, transaction_in_order};
 
+use crate::apart::ReadApart;
 use crate::owned::{owned_option, owned_text};
 use crate::span::Span;
 use rand_core::Rng;
@@ -252,25 +254,38 @@ impl<'a> CopyTable for Transaction<'a> {
     }
 }
 
-/// Returns the keys of a transaction's rows. Members of other keys are ignored on reading.
-pub fn transaction_keys() -> &'static [&'static str]
-    ensures { map (λ key. key.now) result.now ≡ keys (rows_of transaction_fields) }
-{
-    &[
-        "contexts",
-        "environment",
-        "event_id",
-        "extra",
-        "platform",
-        "release",
-        "request",
-        "sdk",
-        "server_name",
-        "spans",
-        "start_timestamp",
-        "tags",
-        "timestamp",
-        "transaction",
-        "user",
-    ]
+impl<'a> ReadApart for Box<Transaction<'a>> {
+    ghost keys_beside = { keys_but (codes "extra") (rows_of transaction_fields) };
+
+    fn keys() -> &'static [&'static str]
+        ensures keys { map (λ key. key.now) result.now
+            ≡ keys_but (codes "extra") (rows_of transaction_fields) }
+        ensures apart { is_among (codes "extra")
+            (keys_but (codes "extra") (rows_of transaction_fields)) ≡ false }
+    {
+        &[
+            "contexts",
+            "environment",
+            "event_id",
+            "platform",
+            "release",
+            "request",
+            "sdk",
+            "server_name",
+            "spans",
+            "start_timestamp",
+            "tags",
+            "timestamp",
+            "transaction",
+            "user",
+        ]
+    }
+
+    fn with_extra(self, extra: Option<Map<String, Value>>) -> Box<Transaction<'a>> {
+        let mut transaction = self;
+        if let Some(extra) = extra {
+            transaction.extra = extra;
+        }
+        transaction
+    }
 }

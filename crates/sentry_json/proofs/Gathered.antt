@@ -16,7 +16,7 @@ use Rattle.sentry_json.specs.Keys.{is_among, beside}
 use Rattle.sentry_json.specs.Nodes.{items_by, named_after, named_by}
 use Rattle.sentry_json.specs.declared.object.Named.{Named}
 
-more_items : {N : Type 0} (f : N → Data) (xs : List N) (x : N) (vs : List Value) (v : Value) → items_by f xs ≡ items_view vs → f x ≡ view v → items_by f (xs ++ x ∷ []) ≡ items_view (vs ++ v ∷ [])
+pub more_items : {N : Type 0} (f : N → Data) (xs : List N) (x : N) (vs : List Value) (v : Value) → items_by f xs ≡ items_view vs → f x ≡ view v → items_by f (xs ++ x ∷ []) ≡ items_view (vs ++ v ∷ [])
 more_items f [] x [] v h s = ap (λ d. item d no_items) s
 more_items f [] x (w ∷ vs) v h s = absurd cc
 more_items f (y ∷ xs) x [] v h s = absurd cc

@@ -1,5 +1,5 @@
 -- Lines that are an object of one member, an array, whose items are visited one by one.
-use Rattle.std.proofs.Common.{◌≡◌, ℕ, List, [], ◌∷◌, ◌++◌, length, Some, IsUtf8, true, false, refl, sym, ap, ap₂, subst, ◌∙◌, append_assoc, arith, take_at, drop, take_all}
+use Rattle.std.proofs.Common.{◌≡◌, ℕ, List, [], ◌∷◌, ◌++◌, length, Some, IsUtf8, true, false, refl, sym, ap, ap₂, subst, ◌∙◌, append_assoc, append-nil, arith, take_at, drop, take_all}
 use Rattle.std.proofs.lemmas.List.{drop_at}
 use Rattle.serde_json.specs.Data.{Data, array, object, Items, no_items, item, no_members, put}
 use Rattle.sentry_json.specs.Line.{tree_of}
@@ -11,7 +11,7 @@ use Rattle.sentry_json.specs.declared.tape.token.Token.{Token}
 use Rattle.sentry_json.specs.declared.tape.token.Token.TheVariants as token
 use Rattle.sentry_json.proofs.Lexemes.{parsed}
 use Rattle.sentry_json.proofs.SoFar.{begins, skipped, next_key, ends, string_before, value_before, value_behind}
-use Rattle.sentry_json.proofs.TokenLists.{items_next, members_next, members_end, value_array, value_object}
+use Rattle.sentry_json.proofs.TokenLists.{items_end, items_next, members_next, members_end, value_array, value_object}
 
 -- ---- the items that were visited
 
@@ -20,7 +20,7 @@ abbrev pub and_then : List Data → Items → Items
 and_then [] js = js
 and_then (d ∷ ds) js = item d (and_then ds js)
 
-pub and_none : (ds : List Data) → and_then ds no_items ≡ items_by (λ d. d) ds
+and_none : (ds : List Data) → and_then ds no_items ≡ items_by (λ d. d) ds
 and_none [] = refl
 and_none (d ∷ ds) = ap (item d) (and_none ds)
 
@@ -31,6 +31,10 @@ and_next (e ∷ es) d js = ap (item e) (and_next es d js)
 -- the tokens are those of the items
 abbrev pub Mean : List Token → List Data → Type 0
 Mean done items = (ts : List Token) → items_of (done ++ ts) ≡ and_then items (items_of ts)
+
+-- and there are no others
+pub all_mean : (all : List Token) (items : List Data) → Mean all items → items_of all ≡ items_by (λ d. d) items
+all_mean all items mean = ap items_of (sym (append-nil all)) ∙ mean [] ∙ ap (and_then items) items_end ∙ and_none items
 
 pub means_next : (done : List Token) (items : List Data) (first : Token) (inside : List Token) → width first ≡ length inside → Mean done items → Mean (done ++ (first ∷ inside)) (items ++ value_of first inside ∷ [])
 means_next done items first inside closed mean ts =

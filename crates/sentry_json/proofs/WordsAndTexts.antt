@@ -10,11 +10,11 @@ use Rattle.json.specs.Lex.{token, lex, in_word, between, string_token}
 use Rattle.json.specs.Word.{ends_word, word}
 use Rattle.json.proofs.Printed.Numbers.{lex-number, in_word-ended}
 use Rattle.json.proofs.Printed.Decimals.{IsNumber-decimal, IsNumber-signed_decimal}
-use Rattle.serde_json.specs.Data.{number, string}
+use Rattle.serde_json.specs.Data.{Data, number, string}
 use Rattle.serde_json.proofs.Numbers.{number_of-decimal, number_of-negative}
 use Rattle.sentry_json.specs.declared.tape.token.Token.{Token}
 use Rattle.sentry_json.specs.declared.tape.token.Token.TheVariants as variants
-use Rattle.sentry_json.specs.Spelled.{Spells, SpellsString, IsQuoted}
+use Rattle.sentry_json.specs.Spelled.{Spells, SpellsString, SpellsTree, BeginsString, IsQuoted}
 use Rattle.sentry_json.specs.Tokens.{width, text_of, value_of, value_at}
 
 -- ---- integers
@@ -73,15 +73,28 @@ text_value (variants.Text x) s e = (ap (option_map string) (sym e), refl)
 text_value (variants.Array n) s e = absurd (cc)
 text_value (variants.Object n) s e = absurd (cc)
 
-pub string_spelled : (text inside rest s : List ℕ) (t : Token) → text ≡ 34 ∷ inside → text_of t ≡ Some s → IsQuoted inside s rest → SpellsString text rest t
+pub string_begins : (text inside rest s : List ℕ) → text ≡ 34 ∷ inside → IsQuoted inside s rest → BeginsString text rest s
 unfolding lex
-string_spelled text inside rest s t is named quoted =
-    record { name = s; named = named; lexed = ap (lex between) is ∙ ap₂ (λ o l. token (string_token o) ∷ l) quoted.read quoted.lexed }
+string_begins text inside rest s is quoted = ap (lex between) is ∙ ap₂ (λ o l. token (string_token o) ∷ l) quoted.read quoted.lexed
+
+pub string_spelled : (text inside rest s : List ℕ) (t : Token) → text ≡ 34 ∷ inside → text_of t ≡ Some s → IsQuoted inside s rest → SpellsString text rest t
+string_spelled text inside rest s t is named quoted = record { name = s; named = named; lexed = string_begins text inside rest s is quoted }
 
 pub text_spelled : (text rest : List ℕ) (t : Token) (most : ℕ) → SpellsString text rest t → Spells text rest t [] most
 text_spelled text rest t most s =
     let same = text_value t s.name s.named in
     record { json = json.string s.name; lexed = λ ended. s.lexed; meant = same.0; closed = same.1; shallow = omega arith }
+
+-- a token that a string has, wherever it lies
+abbrev pub text_token : List ℕ → Token
+text_token s = variants.Text (record { ref_ptr = (0, 0); now = s })
+
+pub begun_spelled : (text rest s : List ℕ) → BeginsString text rest s → SpellsString text rest (text_token s)
+begun_spelled text rest s begins = record { name = s; named = refl; lexed = begins }
+
+pub string_tree : (text inside rest s : List ℕ) (d : Data) (most : ℕ) → text ≡ 34 ∷ inside → IsQuoted inside s rest → d ≡ string s → SpellsTree text rest d most
+unfolding value_at
+string_tree text inside rest s d most is quoted same = (text_token s, [], text_spelled text rest (text_token s) most (string_spelled text inside rest s (text_token s) is refl quoted), sym same)
 
 -- ---- words
 

@@ -14,3 +14,4 @@ pub mod Tokens
 pub mod Filled
 pub mod Written
 pub mod Writer
+pub mod Taken

@@ -6,6 +6,7 @@ use Rattle.json.specs.Lex.{Lexeme, token, comma, colon, lex, between, in_string}
 use Rattle.json.specs.Text.{content, plain}
 use Rattle.json.specs.Tree.{depth}
 use Rattle.json.specs.Word.{ends_word}
+use Rattle.serde_json.specs.Data.{Data}
 use Rattle.serde_json.specs.Read.{of_json}
 use Rattle.sentry_json.specs.declared.tape.token.Token.{Token}
 use Rattle.sentry_json.specs.Tokens.{width, value_of, text_of}
@@ -56,8 +57,16 @@ pub record Spells (text rest : List ℕ) (first : Token) (inside : List Token) (
   pub closed : width first ≡ length inside
   pub shallow : depth json ≤ most
 
--- The text begins with a string, and `rest` follows. The token has that string.
+-- The text begins with a value, which is this tree, and `rest` follows: there are tokens for that value, kept or not, and they are the tree.
+abbrev pub SpellsTree : (text rest : List ℕ) (d : Data) (most : ℕ) → Type 0
+SpellsTree text rest d most = (first : Token) × (inside : List Token) × Spells text rest first inside most × (value_of first inside ≡ d)
+
+-- The text begins with a string of this content, and `rest` follows.
+abbrev pub BeginsString : (text rest content_bytes : List ℕ) → Type 0
+BeginsString text rest content_bytes = lex between text ≡ token (json_token.string content_bytes) ∷ lex between rest
+
+-- The same. The token has that string.
 pub record SpellsString (text rest : List ℕ) (first : Token) : Type 0 where
   pub name : List ℕ
   pub named : text_of first ≡ Some name
-  pub lexed : lex between text ≡ token (json_token.string name) ∷ lex between rest
+  pub lexed : BeginsString text rest name

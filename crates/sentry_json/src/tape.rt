@@ -10,10 +10,12 @@ mod rest;
 mod run;
 mod scalar;
 mod token;
+mod tree;
 
 ghost use Rattle.std.specs.Prelude.{◌≡◌, ◌++◌, ◌∷◌, ◌<◌, [], ℕ, IfSome, IsUtf8, List, Some, if◌then◌else◌, length, true};
 ghost use Rattle.sentry_json.specs.Line.{tree_of};
-ghost use Rattle.sentry_json.specs.Spelled.{IsBehind, IsQuoted, Spells, SpellsString};
+ghost use Rattle.sentry_json.specs.Spelled.{IsBehind, IsQuoted};
+ghost use Rattle.sentry_json.specs.Taken.{TakesLeaf, TakesString, TakesValue};
 ghost use Rattle.sentry_json.specs.Tokens.{kept, text_of};
 ghost use Rattle.sentry_json.specs.TapeView.{node_data};
 ghost use Rattle.sentry_json.specs.declared.tape.token.Token.{Token};
@@ -103,7 +105,8 @@ impl<'a> Tape<'a> {
 // Appends a token, if the tokens of a value are kept.
 #[inline(always)]
 fn keep<'a, const KEPT: bool>(tokens: &mut Vec<Token<'a>>, token: Token<'a>) -> Option<()>
-    ensures { IfSome result (λ _. tokens.new.items ≡ tokens.old.items ++ kept KEPT (token.entry ∷ [])) }
+    ensures { IfSome result (λ _.
+        tokens.new.items ≡ tokens.old.items ++ kept KEPT (token.entry ∷ [])) }
 {
     if KEPT {
         tokens.push(token).ok()?;
@@ -139,9 +142,8 @@ fn take_scalar<'a, const KEPT: bool>(
     text: Rest<'a>,
     tokens: &mut Vec<Token<'a>>,
 ) -> Option<Rest<'a>>
-    ensures spelled { IfSome result (λ rest. (token : Token)
-        × (tokens.new.items ≡ tokens.old.items ++ kept KEPT (token ∷ []))
-        × Spells text.entry.text.now rest.text.now token [] 0) }
+    ensures spelled { IfSome result (λ rest. TakesLeaf KEPT tokens.old.items tokens.new.items
+        text.entry.text.now rest.text.now) }
     ensures shorter { IfSome result (λ rest. length rest.text.now < length text.entry.text.now) }
 {
     let (token, rest) = split_scalar(text)?;
@@ -159,12 +161,10 @@ fn take_leaf<'a, const KEPT: bool>(
     key: bool,
     tokens: &mut Vec<Token<'a>>,
 ) -> Option<Rest<'a>>
-    ensures spelled { IfSome result (λ rest. (token : Token)
-        × (tokens.new.items ≡ tokens.old.items ++ kept KEPT (token ∷ []))
-        × Spells text.entry.text.now rest.text.now token [] 0) }
-    ensures string { IfSome result (λ rest. key ≡ true → (name : Token)
-        × (tokens.new.items ≡ tokens.old.items ++ kept KEPT (name ∷ []))
-        × SpellsString text.entry.text.now rest.text.now name) }
+    ensures spelled { IfSome result (λ rest. TakesLeaf KEPT tokens.old.items tokens.new.items
+        text.entry.text.now rest.text.now) }
+    ensures string { IfSome result (λ rest. key ≡ true
+        → TakesString KEPT tokens.old.items tokens.new.items text.entry.text.now rest.text.now) }
     ensures shorter { IfSome result (λ rest. length rest.text.now < length text.entry.text.now) }
 {
     if let Some(inside) = text.after(b'"') {
@@ -190,12 +190,10 @@ fn take_rare<'a, const KEPT: bool>(
     key: bool,
     tokens: &mut Vec<Token<'a>>,
 ) -> Option<Rest<'a>>
-    ensures spelled { IfSome result (λ rest. (token : Token)
-        × (tokens.new.items ≡ tokens.old.items ++ kept KEPT (token ∷ []))
-        × Spells text.entry.text.now rest.text.now token [] 0) }
-    ensures string { IfSome result (λ rest. key ≡ true → (name : Token)
-        × (tokens.new.items ≡ tokens.old.items ++ kept KEPT (name ∷ []))
-        × SpellsString text.entry.text.now rest.text.now name) }
+    ensures spelled { IfSome result (λ rest. TakesLeaf KEPT tokens.old.items tokens.new.items
+        text.entry.text.now rest.text.now) }
+    ensures string { IfSome result (λ rest. key ≡ true
+        → TakesString KEPT tokens.old.items tokens.new.items text.entry.text.now rest.text.now) }
     ensures shorter { IfSome result (λ rest. length rest.text.now < length text.entry.text.now) }
 {
     let rest = take_leaf::<KEPT>(alloc, texts, text, key, tokens)?;
@@ -213,12 +211,10 @@ fn take_value<'a, const KEPT: bool>(
     depth: u8,
     tokens: &mut Vec<Token<'a>>,
 ) -> Option<Rest<'a>>
-    ensures spelled { IfSome result (λ rest. (first : Token) × (inside : List Token)
-        × (tokens.new.items ≡ tokens.old.items ++ kept KEPT (first ∷ inside))
-        × Spells text.entry.text.now rest.text.now first inside depth) }
-    ensures string { IfSome result (λ rest. key ≡ true → (name : Token)
-        × (tokens.new.items ≡ tokens.old.items ++ kept KEPT (name ∷ []))
-        × SpellsString text.entry.text.now rest.text.now name) }
+    ensures spelled { IfSome result (λ rest. TakesValue KEPT tokens.old.items tokens.new.items
+        text.entry.text.now rest.text.now depth) }
+    ensures string { IfSome result (λ rest. key ≡ true
+        → TakesString KEPT tokens.old.items tokens.new.items text.entry.text.now rest.text.now) }
     ensures shorter { IfSome result (λ rest. length rest.text.now < length text.entry.text.now) }
 {
     // Each call's answer is taken apart before the ways join, so that the place in the line stays in
@@ -245,10 +241,8 @@ fn take_nested<'a, const KEPT: bool>(
     depth: u8,
     tokens: &mut Vec<Token<'a>>,
 ) -> Option<Rest<'a>>
-    ensures spelled { IfSome result (λ rest. (first : Token) × (inside : List Token)
-        × (tokens.new.items ≡ tokens.old.items ++ kept KEPT (first ∷ inside))
-        × Spells ((if object then 123 else 91) ∷ text.entry.text.now)
-        rest.text.now first inside depth) }
+    ensures spelled { IfSome result (λ rest. TakesValue KEPT tokens.old.items tokens.new.items
+        ((if object then 123 else 91) ∷ text.entry.text.now) rest.text.now depth) }
     ensures shorter { IfSome result (λ rest. length rest.text.now < length text.entry.text.now) }
 {
     let rest = take_inside::<KEPT>(alloc, texts, text, object, depth, tokens)?;
@@ -267,10 +261,8 @@ fn take_inside<'a, const KEPT: bool>(
     depth: u8,
     tokens: &mut Vec<Token<'a>>,
 ) -> Option<Rest<'a>>
-    ensures spelled { IfSome result (λ rest. (first : Token) × (inside : List Token)
-        × (tokens.new.items ≡ tokens.old.items ++ kept KEPT (first ∷ inside))
-        × Spells ((if object then 123 else 91) ∷ text.entry.text.now)
-        rest.text.now first inside depth) }
+    ensures spelled { IfSome result (λ rest. TakesValue KEPT tokens.old.items tokens.new.items
+        ((if object then 123 else 91) ∷ text.entry.text.now) rest.text.now depth) }
     ensures shorter { IfSome result (λ rest. length rest.text.now < length text.entry.text.now) }
 {
     let depth = depth.checked_sub(1)?;

@@ -1,17 +1,19 @@
 -- Lines, by what the reader of JSON and the reader of trees answer.
-use Rattle.std.proofs.Common.{◌≡◌, ℕ, List, true, false, Some, None, Result, Ok, Err, IfOk, subst, sym, ◌∙◌, inl, inr}
+use Rattle.std.proofs.Common.{◌≡◌, ℕ, List, true, false, Option, Some, None, Result, Ok, Err, IfOk, subst, sym, ◌∙◌, inl, inr}
 use Rattle.std.proofs.lemmas.Option.{none-some, same_Some}
 use Rattle.std.specs.Prelude.{IfErr}
 use Rattle.std.specs.Str.{IsUtf8, is_utf8}
 use Rattle.std.proofs.lemmas.Bool.{cases_Bool}
 use Rattle.std.proofs.lemmas.Str.{IsUtf8-from_is_utf8, is_utf8-from_IsUtf8}
 use Rattle.serde_json.specs.Data.{Data}
+use Rattle.serde_json.specs.Find.{get}
 use Rattle.serde_json.specs.Read.{read}
 use Rattle.serde_json.specs.Written.{has_float}
+use Rattle.sentry_json.specs.Keys.{at_keys}
 use Rattle.sentry_json.specs.Line.{tree_of}
 use Rattle.sentry_tables.specs.Cell.{Cell}
 use Rattle.sentry_tables.specs.Kind.{Kind}
-use Rattle.sentry_tables.specs.Reading.{Only, LineShows, LineRefused, Shown, Refused, TextShown, TextRefused, ReadsText, ShownAt, RefusedAt, TextShownAt, TextRefusedAt, ReadsTextAt}
+use Rattle.sentry_tables.specs.Reading.{Only, LineShows, LineRefused, Shown, Refused, TextShown, TextRefused, ReadsText, ShownAt, RefusedAt, IsShownWith, TextShownAt, TextRefusedAt, ReadsTextAt}
 use Rattle.sentry_tables.specs.declared.error.TreeError.{TreeError}
 use Rattle.sentry_tables.specs.declared.error.TreeError.TheVariants.{Misfit, Memory}
 
@@ -44,13 +46,6 @@ unfolding LineRefused
 line_refused P line d Misfit is h = λ x s. subst P (same_Some d x (sym is ∙ s)) h
 line_refused P line d Memory is h = tt
 
--- where it is refused of what the line's tree is read as, it is refused of the line
-pub line_refused_as : {A : Type 0} (P : Data → Type 0) (line : List ℕ) (d e : Data) (r : Result A TreeError) → tree_of line ≡ Some d → (P e → P d) → IfErr r (λ error. Only error (P e)) → IfErr r (λ error. Only error (LineRefused P line))
-unfolding LineRefused
-line_refused_as P line d e (Ok v) is means h = tt
-line_refused_as P line d e (Err Misfit) is means h = λ x s. subst P (same_Some d x (sym is ∙ s)) (means h)
-line_refused_as P line d e (Err Memory) is means h = tt
-
 pub no_line : (P : Data → Type 0) (line : List ℕ) (e : TreeError) → Only e (tree_of line ≡ None) → Only e (LineRefused P line)
 unfolding LineRefused
 no_line P line Misfit none = λ d s. absurd (none-some d (sym none ∙ s))
@@ -67,3 +62,9 @@ unfolding LineShows LineRefused TextShownAt TextRefusedAt ShownAt RefusedAt
 text_read_by_at now K f line (Ok v) ok err = ok
 text_read_by_at now K f line (Err Misfit) ok err = λ c s. err s.0 s.1 c s.2
 text_read_by_at now K f line (Err Memory) ok err = tt
+
+-- a line of which what stands at a key was read apart
+pub text_read_apart : (now : Cell) (k : List ℕ) (o : Option Data) (ks : List (List ℕ)) (K : Kind) (c x : Cell) (line : List ℕ)
+    → LineShows (λ d. ShownAt now K (at_keys ks d) c × (o ≡ get k d)) line → IsShownWith k o ks K c x → TextShownAt now K line x
+unfolding LineShows ShownAt IsShownWith TextShownAt
+text_read_apart now k o ks K c x line (d, is, both) completes = (d, is, completes now d (sym both.1) both.0)

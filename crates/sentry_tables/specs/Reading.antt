@@ -1,11 +1,11 @@
 -- What a reader of a tree answers.
-use Rattle.std.specs.Prelude.{◌≡◌, ◌↔◌, ℕ, List, Some, Result, Ok, Err}
+use Rattle.std.specs.Prelude.{◌≡◌, ℕ, List, [], ◌∷◌, bytes_eq, cond, Option, Some, Result, Ok, Err}
 use Rattle.serde_json.specs.Data.{Data}
 use Rattle.serde_json.specs.Find.{get}
 use Rattle.sentry_json.specs.Keys.{at_keys}
 use Rattle.sentry_json.specs.Line.{tree_of}
 use Rattle.sentry_tables.specs.Cell.{Cell}
-use Rattle.sentry_tables.specs.Kind.{Rule, Kind}
+use Rattle.sentry_tables.specs.Kind.{Rule, Kind, Rows, no_rows, row, keys}
 use Rattle.sentry_tables.specs.Shows.{Shows, RowShows}
 use Rattle.sentry_tables.specs.Laws.{TextShows}
 use Rattle.sentry_tables.specs.declared.error.TreeError.{TreeError}
@@ -40,9 +40,14 @@ abbrev pub ReadsRowAt : {A : Type 0} → Cell → List ℕ → Rule → Kind →
 ReadsRowAt now key r K f d (Ok v) = RowShownAt now key r K d (f v)
 ReadsRowAt now key r K f d (Err e) = Only e (RowRefusedAt now key r K d)
 
--- only the members of these keys matter to what an object shows
-unfoldable pub IsReadAt : List (List ℕ) → Kind → Type 0
-IsReadAt ks K = (now : Cell) (d : Data) (c : Cell) → Shows K now (at_keys ks d) c ↔ Shows K now d c
+-- the keys but this one, where it comes first
+abbrev pub keys_but : List ℕ → Rows → List (List ℕ)
+keys_but k no_rows = []
+keys_but k (row l r K rows) = cond (bytes_eq k l) (keys rows) (l ∷ keys_but k rows)
+
+-- with this at the key k, a tree whose members of the keys ks show c shows x
+unfoldable pub IsShownWith : List ℕ → Option Data → List (List ℕ) → Kind → Cell → Cell → Type 0
+IsShownWith k o ks K c x = (now : Cell) (d : Data) → get k d ≡ o → Shows K now (at_keys ks d) c → Shows K now d x
 
 -- ---- at every moment
 

@@ -1,10 +1,11 @@
 //! Reading of values from lines of JSON.
 
-ghost use Rattle.std.specs.Prelude.{◌≡◌, ◌↔◌, ◌++◌, ◌∷◌, [], IsTrue, IfOk, IfErr, IfSome, Some, None, false, map};
-ghost use Rattle.serde_json.specs.Data.{Data, no_members};
-ghost use Rattle.serde_json.specs.View.{view};
+ghost use Rattle.std.specs.Prelude.{◌≡◌, ◌↔◌, ◌++◌, ◌∷◌, [], IsTrue, IfOk, IfErr, IfSome, Some, None, false, map, option_map};
+ghost use Rattle.serde_json.specs.Data.{Data, no_members, object};
+ghost use Rattle.serde_json.specs.Find.{get};
+ghost use Rattle.serde_json.specs.View.{members_view, view};
 ghost use Rattle.serde_json.specs.Written.{has_float};
-ghost use Rattle.sentry_json.specs.Keys.{at_keys};
+ghost use Rattle.sentry_json.specs.Keys.{at_keys, is_among};
 ghost use Rattle.sentry_json.specs.Line.{tree_of};
 ghost use Rattle.sentry_json.specs.Sound.{IsSound};
 ghost use Rattle.sentry_json.specs.TapeView.{node_data};
@@ -18,7 +19,7 @@ use crate::read::FromTree;
 use crate::tree::has_float;
 use bumpalo::Bump;
 use sentry_json::{Node, Tape, TapeNode, Visitor};
-use serde_json::Value;
+use serde_json::{Map, Value};
 use std::alloc::Global;
 
 /// Returns whether no number in a tree, at any depth, is a float.
@@ -122,35 +123,32 @@ impl<'a> LineReader<'a> {
         }
     }
 
-    /// Reads a value from a line with a `reader` that the members of `keys` alone matter to.
+    /// Reads a long line that is an object, the member at `apart` apart from the others: the value
+    /// that `reader` makes of the members of `keys`, and the members of the object at `apart`, if
+    /// one stands there. Neither that object nor members of other keys leave tokens.
     ///
-    /// Of a long line, members of other keys take no memory, at any size.
-    ///
-    /// # Errors
-    ///
-    /// As of [`LineReader::read_by`].
-    #[tactic(auto, using(crate::proofs::Texts::line_shows, crate::proofs::Texts::line_refused))]
-    pub fn read_by_keys<T, R: ReadsNode<T>>(
+    /// `None` if the line isn't long, if it isn't such an object or can't be read, or if an
+    /// allocation fails: [`LineReader::read_by`] decides then.
+    pub fn read_apart<T, R: ReadsNode<T>>(
         &mut self,
         line: &'a [u8],
         keys: &[&str],
+        apart: &str,
         reader: R,
-    ) -> Result<T, TreeError>
-        requires shown { (d : Data) (value : T) →
-            R.shown reader (at_keys (map (λ key. key.now) keys.now) d) value
-            → R.shown reader d value }
-        requires refused { (d : Data) →
-            R.refused reader (at_keys (map (λ key. key.now) keys.now) d) → R.refused reader d }
-        ensures ok { IfOk result (λ value. LineShows (λ d. R.shown reader d value) line.now) }
-        ensures err { IfErr result (λ e. Only e (LineRefused (λ d. R.refused reader d) line.now)) }
+    ) -> Option<(T, Option<Map<String, Value>>)>
+        requires { is_among apart.now (map (λ key. key.now) keys.now) ≡ false }
+        ensures { IfSome result (λ x. LineShows (λ d.
+            R.shown reader (at_keys (map (λ key. key.now) keys.now) d) x.0
+            × (option_map (λ m. object (members_view m.entries)) x.1 ≡ get apart.now d)) line.now) }
     {
         if line.len() < LONG {
-            return self.read_by(line, reader);
+            return None;
         }
-        match self.tape.parse_at(line, keys) {
-            Some(root) => reader.read(self.alloc, &root),
-            None => read_as_tree(self.alloc, line, reader),
-        }
+        let (root, members) = self.tape.parse_at(line, keys, apart)?;
+        let Ok(value) = reader.read(self.alloc, &root) else {
+            return None;
+        };
+        Some((value, members))
     }
 
     /// Reads a value from a line.

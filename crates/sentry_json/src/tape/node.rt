@@ -217,7 +217,7 @@ fn grow(node: TapeNode<'_, '_>, alloc: Global) -> Result<Value, AllocError>
 }
 
 // Room is made for so many items at first; a shorter list gets room for its items alone.
-const FEW: usize = 4;
+pub(crate) const FEW: usize = 4;
 
 // Returns how many items an array has, or `FEW` if it has more.
 fn few_items(inside: &[Token<'_>]) -> usize {

@@ -10,10 +10,10 @@ use Rattle.sentry_json.proofs.tape.Tape.parse_at.Goals as goal
 
 pub returns : goal.returns
 returns c =
-    let t = c.in_ok-rest.ensures in
+    let t = c.in_ok-members.ensures in
     let text = c.in_ok-text.text.text.now in
     let front = c.skip_space.result.text.now in
-    let rest = c.in_ok-rest.rest.text.now in
+    let rest = c.in_ok-members.rest.text.now in
     let end = c.skip_space-end.result.text.now in
     let none : end ≡ [] = no_bytes end (c.if-not-is_empty.ensures) in
     let held : c.new.result.tokens.now ≡ c.take_members.new.tokens.items = search rules in
@@ -22,4 +22,5 @@ returns c =
       object (members_of t.0 no_members),
       parsed c.args.line.now text end (first ∷ t.0) first t.0 c.in_ok-text.ensures.text c.in_ok-text.ensures.utf8 none refl (value_behind text front end first t.0 127 c.skip_space.ensures.spaced (value_before front rest end first t.0 127 opened c.skip_space-end.ensures.spaced)) ∙ ap Some (value_object (length t.0) t.0),
       ap tokens_value (held ∙ t.3) ∙ value_object (length t.1) t.1 ∙ ap object t.4,
+      t.5,
     )

@@ -1,6 +1,6 @@
-use Rattle.std.proofs.Common.{rules, ◌≡◌, ◌∷◌, [], ◌++◌, false, refl, sym, ap, ◌∙◌, arith, append-nil, subst, if◌then◌else◌}
-use Rattle.sentry_json.specs.Tokens.{value_of, items_of, tokens_value}
-use Rattle.sentry_json.proofs.Lists.{and_then, and_none, means_next, visited_next}
+use Rattle.std.proofs.Common.{rules, ◌≡◌, ◌∷◌, [], ◌++◌, false, refl, ap, ◌∙◌, arith, subst, if◌then◌else◌}
+use Rattle.sentry_json.specs.Tokens.{value_of, tokens_value}
+use Rattle.sentry_json.proofs.Lists.{all_mean, means_next, visited_next}
 use Rattle.sentry_json.proofs.SoFar.{begins, empty, ends, next_value, skipped, value_before}
 use Rattle.sentry_json.proofs.TokenLists.{items_end}
 use Rattle.sentry_json.proofs.tape.list.visit_items.Goals as goal
@@ -27,10 +27,10 @@ returns-then-not-comma g c =
     let taken = subst (λ d. g.T.Visitor.visits c.loop-rest.visitor d c.visit.new.self) value (c.visit.ensures c.if-not-visit.false) in
     let close : end.0 ≡ 93 ∷ next = end.2 ∙ ap (λ is. (if is then 44 else 93) ∷ next) c.if-not-comma.true in
     let all = i.0 ++ (v.0 ∷ v.1) in
-    let mean = means_next i.0 i.1 v.0 v.1 v.3.closed i.3 in (
+    let items = i.1 ++ value_of v.0 v.1 ∷ [] in (
       all,
-      i.1 ++ value_of v.0 v.1 ∷ [],
-      ap items_of (sym (append-nil all)) ∙ mean [] ∙ ap (λ js. and_then (i.1 ++ value_of v.0 v.1 ∷ []) js) items_end ∙ and_none (i.1 ++ value_of v.0 v.1 ∷ []),
+      items,
+      all_mean all items (means_next i.0 i.1 v.0 v.1 v.3.closed i.3),
       ends false false inside c.loop-rest.left.text.now end.0 next i.0 v.0 v.1 125 126 refl i.2 (value_before c.loop-rest.left.text.now rest end.0 v.0 v.1 125 v.3 end.1) close (omega arith),
       visited_next g.T.Visitor.visits c.args.visitor.now i.1 (value_of v.0 v.1) c.loop-rest.visitor c.visit.new.self i.4 taken,
     )
