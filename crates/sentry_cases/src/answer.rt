@@ -106,13 +106,13 @@ fn of_hex(alloc: Global, name: &str, given: &str) -> Result<Value, AllocError> {
     }
 }
 
-/// The answer to a name and what is given: a line of JSON itself after `tree`, `tape` and `flat`, bytes in
-/// hex after `hex`, else JSON whose texts and numbers are handed over.
+/// The answer to a name and what is given: a line of JSON itself after `tree`, `tape`, `flat` and
+/// `apart`, bytes in hex after `hex`, else JSON whose texts and numbers are handed over.
 pub fn answer(alloc: Global, name: &str, given: &str) -> Result<Value, AllocError> {
     if let Some(name) = name.strip_prefix("hex ") {
         return of_hex(alloc, name, given);
     }
-    if name.starts_with("tree ") || name == "tape" || name == "flat" {
+    if name.starts_with("tree ") || matches!(name, "tape" | "flat" | "apart") {
         return match of_bytes(alloc, name, given.as_bytes())? {
             Some(answer) => Ok(answer),
             None => unknown(alloc),

@@ -6,7 +6,7 @@ use crate::envelopes::{
     of_frames, read, said_containers, said_envelope, said_losses, said_raw, said_steady,
 };
 use crate::filters::{of_answers, of_filter};
-use crate::form::{of_flat, of_tape};
+use crate::form::{of_apart, of_flat, of_tape};
 use crate::ledger::of_recorded;
 use crate::said::{as_tree, list, text};
 use crate::trees::of_tree;
@@ -53,6 +53,7 @@ pub fn of_bytes(alloc: Global, name: &str, bytes: &[u8]) -> Result<Option<Value>
     Ok(Some(match name {
         "tape" => of_tape(alloc, bytes)?,
         "flat" => of_flat(alloc, bytes)?,
+        "apart" => of_apart(alloc, bytes)?,
         "raw" => said_of(alloc, begun(alloc, "raw", bytes), said_raw)?,
         "envelope" => said_of(alloc, read(alloc, bytes), said_steady)?,
         "rewritten" => said_of(alloc, read(alloc, bytes), said_envelope)?,

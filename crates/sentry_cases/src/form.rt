@@ -300,6 +300,21 @@ fn found(alloc: Global, place: &Option<Scalar<'_>>) -> Result<Value, AllocError>
     }
 }
 
+/// What the members `a` and `b` leave of a line on a tape, and the object at `c` that is read apart,
+/// or null; `false` if the tape doesn't take the line so.
+pub fn of_apart(alloc: Global, line: &[u8]) -> Result<Value, AllocError> {
+    let texts = Bump::new(alloc);
+    let mut tape = Tape::new(alloc, &texts);
+    let Some((root, apart)) = tape.parse_at(line, &["a", "b"], "c") else {
+        return Ok(Value::from(false));
+    };
+    let object = match apart {
+        Some(members) => Value::Object(members),
+        None => Value::Null,
+    };
+    list(alloc, [root.to_value(alloc), Ok(object)])
+}
+
 /// What a line has at the keys `a` and `b` by the way without a tape; `false` if that doesn't take
 /// the line.
 pub fn of_flat(alloc: Global, line: &[u8]) -> Result<Value, AllocError> {
