@@ -47,31 +47,37 @@ impl Work {
         }
     }
 
-    /// Does the work once, and returns whether the envelope is accepted.
-    fn accepts(self, input: &Input) -> bool {
-        let Input { bytes, room } = input;
+    /// Returns a buffer for what is written of an input; the work may be done again with it.
+    fn buffer(self, input: &Input) -> Vec<u8> {
+        match self {
+            Work::OursRead | Work::TheirsRead => Vec::new(),
+            Work::OursBoth => vec![0; input.room],
+            Work::TheirsBoth => Vec::with_capacity(input.room),
+        }
+    }
+
+    /// Does the work once, with a buffer for what is written, and returns whether the envelope is
+    /// accepted.
+    fn accepts(self, bytes: &[u8], out: &mut Vec<u8>) -> bool {
         match self {
             Work::OursRead => curdmesa::check(bytes, NOW, SEED).is_ok(),
-            Work::OursBoth => {
-                let written = curdmesa::normalize_with_capacity(bytes, NOW, SEED, *room);
-                black_box(&written).is_ok()
-            }
+            Work::OursBoth => black_box(&curdmesa::normalize_into(bytes, NOW, SEED, out)).is_ok(),
             Work::TheirsRead => black_box(&Envelope::from_slice(bytes)).is_ok(),
             Work::TheirsBoth => {
-                let mut written = Vec::with_capacity(*room);
+                out.clear();
                 let envelope = Envelope::from_slice(bytes);
-                let accepted =
-                    envelope.is_ok_and(|envelope| envelope.to_writer(&mut written).is_ok());
-                black_box(&written);
+                let accepted = envelope.is_ok_and(|envelope| envelope.to_writer(&mut *out).is_ok());
+                black_box(&out);
                 accepted
             }
         }
     }
 
     fn time(self, input: &Input, times: u32) -> f64 {
+        let mut out = self.buffer(input);
         let start = Instant::now();
         for _ in 0..times {
-            black_box(self.accepts(black_box(input)));
+            black_box(self.accepts(black_box(&input.bytes), &mut out));
         }
         start.elapsed().as_secs_f64() / f64::from(times)
     }
@@ -225,8 +231,9 @@ fn refused() -> Error {
 /// Does one work `count` times over a file, for a tool that counts instructions.
 pub fn once(work: Work, file: &str, count: u64) -> Result<()> {
     let input = Input::read(Path::new(file))?.ok_or_else(refused)?;
+    let mut out = work.buffer(&input);
     for _ in 0..count {
-        if !work.accepts(black_box(&input)) {
+        if !work.accepts(black_box(&input.bytes), &mut out) {
             return Err(refused());
         }
     }
@@ -248,7 +255,8 @@ pub fn peak_once(work: Work, file: &str, room: usize) -> Result<()> {
     let bytes = fs::read(file)?;
     let input = Input { bytes, room };
     let before = peak()?;
-    if !work.accepts(black_box(&input)) {
+    let mut out = work.buffer(&input);
+    if !work.accepts(black_box(&input.bytes), &mut out) {
         return Err(refused());
     }
     println!("{}", peak()? - before);

@@ -27,29 +27,45 @@ where
     N: TryInto<Moment>,
     Error: From<N::Error>,
 {
-    normalize_with_capacity(bytes, now, seed, capacity(bytes.len()))
+    let mut out = Vec::new();
+    let length = normalize_into(bytes, now, seed, &mut out)?.len();
+    out.truncate(length);
+    Ok(out)
 }
 
-/// Like [`normalize`], with a buffer of `capacity` bytes at first.
+/// Like [`normalize`], into the front of `out`: returns the normal form that stands there.
 ///
-/// The library writes to a buffer of a fixed length, and keeps nothing. If the normal form is longer
-/// than `capacity`, the envelope is parsed again, and written to a buffer of the length it needs.
+/// The whole length of `out` is room for the normal form. It is lengthened if it is shorter than
+/// most normal forms of envelopes like this; if the normal form is longer all the same, `out` is
+/// lengthened again, and the envelope is parsed once more. So a program that hands in the same
+/// buffer with each envelope takes memory for it, and clears it, only where an envelope is longer
+/// than all before. What stands behind the normal form, or after an error, is of no meaning.
+///
+/// ```
+/// let mut out = Vec::new();
+/// for bytes in [&b"{\"dsn\":null}"[..], b"{}"] {
+///     let normal = curdmesa::normalize_into(bytes, (0, 0), 42, &mut out)?;
+///     assert_eq!(normal, b"{}\n");
+/// }
+/// # Ok::<(), curdmesa::Error>(())
+/// ```
 ///
 /// # Errors
 ///
 /// Those of [`normalize`].
-pub fn normalize_with_capacity<N>(
+pub fn normalize_into<'o, N>(
     bytes: &[u8],
     now: N,
     seed: u64,
-    capacity: usize,
-) -> Result<Vec<u8>, Error>
+    out: &'o mut Vec<u8>,
+) -> Result<&'o [u8], Error>
 where
     N: TryInto<Moment>,
     Error: From<N::Error>,
 {
     let now = now.try_into()?;
-    output::text(capacity, |out, needed| {
+    output::lengthen(out, capacity(bytes.len()))?;
+    let length = output::written(out, |out, needed| {
         // SAFETY: each pointer is a slice's, with its length, or a reference's; `out` and `needed`
         // are borrowed mutably.
         unsafe {
@@ -64,7 +80,8 @@ where
                 needed,
             )
         }
-    })
+    })?;
+    Ok(&out[..length])
 }
 
 /// Parses an envelope, and returns nothing of it.

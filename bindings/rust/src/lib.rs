@@ -38,9 +38,7 @@ mod sys;
 
 pub use auth::Auth;
 pub use dsn::Dsn;
-pub use envelope::{
-    check, filter, normalize, normalize_with_capacity, Filtered, Kinds, Loss, Losses,
-};
+pub use envelope::{check, filter, normalize, normalize_into, Filtered, Kinds, Loss, Losses};
 pub use error::Error;
 pub use frames::{frames, Frame};
 pub use kinds::{Category, ItemKind, Reason};

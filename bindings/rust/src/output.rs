@@ -3,34 +3,46 @@
 use crate::error::{done, Error};
 use std::ops::Range;
 
-/// Returns a buffer of `room` zeros.
-fn buffer(room: usize) -> Result<Vec<u8>, Error> {
-    let mut out = Vec::new();
-    out.try_reserve_exact(room)
-        .map_err(|_| Error::OutOfMemory)?;
-    out.resize(room, 0);
-    Ok(out)
+/// Lengthens a buffer to `room` bytes with zeros, if it is shorter.
+pub fn lengthen(out: &mut Vec<u8>, room: usize) -> Result<(), Error> {
+    if let Some(more) = room.checked_sub(out.len()) {
+        out.try_reserve_exact(more)
+            .map_err(|_| Error::OutOfMemory)?;
+        out.resize(room, 0);
+    }
+    Ok(())
 }
 
-/// Returns the text that a call writes: with room for `room` bytes at first, and with as much as
-/// the text needs if that is too little.
+/// Returns the length of the text that a call writes to the front of a buffer, which is lengthened
+/// if the text needs more.
 ///
-/// `call` gets the room and where to put the text's length, and returns a status. If that is `OK`, it
-/// has written a text of that length to the front of the room.
-pub fn text(
-    room: usize,
+/// `call` gets the buffer and where to put the text's length, and returns a status. If that is `OK`,
+/// it has written a text of that length to the front of the buffer.
+pub fn written(
+    out: &mut Vec<u8>,
     mut call: impl FnMut(&mut [u8], &mut u64) -> i32,
-) -> Result<Vec<u8>, Error> {
+) -> Result<usize, Error> {
     let mut needed = 0;
-    let mut out = buffer(room)?;
-    let mut status = call(&mut out, &mut needed);
+    let mut status = call(out, &mut needed);
     if Error::from_status(status) == Some(Error::NoRoom) {
-        out = buffer(usize::try_from(needed).map_err(|_| Error::OutOfMemory)?)?;
-        status = call(&mut out, &mut needed);
+        lengthen(
+            out,
+            usize::try_from(needed).map_err(|_| Error::OutOfMemory)?,
+        )?;
+        status = call(out, &mut needed);
     }
     done(status)?;
     let length = usize::try_from(needed).map_err(|_| Error::OutOfMemory)?;
     assert!(length <= out.len());
+    Ok(length)
+}
+
+/// Returns the text that a call writes: with room for `room` bytes at first, and with as much as
+/// the text needs if that is too little.
+pub fn text(room: usize, call: impl FnMut(&mut [u8], &mut u64) -> i32) -> Result<Vec<u8>, Error> {
+    let mut out = Vec::new();
+    lengthen(&mut out, room)?;
+    let length = written(&mut out, call)?;
     out.truncate(length);
     Ok(out)
 }

@@ -1,8 +1,8 @@
 //! Worked rows of the format: what is given, and what is due.
 
 use curdmesa::{
-    check, crontab, filter, frames, normalize, normalize_with_capacity, rfc3339, Auth, Category,
-    Dsn, Error, Frame, ItemKind, Kinds, Ledger, Loss, Moment, Reason,
+    check, crontab, filter, frames, normalize, normalize_into, rfc3339, Auth, Category, Dsn, Error,
+    Frame, ItemKind, Kinds, Ledger, Loss, Moment, Reason,
 };
 use std::time::{Duration, SystemTime, UNIX_EPOCH};
 
@@ -82,10 +82,29 @@ fn a_normal_form_may_be_longer_than_the_first_room() {
     given.extend(["\n{\"type\":\"attachment\",\"length\":0}\n"; 50]);
     let due = format!("{{}}\n{}", written.repeat(50));
     normalizes(&given, &due);
-    for capacity in [0, due.len() - 1, due.len(), due.len() + 1] {
-        let normal = normalize_with_capacity(given.as_bytes(), NOW, 42, capacity);
-        assert_eq!(normal.as_deref(), Ok(due.as_bytes()));
+    for length in [0, due.len() - 1, due.len(), due.len() + 1] {
+        let mut out = vec![1; length];
+        let normal = normalize_into(given.as_bytes(), NOW, 42, &mut out);
+        assert_eq!(normal, Ok(due.as_bytes()));
+        assert_eq!(out.len(), length.max(due.len()));
     }
+}
+
+#[test]
+fn a_buffer_serves_one_envelope_after_another() {
+    let mut out = Vec::new();
+    for given in [&event_and_attachment(), "{}", "{", &event()] {
+        let length = out.len();
+        let normal = normalize_into(given.as_bytes(), NOW, 42, &mut out).map(<[u8]>::to_vec);
+        assert_eq!(normal, normalize(given.as_bytes(), NOW, 42));
+        assert!(out.len() >= length);
+    }
+    let length = out.len();
+    assert_eq!(
+        normalize_into(b"{}", (0, 1_000_000_000), 0, &mut out),
+        Err(Error::NoMoment)
+    );
+    assert_eq!(out.len(), length);
 }
 
 #[test]
