@@ -18,8 +18,8 @@
  * - Functions aren't called from a signal handler, nor in the forked child of a process with
  *   threads. Each calls malloc, realloc and free of the program, and keeps nothing allocated.
  * - There are 128 KiB of stack: as measured, an envelope whose JSON nests as deep as it may takes
- *   96. What memory a call takes grows with the input, and can be 150 times as much: limit the
- *   length of what you hand in.
+ *   96. What memory a call takes grows with the input, as measured up to 165 times its length:
+ *   limit the length of what you hand in.
  *
  * Buffers: a function with `out`, `out_len` and `needed` writes a text of `*needed` bytes, without
  * a terminating zero byte, to the front of `out`, and leaves the rest of `out` as it was. If the

@@ -19,7 +19,20 @@ import threading
 from dataclasses import dataclass
 from datetime import datetime, timedelta, timezone
 from pathlib import Path
-from typing import Callable, Iterable, Iterator, List, NamedTuple, Optional, Tuple, Union
+from typing import (
+    Callable, Iterable, Iterator, List, NamedTuple, Optional, Tuple, Type, TypeVar, Union)
+
+# All names but `filter`, which would hide Python's own where all are imported.
+__all__ = [
+    "Auth", "AuthError", "AuthInvalidVersion", "AuthMissingPublicKey", "AuthNonSentry",
+    "Category", "Dsn", "DsnError", "DsnInvalidProjectId", "DsnInvalidScheme", "DsnInvalidUrl",
+    "DsnNoProjectId", "DsnNoUsername", "EnvelopeError", "Error", "Filtered", "Frame",
+    "InvalidArgument", "InvalidHeader", "InvalidItemHeader", "InvalidItemPayload",
+    "InvalidText", "ItemKind", "Ledger", "LedgerFull", "Loss", "MissingHeader",
+    "MissingItemHeader", "MissingNewline", "Moment", "NoMoment", "NoRoom", "NotUtf8",
+    "NothingLeft", "OutOfMemory", "Reason", "Status", "UnexpectedEof", "check",
+    "crontab_check", "error_of", "frames", "normalize", "rfc3339_format", "rfc3339_parse",
+]
 
 # ---- statuses ------------------------------------------------------------------------------------
 
@@ -64,9 +77,10 @@ class Error(Exception):
         self.status = self.args[0]
 
     def __str__(self) -> str:
-        if isinstance(self.status, Status):
-            return self.status.name
-        return f"unknown status {self.status}"
+        if not isinstance(self.status, Status):
+            return f"unknown status {self.status}"
+        text = _ERRORS[self.status].__doc__  # None with -OO
+        return " ".join(text.split()) if text else self.status.name
 
 
 class EnvelopeError(Error):
@@ -288,7 +302,8 @@ class Category(enum.IntEnum):
 
 
 class Reason(enum.IntEnum):
-    """A discard reason of client reports."""
+    """A discard reason of client reports. SEND_ERROR is 0, and so false where a truth is asked for:
+    compare with None where a reason may be absent."""
 
     SEND_ERROR = 0
     INTERNAL_SDK_ERROR = 1
@@ -443,8 +458,8 @@ class Moment(NamedTuple):
     def of(cls, time: When) -> Moment:
         """Converts a datetime, which needs a time zone, or a pair of seconds and nanoseconds.
 
-        Raises ValueError for a datetime without a time zone, and NoMoment for a number that is
-        negative or too large for C.
+        Raises ValueError for a datetime without a time zone, TypeError for anything else but such a
+        pair of whole numbers, and NoMoment for a number that is negative or too large for C.
         """
         if isinstance(time, datetime):
             if time.utcoffset() is None:
@@ -452,6 +467,8 @@ class Moment(NamedTuple):
             since = time - datetime(1970, 1, 1, tzinfo=timezone.utc)
             secs = since // timedelta(seconds=1)
             time = secs, (since - timedelta(seconds=secs)) // timedelta(microseconds=1) * 1000
+        if not isinstance(time, tuple) or len(time) != 2:
+            raise TypeError(f"a datetime, a pair of numbers or a Moment is wanted, not {time!r}")
         moment = cls(*map(operator.index, time))
         if not (0 <= moment.secs < 2**64 and 0 <= moment.nanos < 2**32):
             raise NoMoment()
@@ -472,6 +489,16 @@ def _whole(number: int) -> int:
     if not 0 <= number < 2**64:
         raise ValueError(f"not a whole number of 64 bits: {number}")
     return number
+
+
+_Member = TypeVar("_Member", bound=enum.IntEnum)
+
+
+def _member(kind: Type[_Member], value: int) -> _Member:
+    """Returns the member of an enumeration of this value; a member of another one is refused."""
+    if isinstance(value, (enum.Enum, bool)) and not isinstance(value, kind):
+        raise TypeError(f"a {kind.__name__} is wanted, not {value!r}")
+    return kind(value)
 
 
 def rfc3339_parse(text: Text) -> Moment:
@@ -538,7 +565,8 @@ class Loss:
     """A quantity of a category that is lost for a reason."""
 
     category: Category
-    #: The discard reason, where one is known: that of a client report's item.
+    #: The discard reason, where one is known: that of a client report's item. Compare it with None,
+    #: since the first reason is 0.
     reason: Optional[Reason]
     #: The quantity; it stops at 2^64-1.
     quantity: int
@@ -575,10 +603,11 @@ def filter(
     attachment is also removed if no event and no transaction is kept. With `keep_headers` all
     envelope headers but the event id stay; without, none does. The event id becomes that of the
     first event or transaction that is left. The other arguments and the errors are those of
-    normalize; ValueError also for a number that is no ItemKind.
+    normalize; ValueError also for a number that is no ItemKind, TypeError for a member of another
+    enumeration.
     """
     data, (secs, nanos), seed = _bytes(data), Moment.of(now), _whole(seed)
-    bits = sum(1 << ItemKind(kind) for kind in set(kinds))
+    bits = sum(1 << kind for kind in {_member(ItemKind, kind) for kind in kinds})
     sums = (_U64 * _LOSSES)()
     try:
         left = _text(
@@ -733,17 +762,18 @@ class Ledger:
         """Adds a loss.
 
         Raises LedgerFull exactly if the sum would exceed 2^64-1, and ValueError for a quantity
-        outside 0 to 2^64-1 or a number that is no Category or Reason; the ledger is unchanged.
+        outside 0 to 2^64-1 or a number that is no Category or Reason, TypeError for a member of
+        another enumeration, as where the two are exchanged; the ledger is unchanged.
         """
-        pair = Category(category), Reason(reason)
+        pair = _member(Category, category), _member(Reason, reason)
         with self._lock:
             _done(_library.sentry_ledger_record(self._sums, _SUMS, *pair, _whole(quantity)))
 
     def held(self, category: Category, reason: Reason) -> int:
         """Returns the quantity of a category and a reason that the ledger holds. Raises ValueError
-        for a number that is no Category or Reason."""
+        for a number that is no Category or Reason, TypeError for a member of another enumeration."""
         quantity = _U64(0)
-        pair = Category(category), Reason(reason)
+        pair = _member(Category, category), _member(Reason, reason)
         with self._lock:
             _done(_library.sentry_ledger_held(self._sums, _SUMS, *pair, quantity))
         return quantity.value

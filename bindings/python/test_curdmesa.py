@@ -122,7 +122,7 @@ class Envelopes(unittest.TestCase):
             check(b"{}", before, 0)
         with self.assertRaises(ValueError):
             check(b"{}", datetime(2020, 1, 1), 0)
-        for time in (1.5, 0), (1, 0.0), ("1", 0):
+        for time in (1.5, 0), (1, 0.0), ("1", 0), (1,), (1, 2, 3), 5, 1.5, "1", None:
             with self.subTest(time), self.assertRaises(TypeError):
                 check(b"{}", time, 0)
 
@@ -135,6 +135,11 @@ class Envelopes(unittest.TestCase):
                 normalize(given, NOW, seed)
         with self.assertRaises(TypeError):
             normalize(given, NOW, 1.0)
+
+    def test_types_of_another_enumeration(self):
+        for kinds in [Category.SESSION], [ItemKind.EVENT, Reason.BEFORE_SEND], [True]:
+            with self.subTest(kinds), self.assertRaises(TypeError):
+                filter(EVENT, NOW, 0, kinds)
 
     def test_other_bytes(self):
         for data in bytearray(ATTACHMENT), memoryview(ATTACHMENT):
@@ -160,7 +165,7 @@ class Envelopes(unittest.TestCase):
 def without_attachments(data: bytes, now: datetime, seed: int, ledger: Ledger):
     """Removes attachments and hands on what is left; what is lost is recorded, under its own reason
     where it has one."""
-    filtered = filter(data, now, seed, {ItemKind.ATTACHMENT}, keep_headers=True)
+    filtered = curdmesa.filter(data, now, seed, {ItemKind.ATTACHMENT}, keep_headers=True)
     for loss in filtered.losses:
         reason = Reason.EVENT_PROCESSOR if loss.reason is None else loss.reason
         ledger.record(loss.category, reason, loss.quantity)
@@ -430,8 +435,12 @@ class Ledgers(unittest.TestCase):
         for arguments in (12, 0, 1), (0, 9, 1), (0, 0, -1), (0, 0, 2**64):
             with self.subTest(arguments), self.assertRaises(ValueError):
                 Ledger().record(*arguments)
+        exchanged = (Reason.BEFORE_SEND, Category.ERROR, 5)
+        for arguments in (0, 0, 1.0), exchanged, (True, 0, 1), (0, False, 1):
+            with self.subTest(arguments), self.assertRaises(TypeError):
+                Ledger().record(*arguments)
         with self.assertRaises(TypeError):
-            Ledger().record(0, 0, 1.0)
+            Ledger().held(*exchanged[:2])
 
     def test_threads_share_a_ledger(self):
         ledger = Ledger()
@@ -497,9 +506,12 @@ class Errors(unittest.TestCase):
                 self.assertIsNot(type(error), curdmesa.Error)
                 name = type(error).__name__
                 self.assertEqual(name.lower(), status.name.replace("_", "").lower())
-                self.assertEqual((error.status, str(error)), (status, status.name))
+                self.assertEqual(error.status, status)
                 self.assertEqual(pickle.loads(pickle.dumps(error)).status, status)
         self.assertEqual(str(curdmesa.error_of(99)), "unknown status 99")
+        texts = {str(curdmesa.error_of(status)) for status in Status if status != Status.OK}
+        self.assertEqual(len(texts), len(Status) - 1)
+        self.assertIn("A payload isn't one JSON text without floats that reads as its item type.", texts)
         self.assertIsInstance(curdmesa.error_of(17), MemoryError)
 
 
