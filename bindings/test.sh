@@ -5,7 +5,7 @@
 #
 # LIB is libsentry_c.a or the folder with it (crates/sentry_c/out), KIT the folder of the Rattle kit
 # with liblibc_c.a (the folder c beside the file that `rt doc` names). A language whose tool is
-# absent is skipped. Status 1 if a test fails, or if an archive is absent.
+# absent is skipped, or with ALL=1 failed. Status 1 if a test fails, or if an archive is absent.
 cd "$(dirname "$0")/.." || exit 1
 
 whole() { (cd "$(dirname "$1")" 2>/dev/null && printf '%s/%s\n' "$(pwd)" "$(basename "$1")"); }
@@ -50,6 +50,7 @@ run() {
     for tool in "$@"; do
         if ! command -v "$tool" > /dev/null; then
             echo "bindings: $language skipped, no $tool"
+            [ -z "$ALL" ] || failed=1
             return
         fi
     done
