@@ -210,9 +210,11 @@ pub fn url_trees()
         IsNormal url_kind c }
 {}
 
-/// Each valid URL of the schemes `http`, `https`, `ws`, `wss` and `ftp` is readable; a valid URL
-/// that the parser could have written is readable whatever its scheme.
+/// Each valid URL of the schemes `http`, `https`, `ws`, `wss` and `ftp` reads back from its own
+/// text, so it is readable; a valid URL that the parser could have written is readable whatever its
+/// scheme.
 pub fn special_urls_are_readable()
+    ensures back { (url : Parts) → IsValid url → kind_of url ≡ SpecialNotFile → UrlReadsBack url }
     ensures special { (url : Parts) → IsValid url → kind_of url ≡ SpecialNotFile →
         IsReadable url_kind (url_cell url) }
     ensures canonical { (url : Parts) → IsValid url → IsCanonical url →
