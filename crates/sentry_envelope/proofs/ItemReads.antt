@@ -2,10 +2,12 @@
 use Rattle.std.proofs.Common.{◌≡◌, ◌≢◌, ℕ, List, [], ◌∷◌, ◌++◌, refl, sym, ap, subst}
 use Rattle.std.specs.Prelude.{◌↔◌, ⊤, map, Some, Result, Ok, Err, OnOk}
 use Rattle.std.proofs.lemmas.List.{map-append}
-use Rattle.sentry_tables.specs.Cell.{Cell, absent}
+use Rattle.sentry_tables.specs.Cell.{Cell}
 use Rattle.sentry_tables.specs.Kind.{Kind}
 use Rattle.sentry_tables.specs.Laws.{TextShows}
-use Rattle.sentry_tables.specs.Reading.{TextShown, TextRefused, TextShownAt, TextRefusedAt}
+use Rattle.sentry_tables.specs.Reading.{ReadsText, ReadsTextAt, TextShown, TextRefused, TextShownAt, TextRefusedAt}
+use Rattle.sentry_tables.specs.declared.error.TreeError.{TreeError}
+use Rattle.sentry_tables.specs.declared.error.TreeError.TheVariants.{Misfit, Memory}
 use Rattle.sentry_items.specs.View.{attachment_view}
 use Rattle.sentry_items.specs.declared.attachment.Attachment.{Attachment}
 use Rattle.sentry_items.specs.declared.replay_recording.ReplayRecording.{ReplayRecording}
@@ -51,35 +53,34 @@ module _ (frame : Frame) (h : ItemHeader) (read : read_header item_words frame.h
 
 -- ---- payloads of JSON
 
+-- what is right at every moment is right at each
+pub at_moment : {A : Type 0} (K : Kind) (f : A → Cell) (line : List ℕ) (read : Result A TreeError) (now : Cell) → ReadsText K f line read → ReadsTextAt now K f line read
+unfolding TextShown TextRefused TextShownAt TextRefusedAt
+at_moment K f line (Ok v) now shown = shown now
+at_moment K f line (Err Misfit) now none = none now
+at_moment K f line (Err Memory) now none = tt
+
 module _ (frame : Frame) (k : ItemKind) (K : Kind) (kind : IsOfKind frame k) (fits : IsJson (form_of k) K) where
   -- the type's payloads show what JSON of the kind does
   shows_value : (now : Cell) (h : Header) (c : Content) → ContentShowsAt item_types (kind_place k) now h frame.payload c ↔ IsValue (TextShows K now frame.payload) c
   shows_value now h c = subst (λ X. X ↔ IsValue (TextShows K now frame.payload) c) (sym (shows_at (type_at k) now h frame.payload c)) (fits.same now h frame.payload c)
 
   -- a value of the type that it shows is an item that the frame shows
-  pub value_added_at : (now c : Cell) (old new : List EnvelopeItem) → TextShownAt now K frame.payload c → IsValueAdded k c old new → IsAdded now frame old new
+  pub value_added : (now c : Cell) (old new : List EnvelopeItem) → TextShownAt now K frame.payload c → IsValueAdded k c old new → IsAdded now frame old new
   unfolding profile TextShownAt IsOfKind IsAdded
-  value_added_at now c old new shown (i, same, more) =
+  value_added now c old new shown (i, same, more) =
       let (h, read, place) = kind in
       let shows : ItemShows profile now frame (item (kind_place k) (value c)) = (h, read, place, (shows_value now h (value c)).1 shown) in
       (i, more, subst (λ v. ItemShows profile now frame (placed v)) (sym same) shows)
 
-  pub value_added : (c : Cell) (old new : List EnvelopeItem) → TextShown K frame.payload c → IsValueAdded k c old new → (now : Cell) → IsAdded now frame old new
-  unfolding TextShown TextShownAt
-  value_added c old new shown added now = value_added_at now c old new (shown now) added
-
   -- where it shows none, the frame is refused
-  pub value_refused_at : (now : Cell) → TextRefusedAt now K frame.payload → FrameIsRefused profile frame
+  pub value_refused : (now : Cell) → TextRefusedAt now K frame.payload → FrameIsRefused profile frame
   unfolding profile TextRefusedAt IsOfKind
-  value_refused_at now none = frame_refused profile profile_lawful frame now (λ i shows.
+  value_refused now none = frame_refused profile profile_lawful frame now (λ i shows.
       let (h, read, place) = kind in
       let (c, shown) = header_shows profile now frame h i read shows in
       let there = subst (λ n. ContentShowsAt item_types n now h frame.payload c) place shown in
       no_value (TextShows K now frame.payload) none c ((shows_value now h c).0 there))
-
-  pub value_refused : TextRefused K frame.payload → FrameIsRefused profile frame
-  unfolding TextRefused TextRefusedAt
-  value_refused none = value_refused_at absent (none absent)
 
 -- ---- after items that stand
 

@@ -12,7 +12,7 @@ ghost use Rattle.sentry_framing.specs.declared.kind.ItemKind.TheVariants as kind
 ghost use Rattle.sentry_items.specs.Containers.{container_cell};
 ghost use Rattle.sentry_items.specs.declared.container.ItemContainer.TheVariants as containers;
 ghost use Rattle.sentry_tables.specs.Cell.{Cell};
-ghost use Rattle.sentry_tables.specs.Reading.{ReadsText};
+ghost use Rattle.sentry_tables.specs.Reading.{ReadsTextAt};
 ghost use Rattle.sentry_envelope.specs.ItemAdded.{IsAdded, IsJson, IsNotAdded, IsOfKind, IsValueAdded};
 ghost use Rattle.sentry_envelope.specs.SentryProfile.{form_of};
 ghost use Rattle.sentry_framing.specs.View.{frame_of};
@@ -20,14 +20,13 @@ ghost use Rattle.sentry_moments.specs.Moments.{moment_cell};
 
 use crate::timed::{read_apart_at, read_at};
 use rand_core::Rng;
-use sentry_event::{Event, ReadApart, Transaction};
+use sentry_event::{Event, Transaction};
 use sentry_framing::{EnvelopeError, ItemFrame, ItemKind};
 use sentry_items::{EnvelopeItem, ItemContainer, Listed, read_listed};
 use sentry_moments::Moment;
 use sentry_records::{Log, Metric, MonitorCheckIn, SessionAggregates, SessionUpdate, UserReport};
 use sentry_reports::ReportRows;
-use sentry_rows::FromTreeAt;
-use sentry_tables::{FromTree, LineReader, Member, TreeError};
+use sentry_tables::{LineReader, Member, TreeError};
 use std::alloc::AllocError;
 
 // A type of values that payloads of JSON hold.
@@ -144,7 +143,7 @@ impl Payload for ReportRows {
 }
 
 // Appends the item of a frame whose payload is JSON.
-#[tactic(auto, using(crate::specs::ItemAdded::alone, crate::specs::ItemAdded::listed))]
+#[tactic(auto, using(crate::specs::ItemAdded::alone, crate::specs::ItemAdded::listed, crate::proofs::ItemReads::at_moment))]
 #[inline(never)]
 pub(crate) fn add_json_item<'a, R: Rng>(
     lines: &mut LineReader<'a>,
@@ -161,41 +160,47 @@ pub(crate) fn add_json_item<'a, R: Rng>(
         (IsAdded (moment_cell now) (frame_of frame.now) items.old.items items.new.items) }
     ensures err { IfErr result (IsNotAdded (frame_of frame.now)) }
 {
+    let payload = frame.payload;
     match kind {
         ItemKind::Event => {
-            add_value_apart::<Box<Event<'static>>, R>(lines, frame, now, ids, items)
+            let read: Result<Box<Event<'static>>, TreeError> = read_apart_at(
+                lines, payload, now, ids,
+            );
+            add_read(read, frame, items)
         }
         ItemKind::SessionUpdate => {
-            add_value_at::<SessionUpdate<'static>, R>(lines, frame, now, ids, items)
+            add_read(
+                read_at::<SessionUpdate<'static>, R>(lines, payload, now, ids),
+                frame,
+                items,
+            )
         }
-        ItemKind::SessionAggregates => add_value::<SessionAggregates<'static>>(lines, frame, items),
+        ItemKind::SessionAggregates => {
+            add_read(
+                lines.read::<SessionAggregates<'static>>(payload),
+                frame,
+                items,
+            )
+        }
         ItemKind::Transaction => {
-            add_value_apart::<Box<Transaction<'static>>, R>(lines, frame, now, ids, items)
+            let read: Result<Box<Transaction<'static>>, TreeError> = read_apart_at(
+                lines, payload, now, ids,
+            );
+            add_read(read, frame, items)
         }
-        ItemKind::MonitorCheckIn => add_value::<MonitorCheckIn>(lines, frame, items),
-        ItemKind::UserReport => add_value::<UserReport>(lines, frame, items),
-        ItemKind::Logs => add_read(read_listed::<Log>(lines, frame.payload), frame, items),
-        ItemKind::Metrics => add_read(read_listed::<Metric>(lines, frame.payload), frame, items),
-        ItemKind::ClientReport => add_value_at::<ReportRows, R>(lines, frame, now, ids, items),
+        ItemKind::MonitorCheckIn => add_read(lines.read::<MonitorCheckIn>(payload), frame, items),
+        ItemKind::UserReport => add_read(lines.read::<UserReport>(payload), frame, items),
+        ItemKind::Logs => add_read(read_listed::<Log>(lines, payload), frame, items),
+        ItemKind::Metrics => add_read(read_listed::<Metric>(lines, payload), frame, items),
+        ItemKind::ClientReport => {
+            add_read(
+                read_at::<ReportRows, R>(lines, payload, now, ids),
+                frame,
+                items,
+            )
+        }
         ItemKind::Attachment | ItemKind::ReplayRecording => unreachable!(),
     }
-}
-
-// Appends the item of a frame whose payload is a value of the type.
-#[inline(never)]
-fn add_value<'a, T: FromTree + Payload>(
-    lines: &mut LineReader<'a>,
-    frame: &ItemFrame<'a>,
-    items: &mut Vec<EnvelopeItem>,
-) -> Result<(), EnvelopeError>
-    requires of_kind { IsOfKind (frame_of frame.now) T.item_kind }
-    requires fits { IsJson (form_of T.item_kind) T.kind }
-    requires held { (v : T) → T.cell v ≡ T.cell_of v }
-    ensures ok { (now : Cell) →
-        OnOk result (IsAdded now (frame_of frame.now) items.old.items items.new.items) }
-    ensures err { IfErr result (IsNotAdded (frame_of frame.now)) }
-{
-    add_read(lines.read::<T>(frame.payload), frame, items)
 }
 
 // Appends the item of a frame whose payload was read.
@@ -207,60 +212,12 @@ fn add_read<T: Member + Payload>(
     requires of_kind { IsOfKind (frame_of frame.now) T.item_kind }
     requires fits { IsJson (form_of T.item_kind) T.kind }
     requires held { (v : T) → T.cell v ≡ T.cell_of v }
-    requires read { ReadsText T.kind T.cell_of frame.now.payload.now read }
-    ensures ok { (now : Cell) →
+    ensures ok { (now : Cell) → ReadsTextAt now T.kind T.cell_of frame.now.payload.now read →
         OnOk result (IsAdded now (frame_of frame.now) items.old.items items.new.items) }
-    ensures err { IfErr result (IsNotAdded (frame_of frame.now)) }
+    ensures err { (now : Cell) → ReadsTextAt now T.kind T.cell_of frame.now.payload.now read →
+        IfErr result (IsNotAdded (frame_of frame.now)) }
 {
     let value = match read {
-        Ok(value) => value,
-        Err(error) => return Err(payload_error(error)),
-    };
-    value.push_to(items)?;
-    Ok(())
-}
-
-// The same of a payload whose absent moments and ids are filled.
-#[inline(never)]
-fn add_value_at<'a, T: FromTreeAt + Payload, R: Rng>(
-    lines: &mut LineReader<'a>,
-    frame: &ItemFrame<'a>,
-    now: Moment,
-    ids: &mut R,
-    items: &mut Vec<EnvelopeItem>,
-) -> Result<(), EnvelopeError>
-    requires of_kind { IsOfKind (frame_of frame.now) T.item_kind }
-    requires fits { IsJson (form_of T.item_kind) T.kind }
-    requires held { (v : T) → T.cell v ≡ T.cell_of v }
-    ensures ok { OnOk result
-        (IsAdded (moment_cell now) (frame_of frame.now) items.old.items items.new.items) }
-    ensures err { IfErr result (IsNotAdded (frame_of frame.now)) }
-{
-    let value: T = match read_at(lines, frame.payload, now, ids) {
-        Ok(value) => value,
-        Err(error) => return Err(payload_error(error)),
-    };
-    value.push_to(items)?;
-    Ok(())
-}
-
-// The same of a payload whose additional data is read apart.
-#[inline(never)]
-fn add_value_apart<'a, T: ReadApart + Payload, R: Rng>(
-    lines: &mut LineReader<'a>,
-    frame: &ItemFrame<'a>,
-    now: Moment,
-    ids: &mut R,
-    items: &mut Vec<EnvelopeItem>,
-) -> Result<(), EnvelopeError>
-    requires of_kind { IsOfKind (frame_of frame.now) T.item_kind }
-    requires fits { IsJson (form_of T.item_kind) T.kind }
-    requires held { (v : T) → T.cell v ≡ T.cell_of v }
-    ensures ok { OnOk result
-        (IsAdded (moment_cell now) (frame_of frame.now) items.old.items items.new.items) }
-    ensures err { IfErr result (IsNotAdded (frame_of frame.now)) }
-{
-    let value: T = match read_apart_at(lines, frame.payload, now, ids) {
         Ok(value) => value,
         Err(error) => return Err(payload_error(error)),
     };
