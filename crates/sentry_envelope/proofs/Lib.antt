@@ -1,5 +1,4 @@
 pub mod Sent
-pub mod Texts
 pub mod Demands
 pub mod HeaderValues
 pub mod HeadersFilled

@@ -14,5 +14,4 @@ pub mod ItemsLeft
 pub mod OneEnvelope
 pub mod Profile
 pub mod SentryProfile
-pub mod Texts
 pub mod Accepted

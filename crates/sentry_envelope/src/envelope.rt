@@ -6,7 +6,6 @@ use crate::headers::{EnvelopeHeaders, read_header_line};
 use crate::items::{EnvelopeItemIter, IntoItems};
 use crate::plain::items_are_plain;
 use crate::read::read_items;
-use crate::text::Text;
 use crate::write::write_envelope;
 use bumpalo::Bump;
 use rand_core::Rng;
@@ -14,6 +13,7 @@ use sentry_event::Event;
 use sentry_framing::{EnvelopeError, Frames};
 use sentry_items::EnvelopeItem;
 use sentry_items::counted::CountedWriter;
+use sentry_items::text::Text;
 use sentry_moments::Moment;
 use sentry_tables::{LineReader, Member};
 use std::alloc::{AllocError, AllocFailed, Global};
@@ -62,7 +62,7 @@ impl Envelope {
     ghost use Rattle.sentry_envelope.specs.HeaderFields.{headers_cell};
     ghost use Rattle.sentry_envelope.specs.ItemsLeft.{items_left, owned_items_left};
     ghost use Rattle.sentry_envelope.specs.SentryProfile.{profile};
-    ghost use Rattle.sentry_envelope.specs.Texts.{bytes_of};
+    ghost use Rattle.sentry_items.specs.Texts.{bytes_of};
 
     /// Creates a structured envelope without header fields and items.
     pub fn new(alloc: Global) -> Envelope

@@ -17,7 +17,6 @@ mod plain;
 mod read;
 pub mod reader;
 mod remake;
-mod text;
 pub mod timed;
 mod write;
 

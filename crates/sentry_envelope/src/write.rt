@@ -11,13 +11,13 @@ ghost use Rattle.sentry_envelope.specs.EnvelopeView.{item_view, AreStoredAndPlai
 ghost use Rattle.sentry_envelope.specs.HeaderFields.{header_kind, headers_cell};
 ghost use Rattle.sentry_envelope.specs.ItemText.{AppendsValue};
 ghost use Rattle.sentry_envelope.specs.SentryProfile.{profile};
-ghost use Rattle.sentry_envelope.specs.Texts.{bytes_of};
+ghost use Rattle.sentry_items.specs.Texts.{bytes_of};
 
 use crate::headers::EnvelopeHeaders;
-use crate::text::Text;
 use sentry_items::EnvelopeItem;
 use sentry_items::header::{write_attachment_header, write_container_header, write_short_header};
 use sentry_items::item::write_payload;
+use sentry_items::text::Text;
 use sentry_tables::write_text;
 use std::alloc::{AllocError, Global};
 

@@ -5,5 +5,6 @@ pub mod HeaderText
 pub mod Runs
 pub mod Made
 pub mod Sent
+pub mod Texts
 pub mod Cut
 pub mod SameLosses

@@ -7,6 +7,7 @@ pub mod HeaderText
 pub mod Made
 pub mod Meets
 pub mod Payload
+pub mod Texts
 pub mod View
 pub mod Losses
 pub mod Sizes

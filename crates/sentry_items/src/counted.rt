@@ -17,8 +17,8 @@ pub struct SendFailed;
 /// An interrupted write counts as failed.
 #[derive(Drop)]
 pub struct CountedWriter<W> {
-    inner: W,
-    failures: u64,
+    pub(crate) inner: W,
+    pub(crate) failures: u64,
 }
 
 impl<W> CountedWriter<W> {
@@ -145,7 +145,7 @@ fn write_counting<W: Write>(bytes: &[u8], writer: &mut W, failures: &mut u64) ->
 }
 
 // Writes a whole text by as many writes as needed, and counts a failure in `failures`.
-fn send_counting<W: Write>(
+pub(crate) fn send_counting<W: Write>(
     text: &[u8],
     writer: &mut W,
     failures: &mut u64,

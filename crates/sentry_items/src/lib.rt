@@ -13,6 +13,7 @@ mod listed;
 pub mod loss;
 pub mod replay_recording;
 mod sizes;
+pub mod text;
 
 pub use attachment::{Attachment, AttachmentWriteError};
 pub use attachment_type::AttachmentType;

@@ -1,5 +1,5 @@
-use Rattle.sentry_envelope.specs.Texts.{bytes_of, parts_bytes}
-use Rattle.sentry_envelope.proofs.Texts.{end_grows, rest_sent}
+use Rattle.sentry_items.specs.Texts.{bytes_of, parts_bytes}
+use Rattle.sentry_items.proofs.Texts.{end_grows, rest_sent}
 use Rattle.sentry_envelope.proofs.write.end_frame.Goals as goal
 
 pub returns : goal.returns

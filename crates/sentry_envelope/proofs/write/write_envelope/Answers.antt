@@ -2,7 +2,7 @@ use Rattle.std.proofs.Common.{rules, ◌≡◌, ◌∙◌, []}
 use Rattle.std.specs.Prelude.{map}
 use Rattle.sentry_envelope.specs.EnvelopeView.{item_view}
 use Rattle.sentry_envelope.specs.HeaderFields.{headers_cell}
-use Rattle.sentry_envelope.specs.Texts.{bytes_of}
+use Rattle.sentry_items.specs.Texts.{bytes_of}
 use Rattle.sentry_envelope.proofs.Sent.{envelope_begun, item_written}
 use Rattle.sentry_envelope.proofs.write.write_envelope.Goals as goal
 

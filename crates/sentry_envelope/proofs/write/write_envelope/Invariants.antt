@@ -4,7 +4,7 @@ use Rattle.sentry_envelope.specs.Envelope.{envelope_text, items_text}
 use Rattle.sentry_envelope.specs.EnvelopeView.{item_view, AreStoredAndPlain, IsStoredAndPlain}
 use Rattle.sentry_envelope.specs.HeaderFields.{header_kind, headers_cell}
 use Rattle.sentry_envelope.specs.SentryProfile.{profile}
-use Rattle.sentry_envelope.specs.Texts.{bytes_of}
+use Rattle.sentry_items.specs.Texts.{bytes_of}
 use Rattle.sentry_envelope.proofs.write.write_envelope.Given as goal
 
 abbrev pub invariant-loop-item : goal.invariant-loop-item

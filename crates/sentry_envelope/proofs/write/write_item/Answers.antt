@@ -1,6 +1,6 @@
 use Rattle.std.proofs.Common.{◌++◌}
-use Rattle.sentry_envelope.specs.Texts.{bytes_of, parts_bytes}
-use Rattle.sentry_envelope.proofs.Texts.{end_grows}
+use Rattle.sentry_items.specs.Texts.{bytes_of, parts_bytes}
+use Rattle.sentry_items.proofs.Texts.{end_grows}
 use Rattle.sentry_envelope.proofs.Sent.{attachment_sent, recording_sent, value_sent, container_sent}
 use Rattle.sentry_envelope.proofs.write.write_item.Goals as goal
 

@@ -1,8 +1,8 @@
 use Rattle.std.proofs.Common.{◌++◌, sym, ◌∙◌}
 use Rattle.sentry_items.specs.View.{item_held}
-use Rattle.sentry_envelope.specs.Texts.{bytes_of, parts_bytes}
+use Rattle.sentry_items.specs.Texts.{bytes_of, parts_bytes}
 use Rattle.sentry_envelope.proofs.Sent.{value_framed}
-use Rattle.sentry_envelope.proofs.Texts.{end_grows}
+use Rattle.sentry_items.proofs.Texts.{end_grows}
 use Rattle.sentry_envelope.proofs.write.write_value.Goals as goal
 
 pub returns : goal.returns

@@ -1,5 +1,5 @@
 use Rattle.std.proofs.Common.{refl}
-use Rattle.sentry_envelope.specs.Texts.{bytes_of}
+use Rattle.sentry_items.specs.Texts.{bytes_of}
 use Rattle.sentry_envelope.proofs.Demands.{sized_where_written}
 use Rattle.sentry_envelope.proofs.envelope.Envelope.text.Goals as goal
 

@@ -5,8 +5,8 @@ use Rattle.std.specs.Io.KnownBytes.{Appends}
 use Rattle.sentry_json.specs.Line.{newline}
 use Rattle.sentry_framing.specs.Framing.{with_line}
 use Rattle.sentry_items.specs.Counted.{AppendsFront}
-use Rattle.sentry_envelope.specs.Texts.{parts_bytes}
-use Rattle.sentry_envelope.specs.declared.text.Part.{Part}
+use Rattle.sentry_items.specs.Texts.{parts_bytes}
+use Rattle.sentry_items.specs.declared.text.Part.{Part}
 use Rattle.sentry_items.proofs.Sent.{front_of_first, front_of_second}
 
 -- one part more

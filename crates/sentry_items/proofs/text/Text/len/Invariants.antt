@@ -1,6 +1,6 @@
 use Rattle.std.proofs.Common.{◌≡◌, ◌+◌, ◌<◌, ◌^◌, drop, length}
-use Rattle.sentry_envelope.specs.Texts.{bytes_of, parts_bytes}
-use Rattle.sentry_envelope.proofs.text.Text.len.Given as goal
+use Rattle.sentry_items.specs.Texts.{bytes_of, parts_bytes}
+use Rattle.sentry_items.proofs.text.Text.len.Given as goal
 
 abbrev pub invariant-loop-part : goal.invariant-loop-part
 invariant-loop-part l = record {

@@ -1,6 +1,6 @@
 use Rattle.std.proofs.Common.{◌≡◌, ◌++◌, drop}
-use Rattle.sentry_envelope.specs.Texts.{bytes_of, parts_bytes}
-use Rattle.sentry_envelope.proofs.text.Text.into_vec.Given as goal
+use Rattle.sentry_items.specs.Texts.{bytes_of, parts_bytes}
+use Rattle.sentry_items.proofs.text.Text.into_vec.Given as goal
 
 -- what was copied and what is left make the whole
 abbrev pub invariant-loop-part : goal.invariant-loop-part

@@ -3,9 +3,9 @@
 ghost use Rattle.std.specs.Prelude.{◌≡◌, ◌+◌, ◌-◌, ◌^◌, ◌<◌, ◌++◌, IfOk, IfSome, OnOk, OnErr, length};
 ghost use Rattle.std.specs.Io.KnownBytes.{Appends};
 ghost use Rattle.sentry_items.specs.Counted.{AppendsFront, writer_failures, writer_inside};
-ghost use Rattle.sentry_envelope.specs.Texts.{bytes_of};
+ghost use Rattle.sentry_items.specs.Texts.{bytes_of};
 
-use sentry_items::counted::{CountedWriter, SendFailed, send, send_plain};
+use crate::counted::{CountedWriter, SendFailed, send_counting};
 use std::alloc::{AllocError, Global};
 use std::io::Write;
 use std::mem;
@@ -20,15 +20,16 @@ struct Part<'e> {
     lent: &'e [u8],
 }
 
-// A text: its parts, and what follows the last one.
+/// A text: its parts, and what follows the last one.
 #[derive(Drop)]
-pub(crate) struct Text<'e> {
+pub struct Text<'e> {
     parts: Vec<Part<'e>>,
-    pub(crate) end: Vec<u8>,
+    /// What follows the last part.
+    pub end: Vec<u8>,
 }
 
 impl<'e> Text<'e> {
-    // Returns a text of which nothing is lent.
+    /// Creates a text of which nothing is lent.
     pub fn new(alloc: Global, end: Vec<u8>) -> Text<'e>
         ensures { bytes_of result ≡ end.items }
     {
@@ -38,7 +39,8 @@ impl<'e> Text<'e> {
         }
     }
 
-    // Returns a text of these bytes, which are lent if they are many.
+    /// Creates a text of these bytes, which are lent if they are many. `AllocError` if an allocation
+    /// fails.
     pub fn lent(alloc: Global, bytes: &'e [u8]) -> Result<Text<'e>, AllocError>
         ensures { IfOk result (λ text. bytes_of text ≡ bytes.now) }
     {
@@ -47,7 +49,7 @@ impl<'e> Text<'e> {
         Ok(text)
     }
 
-    // Appends bytes, which are lent if they are many.
+    /// Appends bytes, which are lent if they are many. `AllocError` if an allocation fails.
     pub fn lend(&mut self, bytes: &'e [u8]) -> Result<(), AllocError>
         ensures { OnOk result (bytes_of self.new ≡ bytes_of self.old ++ bytes.now) }
     {
@@ -60,7 +62,8 @@ impl<'e> Text<'e> {
         Ok(())
     }
 
-    // Appends the bytes of a buffer, which are moved out of it if they are many.
+    /// Appends the bytes of a buffer, which are moved out of it if they are many. `AllocError` if an
+    /// allocation fails.
     pub fn take(&mut self, bytes: &mut Vec<u8>) -> Result<(), AllocError>
         ensures { OnOk result (bytes_of self.new ≡ bytes_of self.old ++ bytes.old.items) }
     {
@@ -74,7 +77,7 @@ impl<'e> Text<'e> {
         Ok(())
     }
 
-    // Returns how many bytes there are; `None` for 2^64 or more.
+    /// Returns how many bytes there are; `None` for 2^64 or more.
     pub fn len(&self) -> Option<usize>
         ensures value { IfSome result (λ len. length (bytes_of self.now) ≡ len) }
         ensures fits { IfSome result (λ len. length (bytes_of self.now) < 2 ^ 64) }
@@ -88,7 +91,8 @@ impl<'e> Text<'e> {
         Some(len)
     }
 
-    // Returns the text as one vector of bytes. It is the end itself where there are no parts.
+    /// Returns the text as one vector of bytes. It is the end itself where there are no parts.
+    /// `AllocError` if an allocation fails, or for 2^64 bytes or more.
     pub fn into_vec(self) -> Result<Vec<u8>, AllocError>
         ensures { IfOk result (λ bytes. bytes.items ≡ bytes_of self.entry) }
     {
@@ -105,7 +109,24 @@ impl<'e> Text<'e> {
         Ok(whole)
     }
 
-    // Writes the text to a counted writer, as `send` does.
+    // Writes the text to a writer, and counts a failure in `failures`.
+    fn send_counting<W: Write>(&self, writer: &mut W, failures: &mut u64) -> Result<(), SendFailed>
+        requires { failures.old < 2 ^ 64 - 1 }
+        ensures whole { OnOk result (Appends (W.contents writer.old) (W.contents writer.new)
+            (bytes_of self.now)) }
+        ensures front { OnErr result (AppendsFront (W.contents writer.old)
+            (W.contents writer.new) (bytes_of self.now)) }
+        ensures no_failure { OnOk result (failures.new ≡ failures.old) }
+        ensures one_failure { OnErr result (failures.new ≡ failures.old + 1) }
+    {
+        for part in &self.parts {
+            send_counting(&part.own, writer, failures)?;
+            send_counting(part.lent, writer, failures)?;
+        }
+        send_counting(&self.end, writer, failures)
+    }
+
+    /// Writes the text to a counted writer, as [`crate::counted::send`] does.
     pub fn send<W: Write>(&self, writer: &mut CountedWriter<W>) -> Result<(), SendFailed>
         requires { writer_failures writer.old < 2 ^ 64 - 1 }
         ensures whole { OnOk result (Appends (W.contents (writer_inside writer.old))
@@ -117,24 +138,17 @@ impl<'e> Text<'e> {
         ensures one_failure { OnErr result (writer_failures writer.new ≡
             writer_failures writer.old + 1) }
     {
-        for part in &self.parts {
-            send(&part.own, writer)?;
-            send(part.lent, writer)?;
-        }
-        send(&self.end, writer)
+        self.send_counting(&mut writer.inner, &mut writer.failures)
     }
 
-    // Writes the text to a writer, as `send_plain` does.
+    /// Writes the text to a writer, as [`crate::counted::send_plain`] does.
     pub fn send_plain<W: Write>(&self, writer: &mut W) -> Result<(), SendFailed>
         ensures whole { OnOk result (Appends (W.contents writer.old) (W.contents writer.new)
             (bytes_of self.now)) }
         ensures front { OnErr result (AppendsFront (W.contents writer.old)
             (W.contents writer.new) (bytes_of self.now)) }
     {
-        for part in &self.parts {
-            send_plain(&part.own, writer)?;
-            send_plain(part.lent, writer)?;
-        }
-        send_plain(&self.end, writer)
+        let mut failures = 0;
+        self.send_counting(writer, &mut failures)
     }
 }

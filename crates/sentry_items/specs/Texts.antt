@@ -1,7 +1,7 @@
 -- Texts of which large pieces are lent.
 use Rattle.std.specs.Prelude.{List, ℕ, [], ◌∷◌, ◌++◌}
-use Rattle.sentry_envelope.specs.declared.text.Part.{Part}
-use Rattle.sentry_envelope.specs.declared.text.Text.{Text}
+use Rattle.sentry_items.specs.declared.text.Part.{Part}
+use Rattle.sentry_items.specs.declared.text.Text.{Text}
 
 -- each part's own bytes, and then those that are lent
 abbrev pub parts_bytes : List Part → List ℕ

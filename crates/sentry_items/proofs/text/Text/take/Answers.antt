@@ -1,6 +1,6 @@
 use Rattle.std.proofs.Common.{ap, rules}
-use Rattle.sentry_envelope.proofs.Texts.{own_behind}
-use Rattle.sentry_envelope.proofs.text.Text.take.Goals as goal
+use Rattle.sentry_items.proofs.Texts.{own_behind}
+use Rattle.sentry_items.proofs.text.Text.take.Goals as goal
 
 pub returns : goal.returns
 returns c =

@@ -1,6 +1,6 @@
 use Rattle.std.proofs.Common.{rules, ap}
-use Rattle.sentry_envelope.proofs.Texts.{lent_behind}
-use Rattle.sentry_envelope.proofs.text.Text.lend.Goals as goal
+use Rattle.sentry_items.proofs.Texts.{lent_behind}
+use Rattle.sentry_items.proofs.text.Text.lend.Goals as goal
 
 pub returns : goal.returns
 returns c =
