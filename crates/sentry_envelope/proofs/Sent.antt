@@ -1,5 +1,5 @@
 -- The text of an envelope, item by item, and demands on items, item by item.
-use Rattle.std.proofs.Common.{◌≡◌, ◌+◌, ◌<◌, ℕ, suc, length, get_or, drop, drop-cons, add-one, List, [], ◌∷◌, ◌++◌, Option, Some, None, Result, Ok, Err, false, refl, sym, ap, ap₂, ◌∙◌, subst, append_assoc}
+use Rattle.std.proofs.Common.{◌≡◌, ◌+◌, ◌<◌, ℕ, suc, length, get_or, drop, drop-cons, add-one, List, [], ◌∷◌, ◌++◌, Option, Some, None, Result, Ok, Err, false, refl, sym, ap, ◌∙◌, subst, append_assoc, append-nil}
 use Rattle.std.specs.Prelude.{codes, map, OnOk}
 use Rattle.std.proofs.lemmas.Option.{same_Some}
 use Rattle.serde_json.specs.Data.{Data, Members}
@@ -21,7 +21,7 @@ use Rattle.sentry_items.specs.Attached.{attachment_header, short_header}
 use Rattle.sentry_items.specs.Containers.{container_cell, container_kind, container_len, container_type, content_type, counted_header, counting_header}
 use Rattle.sentry_items.specs.HeaderText.{header_text}
 use Rattle.sentry_items.specs.Payload.{AppendsPayload}
-use Rattle.sentry_items.specs.View.{ItemView, value as value_view, attachment_view, item_held, kind_held, payload_kind}
+use Rattle.sentry_items.specs.View.{ItemView, raw as raw_view, value as value_view, attachment_view, item_held, kind_held, payload_kind}
 use Rattle.sentry_items.specs.declared.attachment.Attachment.{Attachment}
 use Rattle.sentry_items.specs.declared.container.ItemContainer.{ItemContainer}
 use Rattle.sentry_items.specs.declared.container.ItemContainer.TheVariants as containers
@@ -103,6 +103,12 @@ container_tree container = tree (payload_kind (container_type container)) (conta
 abbrev counted_by : ℕ → ItemContainer → Members
 counted_by n container = counting_header (kind_word (container_type container)) (content_type container) n
 
+-- an item of no type is `Raw`, for which nothing comes
+pub nothing_comes : (v : ItemView) (text : List ℕ) → None ≡ kind_held v → AppendsValue v text text
+nothing_comes raw_view text none = refl
+nothing_comes (value_view k c) text none = cc
+nothing_comes _ text none = tt
+
 module _ {E : Type 0} (r : Result (Unit {0}) E) where
   abbrev Sends : List ℕ → List ℕ → EnvelopeItem → Type 0
   Sends old new i = OnOk r (AreStoredAndPlain (item_view i ∷ []) → new ≡ old ++ frame_text (frame_of_item profile (item_view i)) [])
@@ -138,6 +144,7 @@ module _ {E : Type 0} (r : Result (Unit {0}) E) where
       then_ok r _ _ (λ e whole.
       e ∙ ap (λ word. old ++ value_text word text) (ap kind_word (same_Some k j is)) ∙ ap (λ t. old ++ value_text (kind_word j) t) (texts whole))
       (ended old before new (header_text (short_header (kind_word k) text)) text headed sent)
+  value_framed raw_view k old before new text is texts headed sent = cc
   value_framed _ k old before new text is texts headed sent = then_ok r _ _ (λ e. tt) sent
 
   -- of a type whose payload is one JSON text
@@ -150,14 +157,14 @@ module _ {E : Type 0} (r : Result (Unit {0}) E) where
       (λ appends. then_ok r _ _ (λ e both.
       e (value_whole (kind_word k) (payload_kind k) (gives_of k) at header_kind fill_id profile_lawful.types c both.0.0 both.1.0) ∙ ap (λ f. old ++ frame_text f []) (sym (frame_is at (value c)))) appends) sent
 
-  -- an item that holds a value, and is no container
+  -- an item that holds a value, and is no container; or `Raw`
   pub value_sent : (i : EnvelopeItem) (old new : List ℕ) → ((a : Attachment) → i ≡ variants.Attachment a → ⊥) → ((x : ReplayRecording) → i ≡ variants.ReplayRecording x → ⊥)
-      → ((k : ItemContainer) → i ≡ variants.ItemContainer k → ⊥) → (i ≡ variants.Raw → ⊥) → OnOk r (AppendsValue (item_held i) old new) → Sends old new i
-  value_sent (variants.Attachment a) old new no_attachment no_recording no_container no_raw sent = absurd (no_attachment a refl)
-  value_sent (variants.ReplayRecording x) old new no_attachment no_recording no_container no_raw sent = absurd (no_recording x refl)
-  value_sent (variants.ItemContainer k) old new no_attachment no_recording no_container no_raw sent = absurd (no_container k refl)
-  value_sent variants.Raw old new no_attachment no_recording no_container no_raw sent = absurd (no_raw refl)
-  value_sent i old new no_attachment no_recording no_container no_raw sent = json_sent _ _ i old new refl refl sent
+      → ((k : ItemContainer) → i ≡ variants.ItemContainer k → ⊥) → OnOk r (AppendsValue (item_held i) old new) → Sends old new i
+  value_sent (variants.Attachment a) old new no_attachment no_recording no_container sent = absurd (no_attachment a refl)
+  value_sent (variants.ReplayRecording x) old new no_attachment no_recording no_container sent = absurd (no_recording x refl)
+  value_sent (variants.ItemContainer k) old new no_attachment no_recording no_container sent = absurd (no_container k refl)
+  value_sent variants.Raw old new no_attachment no_recording no_container sent = then_ok r _ _ (λ e both. e ∙ sym (append-nil old)) sent
+  value_sent i old new no_attachment no_recording no_container sent = json_sent _ _ i old new refl refl sent
 
   -- of a container
   module _ (n : ℕ) (word content_type : List ℕ) (K : Kind) (gives : Cell → Cell) (at : IsAt item_types n (record { word = word; form = container_form content_type K; gives = gives })) where

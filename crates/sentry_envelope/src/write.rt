@@ -84,7 +84,6 @@ fn write_item<'e>(
             write_container_header(container, &mut text.end)?;
             take_frame(payload, text)
         }
-        EnvelopeItem::Raw => Ok(()),
         _ => write_value(item, payload, text),
     }
 }

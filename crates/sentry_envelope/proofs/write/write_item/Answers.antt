@@ -33,4 +33,4 @@ returns-in_ok-write_container_header-in-ItemContainer c =
 
 pub returns-in_default : goal.returns-in_default
 returns-in_default c =
-    value_sent c.write_value.result c.args.item.now (bytes_of c.args.text.now) (bytes_of c.write_value.new.text) c.in_default.not-Attachment c.in_default.not-ReplayRecording c.in_default.not-ItemContainer c.in_default.not-Raw c.write_value.ensures
+    value_sent c.write_value.result c.args.item.now (bytes_of c.args.text.now) (bytes_of c.write_value.new.text) c.in_default.not-Attachment c.in_default.not-ReplayRecording c.in_default.not-ItemContainer c.write_value.ensures

@@ -1,9 +1,12 @@
 use Rattle.std.proofs.Common.{◌++◌, sym, ◌∙◌}
 use Rattle.sentry_items.specs.View.{item_held}
 use Rattle.sentry_items.specs.Texts.{bytes_of, parts_bytes}
-use Rattle.sentry_envelope.proofs.Sent.{value_framed}
+use Rattle.sentry_envelope.proofs.Sent.{nothing_comes, value_framed}
 use Rattle.sentry_items.proofs.Texts.{end_grows}
 use Rattle.sentry_envelope.proofs.write.write_value.Goals as goal
+
+pub returns-in_default : goal.returns-in_default
+returns-in_default c = nothing_comes (item_held c.args.item.now) (bytes_of c.args.text.now) (sym c.in_default.is ∙ c.kind.ensures)
 
 pub returns : goal.returns
 returns c =
