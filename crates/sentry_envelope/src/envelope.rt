@@ -274,19 +274,23 @@ impl Envelope {
     pub fn event(&self) -> Option<&Event<'static>>
         ensures { option_map (λ event. event.now) result ≡ first_event (items_of self.now) }
     {
-        match &self.contents {
-            Contents::Items(items) => first_event(items),
-            Contents::Raw(_) => None,
-        }
+        first_event(self.item_slice())
     }
 
     /// Returns an iterator over the items, in order; a raw envelope has none.
     pub fn items(&self) -> EnvelopeItemIter<'_>
         ensures { items_left result ≡ items_of self.now }
     {
+        EnvelopeItemIter::new(self.item_slice())
+    }
+
+    // Returns the items, in order; a raw envelope has none.
+    pub(crate) fn item_slice(&self) -> &[EnvelopeItem]
+        ensures { result.now ≡ items_of self.now }
+    {
         match &self.contents {
-            Contents::Items(items) => EnvelopeItemIter::new(items),
-            Contents::Raw(_) => EnvelopeItemIter::new(&[]),
+            Contents::Items(items) => items,
+            Contents::Raw(_) => &[],
         }
     }
 

@@ -1,6 +1,6 @@
 //! The losses of an envelope: those of its items, in order.
 
-use crate::envelope::{Contents, Envelope};
+use crate::envelope::Envelope;
 use sentry_items::{ItemLossIter, LossSource};
 
 impl LossSource for Envelope {
@@ -9,9 +9,6 @@ impl LossSource for Envelope {
     ghost losses_of = { losses_of_envelope };
 
     fn losses(&self) -> ItemLossIter<'_> {
-        match &self.contents {
-            Contents::Items(items) => ItemLossIter::of_items(items),
-            Contents::Raw(_) => ItemLossIter::of_items(&[]),
-        }
+        ItemLossIter::of_items(self.item_slice())
     }
 }
