@@ -1,20 +1,17 @@
 -- The fields of an envelope's header.
-use Rattle.std.specs.Prelude.{List, [], ◌∷◌, Option, Some, None, codes, true, refl, ◌≡◌}
-use Rattle.sentry_tables.specs.Cell.{Cell, absent, present, octets, fields, cell}
+use Rattle.std.specs.Prelude.{ℕ, List, [], ◌∷◌, Option, Some, None, codes, true, bytes_eq, if◌then◌else◌, refl, ◌≡◌}
+use Rattle.serde_json.specs.Data.{no_members}
+use Rattle.sentry_tables.specs.Cell.{Cell, Cells, absent, present, octets, fields, no_cells, cell}
 use Rattle.sentry_tables.specs.Kind.{Kind, may, may_strict, keys}
 use Rattle.sentry_tables.specs.Written.{in_order}
 use Rattle.sentry_tables.specs.Fields.{Field, field, rows_of, table_of, fields_by}
 use Rattle.sentry_tables.specs.Cells.{option_cell}
 use Rattle.sentry_identifiers.specs.Uuids.{hyphenated_kind}
-use Rattle.sentry_parts.specs.declared.client_sdk_info.ClientSdkInfo.{ClientSdkInfo}
 use Rattle.sentry_keys.specs.DsnTree.{dsn_kind, dsn_cell}
-use Rattle.sentry_keys.specs.declared.dsn.Dsn.{Dsn}
 use Rattle.sentry_moments.specs.MomentForms.{rfc3339_kind}
 use Rattle.sentry_moments.specs.Moments.{moment_cell}
-use Rattle.sentry_moments.specs.declared.moment.Moment.{Moment}
 use Rattle.sentry_parts.specs.ClientSdk.{sdk_kind, sdk_cell}
 use Rattle.sentry_records.specs.Sampling.{sampling_kind, sampling_cell}
-use Rattle.sentry_records.specs.declared.sampling.DynamicSamplingContext.{DynamicSamplingContext}
 use Rattle.sentry_envelope.specs.declared.headers.EnvelopeHeaders.{EnvelopeHeaders}
 use Rattle.uuid.specs.declared.Uuid.{Uuid}
 
@@ -56,23 +53,11 @@ abbrev pub put_id : Option Uuid → Cell → Cell
 put_id id (fields (cell dsn (cell c cs)) other) = fields (cell dsn (cell (id_cell id) cs)) other
 put_id id h = h
 
--- the header with this DSN
-abbrev pub put_dsn : Dsn → Cell → Cell
-put_dsn d (fields (cell c cs) other) = fields (cell (present (dsn_cell d)) cs) other
-put_dsn d h = h
+-- the cells of these fields, but for that of the key
+abbrev pub put_field : List (Field EnvelopeHeaders) → List ℕ → Cell → EnvelopeHeaders → Cells
+put_field [] k c h = no_cells
+put_field (f ∷ fs) k c h = cell (if bytes_eq k f.key then present c else f.part h) (put_field fs k c h)
 
--- the header with this software
-abbrev pub put_sdk : ClientSdkInfo → Cell → Cell
-put_sdk s (fields (cell dsn (cell id (cell c cs))) other) = fields (cell dsn (cell id (cell (present (sdk_cell s)) cs))) other
-put_sdk s h = h
-
--- the header with this time of sending
-abbrev pub put_sent_at : Moment → Cell → Cell
-put_sent_at m (fields (cell dsn (cell id (cell s (cell c cs)))) other) = fields (cell dsn (cell id (cell s (cell (present (moment_cell m)) cs)))) other
-put_sent_at m h = h
-
--- the header with what its trace is sampled by
-abbrev pub put_trace : DynamicSamplingContext → Cell → Cell
-put_trace t (fields (cell dsn (cell id (cell sdk (cell sent (cell c cs))))) other) =
-    fields (cell dsn (cell id (cell sdk (cell sent (cell (present (sampling_cell t)) cs))))) other
-put_trace t h = h
+-- the same header, but that the field of the key holds this value
+abbrev pub with_field : List ℕ → Cell → EnvelopeHeaders → Cell
+with_field k c h = fields (put_field header_fields k c h) no_members

@@ -42,7 +42,7 @@ impl EnvelopeHeaders {
     ghost use Rattle.sentry_rows.specs.Parts.{part_at};
     ghost use Rattle.sentry_envelope.specs.EnvelopeView.{no_fields};
     ghost use Rattle.sentry_tables.specs.Norm.{norm};
-    ghost use Rattle.sentry_envelope.specs.HeaderFields.{fill_id, given_id, headers_cell, put_dsn, put_id, put_sdk, put_sent_at, put_trace};
+    ghost use Rattle.sentry_envelope.specs.HeaderFields.{fill_id, given_id, with_field};
 
     /// Creates headers with no fields set.
     pub fn new() -> EnvelopeHeaders
@@ -73,7 +73,7 @@ impl EnvelopeHeaders {
 
     /// Sets the DSN that the envelope is sent to.
     pub fn with_dsn(self, dsn: Dsn) -> EnvelopeHeaders
-        ensures { headers_cell result ≡ put_dsn dsn (headers_cell self) }
+        ensures { headers_cell result ≡ with_field (codes "dsn") (dsn_cell dsn) self }
     {
         EnvelopeHeaders {
             dsn: Some(dsn),
@@ -83,7 +83,7 @@ impl EnvelopeHeaders {
 
     /// Sets the SDK that sends the envelope.
     pub fn with_sdk(self, sdk: ClientSdkInfo) -> EnvelopeHeaders
-        ensures { headers_cell result ≡ put_sdk sdk (headers_cell self) }
+        ensures { headers_cell result ≡ with_field (codes "sdk") (sdk_cell sdk) self }
     {
         EnvelopeHeaders {
             sdk: Some(sdk),
@@ -93,7 +93,7 @@ impl EnvelopeHeaders {
 
     /// Sets the time of sending.
     pub fn with_sent_at(self, sent_at: Moment) -> EnvelopeHeaders
-        ensures { headers_cell result ≡ put_sent_at sent_at (headers_cell self) }
+        ensures { headers_cell result ≡ with_field (codes "sent_at") (moment_cell sent_at) self }
     {
         EnvelopeHeaders {
             sent_at: Some(sent_at),
@@ -103,7 +103,7 @@ impl EnvelopeHeaders {
 
     /// Sets the dynamic sampling context of the trace.
     pub fn with_trace(self, trace: DynamicSamplingContext) -> EnvelopeHeaders
-        ensures { headers_cell result ≡ put_trace trace (headers_cell self) }
+        ensures { headers_cell result ≡ with_field (codes "trace") (sampling_cell trace) self }
     {
         EnvelopeHeaders {
             trace: Some(trace),
