@@ -4,7 +4,7 @@ use Rattle.std.specs.List.{list_any, filter_map, flat_map}
 use Rattle.std.proofs.lemmas.List.Concat.{flat_map-append}
 use Rattle.std.proofs.lemmas.List.Elements.{filter_map-append}
 use Rattle.std.specs.List.Sorted.{IsPermutation}
-use Rattle.std.proofs.lemmas.List.Sorted.{IsPermutation-refl, IsPermutation-sym, IsPermutation-cons, IsPermutation-middle, IsPermutation-append_left, IsPermutation-append_right, IsPermutation-append_comm, IsPermutation-trans, IsPermutation-filter_both}
+use Rattle.std.proofs.lemmas.List.Sorted.{IsPermutation-refl, IsPermutation-append_left, IsPermutation-append_right, IsPermutation-append_comm, IsPermutation-trans}
 use Rattle.sentry_items.specs.declared.item.EnvelopeItem.{EnvelopeItem}
 use Rattle.sentry_envelope.specs.Filter.{Hand, item_of_hand, asks, chosen, orphans, kept, handed, is_main, is_orphan}
 
@@ -27,33 +27,6 @@ handed_of_hands (item ∷ items) = ap (λ (xs : List EnvelopeItem). item ∷ xs)
 
 handed_are : (items : List EnvelopeItem) (answers : List Bool) → handed items answers ≡ refused items answers ++ orphans (chosen items answers)
 handed_are items answers = rw (filter_map-append, handed_of_asks, handed_of_hands)
-
--- an item is answered yes or no
-split_by_answer : (items : List EnvelopeItem) (answers : List Bool) → length answers ≡ length items → IsPermutation items (chosen items answers ++ refused items answers)
-split_by_answer [] answers same = IsPermutation-refl []
-split_by_answer (item ∷ items) [] same = cc
-split_by_answer (item ∷ items) (true ∷ answers) same = IsPermutation-cons item _ _ (split_by_answer items answers cc)
-split_by_answer (item ∷ items) (false ∷ answers) same =
-    IsPermutation-trans _ _ _ (IsPermutation-cons item _ _ (split_by_answer items answers cc)) (IsPermutation-sym _ _ (IsPermutation-middle (chosen items answers) item (refused items answers)))
-
-not-not : (b : Bool) → b ≡ not (not b)
-not-not true = refl
-not-not false = refl
-
--- a chosen item is kept or an orphan
-split_by_kind : (main : Bool) (items : List EnvelopeItem)
-    → IsPermutation items (cond main items (filter (λ item. not (is_orphan item)) items) ++ cond main [] (filter is_orphan items))
-split_by_kind true items = rw append-nil (IsPermutation-refl items)
-split_by_kind false items = IsPermutation-filter_both (λ item. not (is_orphan item)) is_orphan (λ item. not-not (is_orphan item)) items
-
-pub conserved : (items : List EnvelopeItem) (answers : List Bool) → length answers ≡ length items → IsPermutation items (kept (chosen items answers) ++ handed items answers)
-conserved items answers same =
-    let yes_items = chosen items answers in
-    let no_items = refused items answers in
-    let by_kind = split_by_kind (list_any is_main yes_items) yes_items in
-    let all = IsPermutation-trans _ _ _ (split_by_answer items answers same) (IsPermutation-append_left no_items _ _ by_kind) in
-    let in_order = IsPermutation-append_right (kept yes_items) _ _ (IsPermutation-append_comm (orphans yes_items) no_items) in
-    rw handed_are (IsPermutation-trans _ _ _ (rw append_assoc at all) in_order)
 
 -- what each item stands for, laid end to end
 module _ {X : Type 0} (parts : EnvelopeItem → List X) where
@@ -92,3 +65,11 @@ module _ {X : Type 0} (parts : EnvelopeItem → List X) where
       let all = IsPermutation-trans _ _ _ (parts_by_answer items answers same) (IsPermutation-append_left (flat_map parts no_items) _ _ by_kind) in
       let in_order = IsPermutation-append_right (flat_map parts (kept yes_items)) _ _ (IsPermutation-append_comm (flat_map parts (orphans yes_items)) (flat_map parts no_items)) in
       rw (handed_are, flat_map-append) (IsPermutation-trans _ _ _ (rw append_assoc at all) in_order)
+
+flat_alone : (items : List EnvelopeItem) → flat_map (λ item. item ∷ []) items ≡ items
+flat_alone [] = refl
+flat_alone (item ∷ items) = ap (λ (xs : List EnvelopeItem). item ∷ xs) (flat_alone items)
+
+pub conserved : (items : List EnvelopeItem) (answers : List Bool) → length answers ≡ length items → IsPermutation items (kept (chosen items answers) ++ handed items answers)
+conserved items answers same =
+    rw (flat_alone items, flat_alone (kept (chosen items answers)), flat_alone (handed items answers)) at (parts_conserved (λ item. item ∷ []) items answers same)
