@@ -3,17 +3,17 @@ use Rattle.std.proofs.Common.{◌≡◌, ℕ, Bool, true, false, List, [], ◌�
 use Rattle.std.specs.Option.{IsSomeAnd, MatchOption}
 use Rattle.sentry_tables.specs.Cell.{Cell}
 use Rattle.sentry_items.specs.declared.item.EnvelopeItem.{EnvelopeItem}
-use Rattle.sentry_envelope.specs.Envelope.{Spells, envelope_text}
-use Rattle.sentry_envelope.specs.EnvelopeView.{items as held_items, held_in, item_view, header_of, structured, structured_by, text_by, text_of}
-use Rattle.sentry_envelope.specs.Filter.{Call, Hand, Run, asks, calls, chosen, first_id_of, handed, header_left, kept, orphans, asked_in, structured_in, FiltersEnvelope, LeavesOf}
-use Rattle.sentry_envelope.specs.HeaderFields.{put_id}
+use Rattle.sentry_envelope.specs.Envelope.{Spells}
+use Rattle.sentry_envelope.specs.EnvelopeView.{held_in, header_of, structured, structured_by, text_of}
+use Rattle.sentry_envelope.specs.Filter.{Call, Hand, Run, asks, calls, chosen, handed, header_left, kept, orphans, asked_in, structured_in, FiltersEnvelope, LeavesOf}
 use Rattle.sentry_envelope.specs.SentryProfile.{profile}
 use Rattle.sentry_envelope.specs.declared.envelope.Contents.{Contents}
 use Rattle.sentry_envelope.specs.declared.envelope.Contents.TheVariants.{Items, Raw}
 use Rattle.sentry_envelope.specs.declared.envelope.Envelope.{Envelope}
+use Rattle.sentry_envelope.proofs.FilterLemmas.{made_text}
 use Rattle.sentry_ledger.specs.LossSums.{no_sums}
 use Rattle.sentry_ledger.proofs.SumLemmas.{sums_of_run}
-use Rattle.sentry_c.specs.Envelopes.{IsLeft, Leaves, LeavesNothing, left_model}
+use Rattle.sentry_c.specs.Envelopes.{IsLeft, Leaves, LeavesNothing}
 use Rattle.sentry_c.specs.Filtering.{AddsLosses, AnswersByBits}
 use Rattle.sentry_c.specs.Kinds.{answers, is_wanted}
 use Rattle.sentry_c.specs.Losses.{SumsItemLosses}
@@ -43,15 +43,6 @@ sums_after items given first last none run =
 
 -- ---- what is left
 
-held_structured : (contents : Contents) (items : List EnvelopeItem) → structured_in contents ≡ Some items → held_in contents ≡ held_items (map item_view items)
-held_structured (Items all) items is = let same : all.items ≡ items = cc in ap (λ (is : List EnvelopeItem). held_items (map item_view is)) same
-held_structured (Raw bytes) items is = cc
-
--- an envelope of these items below this header
-text_is : (header : Cell) (items : List EnvelopeItem) (left : Envelope) → structured_in left.contents ≡ Some items → header_of left ≡ put_id (first_id_of items) header → text_of left ≡ envelope_text profile (left_model header items)
-text_is header items left is header_is =
-    ap (text_by (header_of left)) (held_structured left.contents items is) ∙ ap (λ (h : Cell). text_by h (held_items (map item_view items))) header_is
-
 module _ (bytes : List ℕ) (now : Cell) (kinds : ℕ) (keep keep_headers : Bool) (sums : List ℕ) where
   abbrev Answer : Option Envelope → Type 0
   Answer left = MatchOption left (LeavesNothing bytes now kinds keep keep_headers sums) (λ e. IsLeft bytes now kinds keep keep_headers sums (text_of e))
@@ -63,7 +54,7 @@ module _ (bytes : List ℕ) (now : Cell) (kinds : ℕ) (keep keep_headers : Bool
   answer header contents envelope items [] (Some left) has leaves is = cc
   answer header (Items all) envelope items (item ∷ rest) None has leaves is = absurd is
   answer header (Items all) envelope items (item ∷ rest) (Some left) has leaves is =
-      record { header = header; first = item; rest = rest; leaves = leaves; text_is = text_is header (item ∷ rest) left is.items_are is.header_is }
+      record { header = header; first = item; rest = rest; leaves = leaves; text_is = made_text header (item ∷ rest) left is }
   answer header (Raw b) envelope items (item ∷ rest) left has leaves is = cc
 
 pub left_of : (bytes : List ℕ) (now : Cell) (keep_headers : Bool) (envelope : Envelope) (first last : KindFilter) (left : Option Envelope) → IsSomeAnd (structured envelope) (Spells profile bytes now)

@@ -1,11 +1,9 @@
 -- The numbers of categories and reasons.
-use Rattle.std.proofs.Common.{arith, ◌≡◌, ℕ, zero, suc, ◌+◌, List, [], ◌∷◌, slice_get, Some, refl, sym, ◌∙◌}
-use Rattle.std.proofs.lemmas.Option.{same_Some}
+use Rattle.std.proofs.Common.{arith, ◌≡◌, ℕ, zero, suc, ◌+◌, List, [], ◌∷◌, slice_get, Some, refl}
 use Rattle.sentry_reports.specs.Categories.{categories, category_in_place, category_index, reasons, reason_in_place, reason_index}
 use Rattle.sentry_reports.specs.declared.category.Category.{Category}
 use Rattle.sentry_reports.specs.declared.reason.Reason.{Reason}
 use Rattle.sentry_ledger.proofs.HeldLemmas.{InOrder}
-use Rattle.sentry_c.specs.Sums.{IsPair}
 
 number_at : {A : Type 0} (index : A → ℕ) (i k : ℕ) (xs : List A) (x : A) → InOrder index i xs → slice_get xs k ≡ Some x → i + k ≡ index x
 number_at index i k [] x ordered found = cc
@@ -28,10 +26,3 @@ number_of_category k c at = rw at (category_in_place c)
 
 pub number_of_reason : (k : ℕ) (r : Reason) → k ≡ reason_index r → slice_get reasons k ≡ Some r
 number_of_reason k r at = rw at (reason_in_place r)
-
--- the numbers of a pair are of that pair alone
-pub one_pair : (a b : ℕ) (c d : Category) (r s : Reason) → IsPair a b c r → IsPair a b d s → (c ≡ d) × (r ≡ s)
-one_pair a b c d r s this that = (
-  same_Some c d (sym (number_of_category a c this.category_is) ∙ number_of_category a d that.category_is),
-  same_Some r s (sym (number_of_reason b r this.reason_is) ∙ number_of_reason b s that.reason_is),
-)

@@ -1,9 +1,9 @@
 -- What calls on envelopes write.
-use Rattle.std.specs.Prelude.{◌≡◌, ℕ, Bool, List, [], ◌∷◌, map}
+use Rattle.std.specs.Prelude.{◌≡◌, ℕ, Bool, List, [], ◌∷◌}
 use Rattle.sentry_tables.specs.Cell.{Cell}
 use Rattle.sentry_items.specs.declared.item.EnvelopeItem.{EnvelopeItem}
 use Rattle.sentry_envelope.specs.Envelope.{Envelope as Model, Spells, envelope_norm, envelope_text}
-use Rattle.sentry_envelope.specs.EnvelopeView.{item_view}
+use Rattle.sentry_envelope.specs.EnvelopeView.{model}
 use Rattle.sentry_envelope.specs.Filter.{chosen, first_id_of, handed, header_left, kept}
 use Rattle.sentry_envelope.specs.HeaderFields.{put_id}
 use Rattle.sentry_envelope.specs.SentryProfile.{profile}
@@ -20,10 +20,6 @@ pub record IsNormalText (bytes : List ℕ) (now : Cell) (text : List ℕ) : Type
   pub spells : Spells profile bytes now envelope
   pub text_is : text ≡ envelope_text profile envelope
   pub normal : text ≡ envelope_text profile (envelope_norm profile envelope)
-
--- an envelope with this header and these items
-abbrev pub model : Cell → List EnvelopeItem → Model
-model header items = record { header = header; items = map item_view items }
 
 -- what is left, below this header with the id of the first event or transaction that is left
 abbrev pub left_model : Cell → List EnvelopeItem → Model

@@ -5,16 +5,17 @@ use Rattle.sentry_tables.specs.Cell.{Cell}
 use Rattle.sentry_items.specs.Losses.{losses_of_items}
 use Rattle.sentry_items.specs.declared.item.EnvelopeItem.{EnvelopeItem}
 use Rattle.sentry_envelope.specs.Envelope.{Envelope as Model}
-use Rattle.sentry_envelope.specs.EnvelopeView.{items as held_items, held_in, item_view, header_of, structured, structured_by, text_by}
+use Rattle.sentry_envelope.specs.EnvelopeView.{held_in, header_of, model, structured, structured_by}
 use Rattle.sentry_envelope.specs.Filter.{Call, Hand, Run, asks, calls, chosen, orphans, handed, header_left, asked_in, structured_in, FiltersEnvelope, LeavesOf}
 use Rattle.sentry_envelope.specs.declared.envelope.Contents.{Contents}
 use Rattle.sentry_envelope.specs.declared.envelope.Contents.TheVariants.{Items, Raw}
 use Rattle.sentry_envelope.specs.declared.envelope.Envelope.{Envelope}
+use Rattle.sentry_envelope.proofs.FilterLemmas.{made_text}
 use Rattle.sentry_ledger.specs.LossSums.{no_sums, sum_at}
 use Rattle.sentry_ledger.proofs.SumLemmas.{sums_of_run}
 use Rattle.sentry_env.specs.Listed.{AnswersFor}
 use Rattle.sentry_env.specs.Losing.{AnswersByKind, AddsLosses}
-use Rattle.sentry_env.specs.Run.{IsDue, dues, kept_due, left_due, model}
+use Rattle.sentry_env.specs.Run.{IsDue, dues, kept_due, left_due}
 use Rattle.sentry_env.specs.Table.{table_by, table_of}
 use Rattle.sentry_env.specs.declared.ending.Outcome.TheVariants.{Written}
 use Rattle.sentry_framing.specs.declared.kind.ItemKind.{ItemKind}
@@ -41,10 +42,6 @@ table_of_run items answers first last none run =
 
 -- ---- what is left
 
-held_structured : (contents : Contents) (items : List EnvelopeItem) → structured_in contents ≡ Some items → held_in contents ≡ held_items (map item_view items)
-held_structured (Items all) items is = let same : all.items ≡ items = cc in ap (λ (is : List EnvelopeItem). held_items (map item_view is)) same
-held_structured (Raw bytes) items is = cc
-
 asked_structured : (contents : Contents) (items : List EnvelopeItem) → structured_in contents ≡ Some items → asked_in contents ≡ items
 asked_structured (Items all) items is = cc
 asked_structured (Raw bytes) items is = cc
@@ -54,8 +51,7 @@ left_is : (contents : Contents) (items : List EnvelopeItem) (header : Cell) (env
 left_is contents items header envelope [] left table is leaves = rw leaves refl
 left_is (Items all) items header envelope (item ∷ rest) None table is leaves = absurd leaves
 left_is (Items all) items header envelope (item ∷ rest) (Some left) table is leaves =
-    ap (λ (text : List ℕ). dues text table Written)
-    (ap (text_by (header_of left)) (held_structured left.contents (item ∷ rest) leaves.items_are) ∙ ap (λ (h : Cell). text_by h (held_items (map item_view (item ∷ rest)))) leaves.header_is)
+    ap (λ (text : List ℕ). dues text table Written) (made_text header (item ∷ rest) left leaves)
 left_is (Raw bytes) items header envelope (item ∷ rest) left table is leaves = cc
 
 pub rest_is_due : (kinds : List ItemKind) (keep_headers : Bool) (envelope : Envelope) (items : List EnvelopeItem) (first last : LossFilter) (left : Option Envelope) (table : List ℕ) → (length kinds == 0) ≡ false

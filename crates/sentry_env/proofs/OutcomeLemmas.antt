@@ -13,7 +13,7 @@ use Rattle.sentry_items.specs.declared.item.EnvelopeItem.{EnvelopeItem}
 use Rattle.sentry_items.specs.declared.item.EnvelopeItem.TheVariants as variants
 use Rattle.sentry_items.proofs.SameLosses.{same_losses}
 use Rattle.sentry_envelope.specs.Envelope.{Envelope as Model, Item, item, raw, attached, opaque, value, given_by, envelope_text}
-use Rattle.sentry_envelope.specs.EnvelopeView.{item_view, placed}
+use Rattle.sentry_envelope.specs.EnvelopeView.{item_view, model, placed}
 use Rattle.sentry_envelope.specs.Filter.{Hand, asks, chosen, first_id_of, handed, header_left, id_in, id_of, is_main, is_orphan, item_of_hand, kept, orphans}
 use Rattle.sentry_envelope.specs.HeaderFields.{put_id}
 use Rattle.sentry_envelope.specs.SentryProfile.{item_types, profile}
@@ -21,7 +21,7 @@ use Rattle.sentry_envelope.proofs.ConservationLemmas.{handed_of_hands}
 use Rattle.sentry_envelope.proofs.OneEnvelope.{one_envelope}
 use Rattle.sentry_envelope.proofs.SentryProfile.{profile_lawful}
 use Rattle.sentry_env.specs.Listed.{AnswersFor, IsOfKinds, kind_of_item}
-use Rattle.sentry_env.specs.Run.{Due, DueIsSettled, IsDue, dues, kept_due, model}
+use Rattle.sentry_env.specs.Run.{Due, DueIsSettled, IsDue, dues, kept_due}
 use Rattle.sentry_env.specs.Table.{table_of}
 use Rattle.sentry_env.specs.declared.ending.Outcome.TheVariants.{Written}
 use Rattle.sentry_framing.specs.declared.kind.ItemKind.{ItemKind}

@@ -5,7 +5,7 @@ use Rattle.std.specs.Option.{IsSomeAnd}
 use Rattle.sentry_tables.specs.Cell.{Cell}
 use Rattle.sentry_items.specs.declared.item.EnvelopeItem.{EnvelopeItem}
 use Rattle.sentry_envelope.specs.Envelope.{ContentDemand, plain_content, ItemsMeet, IsEnvelopePlain}
-use Rattle.sentry_envelope.specs.EnvelopeView.{IsUnwritable, header_of, held, held_in, Held, items as held_items, bytes as held_bytes, item_view, structured, structured_by}
+use Rattle.sentry_envelope.specs.EnvelopeView.{IsUnwritable, header_of, held, held_in, Held, items as held_items, bytes as held_bytes, item_view, model, structured, structured_by}
 use Rattle.sentry_envelope.specs.Filter.{FiltersEnvelope, LeavesOf, asked_in, chosen, first_id_of, header_left, is_main, is_orphan, kept, structured_in}
 use Rattle.sentry_envelope.specs.Profile.{ItemType}
 use Rattle.sentry_envelope.specs.SentryProfile.{profile}
@@ -17,7 +17,7 @@ use Rattle.sentry_envelope.specs.HeaderFields.{header_kind, put_id}
 use Rattle.sentry_envelope.proofs.Sent.{meet_first, meet_rest, meet_both}
 use Rattle.sentry_envelope.proofs.HeaderValues.{put_plain, no_fields_plain}
 use Rattle.sentry_env.specs.Losing.{AnswersByKind, AddsLosses}
-use Rattle.sentry_env.specs.Run.{IsWritable, model}
+use Rattle.sentry_env.specs.Run.{IsWritable}
 use Rattle.sentry_env.specs.declared.loss_filter.LossFilter.{LossFilter}
 
 -- ---- what each item meets, the items of a part meet

@@ -1,11 +1,11 @@
 -- What is due for an envelope, and what a run reads and writes.
-use Rattle.std.specs.Prelude.{◌≡◌, ◌⊎◌, ℕ, ◌+◌, Bool, List, [], ◌∷◌, map, Option, Some, None, Result, Ok, Err, ⊤}
+use Rattle.std.specs.Prelude.{◌≡◌, ◌⊎◌, ℕ, ◌+◌, Bool, List, [], ◌∷◌, Option, Some, None, Result, Ok, Err, ⊤}
 use Rattle.sentry_tables.specs.Cell.{Cell}
 use Rattle.sentry_items.specs.Losses.{losses_of_items}
 use Rattle.sentry_items.specs.declared.item.EnvelopeItem.{EnvelopeItem}
-use Rattle.sentry_envelope.specs.Envelope.{Envelope as Model, Spells, envelope_text}
+use Rattle.sentry_envelope.specs.Envelope.{Spells, envelope_text}
 use Rattle.sentry_envelope.specs.EnvelopeFault.{Fault}
-use Rattle.sentry_envelope.specs.EnvelopeView.{IsUnwritable, item_view, text_of}
+use Rattle.sentry_envelope.specs.EnvelopeView.{IsUnwritable, model, text_of}
 use Rattle.sentry_envelope.specs.Filter.{chosen, kept, handed, first_id_of, header_left}
 use Rattle.sentry_envelope.specs.HeaderFields.{put_id}
 use Rattle.sentry_envelope.specs.OneEnvelope.{NothingDrawnIn}
@@ -21,10 +21,6 @@ use Rattle.sentry_env.specs.declared.ending.RunError.{RunError}
 use Rattle.sentry_env.specs.declared.ending.RunError.TheVariants.{Refused, Read, Memory, Write}
 
 -- ---- what is due
-
--- an envelope with this header and these items
-abbrev pub model : Cell → List EnvelopeItem → Model
-model header items = record { header = header; items = map item_view items }
 
 -- the texts that the output and the table are to get, and the outcome
 pub record Due : Type 0 where

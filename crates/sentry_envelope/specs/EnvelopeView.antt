@@ -113,6 +113,10 @@ first_event (_ ∷ is) = first_event is
 
 -- ---- making one
 
+-- an envelope with this header and these items
+abbrev pub model : Cell → List EnvelopeItem → Model
+model header is = record { header = header; items = map item_view is }
+
 abbrev pub no_fields : Cell
 no_fields = fields (cell absent (cell absent (cell absent (cell absent (cell absent no_cells))))) no_members
 
