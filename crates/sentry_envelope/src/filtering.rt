@@ -138,7 +138,7 @@ impl Envelope {
         if kept.is_empty() {
             return Ok(None);
         }
-        let headers = header_left(headers, keep_headers, first_id(&kept));
+        let headers = headers_of_rest(headers, keep_headers, first_id(&kept));
         let contents = Contents::Items(kept);
         Ok(Some(Envelope { headers, contents }))
     }
@@ -222,7 +222,7 @@ fn has_main(items: &[EnvelopeItem]) -> bool
 }
 
 // Replaces the event id; `keep_headers` tells whether the other headers stay.
-fn header_left(
+fn headers_of_rest(
     headers: EnvelopeHeaders,
     keep_headers: bool,
     event_id: Option<Uuid>,

@@ -13,5 +13,5 @@ returns-in-Raw-clause-filtered g c = raw_goes _ _ _ c.args.self c.in-Raw.bytes _
 
 pub returns-clause-filtered : goal.returns-clause-filtered
 returns-clause-filtered g c =
-    items_stay _ _ _ c.args.self c.in-Items.items c.filter_items-kept.result _ _ c.header_left-headers.result c.in-Items.is c.filter_items-kept.ensures.filters (search rules)
-    (c.header_left-headers.ensures ∙ ap (λ id. put_id id (header_left c.args.keep_headers (header_of c.args.self))) (c.first_id.ensures ∙ ap first_id_of c.deref.ensures.value))
+    items_stay _ _ _ c.args.self c.in-Items.items c.filter_items-kept.result _ _ c.headers_of_rest-headers.result c.in-Items.is c.filter_items-kept.ensures.filters (search rules)
+    (c.headers_of_rest-headers.ensures ∙ ap (λ id. put_id id (header_left c.args.keep_headers (header_of c.args.self))) (c.first_id.ensures ∙ ap first_id_of c.deref.ensures.value))
