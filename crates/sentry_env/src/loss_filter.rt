@@ -1,6 +1,6 @@
 //! The filter of the program.
 
-ghost use Rattle.std.specs.Prelude.{◌≡◌, ◌↔◌, IsTrue};
+ghost use Rattle.std.specs.Prelude.{◌↔◌, IsTrue};
 ghost use Rattle.sentry_env.specs.Listed.{IsOfKinds};
 
 use crate::Kind;

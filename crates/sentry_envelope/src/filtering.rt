@@ -15,9 +15,9 @@ use std::alloc::Global;
 use uuid::Uuid;
 
 impl Envelope {
-    ghost use Rattle.std.specs.Prelude.{◌≡◌, IfOk, IfErr};
+    ghost use Rattle.std.specs.Prelude.{IfOk, IfErr};
     ghost use Rattle.sentry_envelope.specs.EnvelopeView.{header_of, no_fields};
-    ghost use Rattle.sentry_envelope.specs.Filter.{FiltersEnvelope, header_left};
+    ghost use Rattle.sentry_envelope.specs.Filter.{FiltersEnvelope};
 
     /// Removes the items that a filter rejects.
     ///

@@ -32,7 +32,7 @@ pub struct EnvelopeHeaders {
 }
 
 impl EnvelopeHeaders {
-    ghost use Rattle.std.specs.Prelude.{◌≡◌, Some, IfOk, codes, option_map};
+    ghost use Rattle.std.specs.Prelude.{IfOk, codes, option_map};
     ghost use Rattle.sentry_tables.specs.Cell.{octets};
     ghost use Rattle.sentry_tables.specs.Cells.{option_cell};
     ghost use Rattle.sentry_keys.specs.DsnTree.{dsn_cell};
@@ -40,7 +40,6 @@ impl EnvelopeHeaders {
     ghost use Rattle.sentry_parts.specs.ClientSdk.{sdk_cell};
     ghost use Rattle.sentry_records.specs.Sampling.{sampling_cell};
     ghost use Rattle.sentry_rows.specs.Parts.{part_at};
-    ghost use Rattle.sentry_envelope.specs.EnvelopeView.{no_fields};
     ghost use Rattle.sentry_tables.specs.Norm.{norm};
     ghost use Rattle.sentry_envelope.specs.HeaderFields.{fill_id, given_id, with_field};
 

@@ -13,7 +13,7 @@ use sentry_tables::{Member, Way};
 use std::alloc::{AllocError, Global};
 
 impl Envelope {
-    ghost use Rattle.std.specs.Prelude.{◌≡◌, IfOk, IfSome, IsSome, IsSomeAnd};
+    ghost use Rattle.std.specs.Prelude.{IfSome, IsSome, IsSomeAnd};
     ghost use Rattle.sentry_envelope.specs.Envelope.{IsEnvelopePlain, IsEnvelopeReadable, IsEnvelopeSized, envelope_norm, envelope_text};
     ghost use Rattle.sentry_envelope.specs.EnvelopeMade.{IsMade, IsNormalForm, SpellsAlone};
     ghost use Rattle.sentry_envelope.specs.EnvelopeView.{IsSame, raw_bytes, structured};

@@ -1,6 +1,6 @@
 //! Attachments: files that are sent in an envelope.
 
-ghost use Rattle.std.specs.Prelude.{◌≡◌, ◌++◌, ℕ, List, codes, IfOk, OnOk};
+ghost use Rattle.std.specs.Prelude.{◌≡◌, ◌++◌, IfOk, OnOk};
 ghost use Rattle.sentry_items.specs.View.{attachment_view};
 
 use crate::attachment_type::AttachmentType;
@@ -48,13 +48,13 @@ pub enum AttachmentWriteError {
 }
 
 impl Attachment {
-    ghost use Rattle.std.specs.Prelude.{◌≡◌, ℕ, List, ◌∷◌, ◌++◌, [], None, codes, IfOk, OnOk, IsTrue, option_map, string_bytes};
+    ghost use Rattle.std.specs.Prelude.{[], None, IsTrue, option_map, string_bytes};
     ghost use Rattle.std.specs.Io.KnownBytes.{Appends, Keeps};
-    ghost use Rattle.sentry_items.specs.Attached.{attached_type, attached_content_type, attachment_header, attachment_text, attached_norm, IsAttachedStored, IsTypeOption, IsUtf8Option};
+    ghost use Rattle.sentry_items.specs.Attached.{attached_type, attached_content_type, attachment_text, attached_norm, IsAttachedStored, IsTypeOption, IsUtf8Option};
     ghost use Rattle.sentry_items.specs.AttachmentWords.{attachment_type_text};
     ghost use Rattle.sentry_items.specs.Counted.{AppendsFront};
     ghost use Rattle.sentry_items.specs.Made.{attached_made};
-    ghost use Rattle.sentry_items.specs.View.{attachment_type_cell, attachment_view};
+    ghost use Rattle.sentry_items.specs.View.{attachment_type_cell};
 
     /// Creates an attachment of no bytes, with an empty file name and without types.
     pub fn default_in(alloc: Global) -> Attachment

@@ -7,6 +7,7 @@ ghost use Rattle.sentry_tables.specs.Made.{made};
 ghost use Rattle.sentry_tables.specs.Writes.{written, WritesTree};
 ghost use Rattle.sentry_items.specs.Containers.{container_cell, container_kind, container_type, items_cell};
 ghost use Rattle.sentry_items.specs.View.{payload_kind};
+ghost use Rattle.sentry_items.specs.declared.container.ItemContainer.TheVariants as variants;
 
 use crate::listed::Lent;
 use sentry_framing::ItemKind;
@@ -30,12 +31,10 @@ pub enum ItemContainer {
 }
 
 impl ItemContainer {
-    ghost use Rattle.std.specs.Prelude.{◌≡◌, ◌↔◌, nat_eq, IfOk, IsTrue};
+    ghost use Rattle.std.specs.Prelude.{◌↔◌, nat_eq, IsTrue};
     ghost use Rattle.sentry_tables.specs.Meets.{IsPlain, IsStored};
-    ghost use Rattle.sentry_tables.specs.Made.{made};
     ghost use Rattle.sentry_framing.specs.ItemWords.{kind_word};
-    ghost use Rattle.sentry_items.specs.Containers.{container_cell, container_len, container_type, content_type};
-    ghost use Rattle.sentry_items.specs.View.{payload_kind};
+    ghost use Rattle.sentry_items.specs.Containers.{container_len, content_type};
 
     /// Returns the number of values.
     pub fn len(&self) -> usize
@@ -161,9 +160,6 @@ fn write_container_tree(container: &ItemContainer, out: &mut Writer) -> Result<(
 }
 
 impl From<Vec<Log>> for ItemContainer {
-    ghost use Rattle.std.specs.Prelude.{◌≡◌};
-    ghost use Rattle.sentry_items.specs.declared.container.ItemContainer.TheVariants as variants;
-
     ghost from_gives = { λ logs container. container ≡ variants.Logs logs };
 
     fn from(logs: Vec<Log>) -> ItemContainer {
@@ -172,9 +168,6 @@ impl From<Vec<Log>> for ItemContainer {
 }
 
 impl From<Vec<Metric>> for ItemContainer {
-    ghost use Rattle.std.specs.Prelude.{◌≡◌};
-    ghost use Rattle.sentry_items.specs.declared.container.ItemContainer.TheVariants as variants;
-
     ghost from_gives = { λ metrics container. container ≡ variants.Metrics metrics };
 
     fn from(metrics: Vec<Metric>) -> ItemContainer {

@@ -3,6 +3,8 @@
 ghost use Rattle.std.specs.Prelude.{◌≡◌, [], IfOk, OnErr, OnOk};
 ghost use Rattle.sentry_items.specs.Payload.{AppendsPayload};
 ghost use Rattle.sentry_items.specs.View.{item_held};
+ghost use Rattle.sentry_items.specs.declared.container.ItemContainer.TheVariants as containers;
+ghost use Rattle.sentry_items.specs.declared.item.EnvelopeItem.TheVariants as variants;
 
 use crate::attachment::Attachment;
 use crate::container::{ItemContainer, write_container_payload};
@@ -45,11 +47,11 @@ pub enum EnvelopeItem {
 }
 
 impl EnvelopeItem {
-    ghost use Rattle.std.specs.Prelude.{◌≡◌, ◌↔◌, IfErr, IfOk, IsTrue};
+    ghost use Rattle.std.specs.Prelude.{◌↔◌, IfErr, IsTrue};
     ghost use Rattle.sentry_contexts.specs.Contexts.{IsBoxed};
     ghost use Rattle.sentry_items.specs.Made.{item_made, item_norm};
     ghost use Rattle.sentry_items.specs.Meets.{IsItemPlain, IsItemStored};
-    ghost use Rattle.sentry_items.specs.View.{item_held, kind_held};
+    ghost use Rattle.sentry_items.specs.View.{kind_held};
 
     /// Boxes an event as an item; returns the event unchanged if the allocation fails.
     pub fn event(alloc: Global, event: Event<'static>) -> Result<EnvelopeItem, Event<'static>>
@@ -196,9 +198,6 @@ pub fn write_payload(item: &EnvelopeItem, out: &mut Vec<u8>) -> Result<(), Alloc
 }
 
 impl From<SessionUpdate<'static>> for EnvelopeItem {
-    ghost use Rattle.std.specs.Prelude.{◌≡◌};
-    ghost use Rattle.sentry_items.specs.declared.item.EnvelopeItem.TheVariants as variants;
-
     ghost from_gives = { λ session item. item ≡ variants.SessionUpdate session };
 
     fn from(session: SessionUpdate<'static>) -> EnvelopeItem {
@@ -207,9 +206,6 @@ impl From<SessionUpdate<'static>> for EnvelopeItem {
 }
 
 impl From<SessionAggregates<'static>> for EnvelopeItem {
-    ghost use Rattle.std.specs.Prelude.{◌≡◌};
-    ghost use Rattle.sentry_items.specs.declared.item.EnvelopeItem.TheVariants as variants;
-
     ghost from_gives = { λ groups item. item ≡ variants.SessionAggregates groups };
 
     fn from(groups: SessionAggregates<'static>) -> EnvelopeItem {
@@ -218,9 +214,6 @@ impl From<SessionAggregates<'static>> for EnvelopeItem {
 }
 
 impl From<Attachment> for EnvelopeItem {
-    ghost use Rattle.std.specs.Prelude.{◌≡◌};
-    ghost use Rattle.sentry_items.specs.declared.item.EnvelopeItem.TheVariants as variants;
-
     ghost from_gives = { λ attachment item. item ≡ variants.Attachment attachment };
 
     fn from(attachment: Attachment) -> EnvelopeItem {
@@ -229,9 +222,6 @@ impl From<Attachment> for EnvelopeItem {
 }
 
 impl From<MonitorCheckIn> for EnvelopeItem {
-    ghost use Rattle.std.specs.Prelude.{◌≡◌};
-    ghost use Rattle.sentry_items.specs.declared.item.EnvelopeItem.TheVariants as variants;
-
     ghost from_gives = { λ check_in item. item ≡ variants.MonitorCheckIn check_in };
 
     fn from(check_in: MonitorCheckIn) -> EnvelopeItem {
@@ -240,9 +230,6 @@ impl From<MonitorCheckIn> for EnvelopeItem {
 }
 
 impl From<UserReport> for EnvelopeItem {
-    ghost use Rattle.std.specs.Prelude.{◌≡◌};
-    ghost use Rattle.sentry_items.specs.declared.item.EnvelopeItem.TheVariants as variants;
-
     ghost from_gives = { λ report item. item ≡ variants.UserReport report };
 
     fn from(report: UserReport) -> EnvelopeItem {
@@ -251,9 +238,6 @@ impl From<UserReport> for EnvelopeItem {
 }
 
 impl From<ReplayRecording> for EnvelopeItem {
-    ghost use Rattle.std.specs.Prelude.{◌≡◌};
-    ghost use Rattle.sentry_items.specs.declared.item.EnvelopeItem.TheVariants as variants;
-
     ghost from_gives = { λ recording item. item ≡ variants.ReplayRecording recording };
 
     fn from(recording: ReplayRecording) -> EnvelopeItem {
@@ -262,9 +246,6 @@ impl From<ReplayRecording> for EnvelopeItem {
 }
 
 impl From<ItemContainer> for EnvelopeItem {
-    ghost use Rattle.std.specs.Prelude.{◌≡◌};
-    ghost use Rattle.sentry_items.specs.declared.item.EnvelopeItem.TheVariants as variants;
-
     ghost from_gives = { λ container item. item ≡ variants.ItemContainer container };
 
     fn from(container: ItemContainer) -> EnvelopeItem {
@@ -273,10 +254,6 @@ impl From<ItemContainer> for EnvelopeItem {
 }
 
 impl From<Vec<Log>> for EnvelopeItem {
-    ghost use Rattle.std.specs.Prelude.{◌≡◌};
-    ghost use Rattle.sentry_items.specs.declared.item.EnvelopeItem.TheVariants as variants;
-    ghost use Rattle.sentry_items.specs.declared.container.ItemContainer.TheVariants as containers;
-
     ghost from_gives = { λ logs item. item ≡ variants.ItemContainer (containers.Logs logs) };
 
     fn from(logs: Vec<Log>) -> EnvelopeItem {
@@ -285,10 +262,6 @@ impl From<Vec<Log>> for EnvelopeItem {
 }
 
 impl From<Vec<Metric>> for EnvelopeItem {
-    ghost use Rattle.std.specs.Prelude.{◌≡◌};
-    ghost use Rattle.sentry_items.specs.declared.item.EnvelopeItem.TheVariants as variants;
-    ghost use Rattle.sentry_items.specs.declared.container.ItemContainer.TheVariants as containers;
-
     ghost from_gives = { λ metrics item.
         item ≡ variants.ItemContainer (containers.Metrics metrics) };
 
@@ -298,9 +271,6 @@ impl From<Vec<Metric>> for EnvelopeItem {
 }
 
 impl From<Report> for EnvelopeItem {
-    ghost use Rattle.std.specs.Prelude.{◌≡◌};
-    ghost use Rattle.sentry_items.specs.declared.item.EnvelopeItem.TheVariants as variants;
-
     ghost from_gives = { λ report item. item ≡ variants.ClientReport report };
 
     fn from(report: Report) -> EnvelopeItem {

@@ -44,7 +44,7 @@ fn loss(category: Category, quantity: u64) -> ItemLoss
 }
 
 impl<'a> SourceLosses<'a> {
-    ghost use Rattle.std.specs.Prelude.{◌≡◌, ◌∷◌, []};
+    ghost use Rattle.std.specs.Prelude.{◌∷◌, []};
     ghost use Rattle.std.specs.Iterator.{YieldsFirst};
     ghost use Rattle.sentry_items.specs.Losses.{loss, losses_of_attachment, losses_of_container, losses_of_groups, losses_of_item, losses_of_logs, losses_of_metrics, losses_of_report, losses_of_transaction, source_left};
 
@@ -176,7 +176,6 @@ impl<'a> SourceLosses<'a> {
 }
 
 impl<'a> ItemLossIter<'a> {
-    ghost use Rattle.std.specs.Prelude.{◌≡◌};
     ghost use Rattle.sentry_items.specs.Losses.{losses_left, losses_of_items, source_left};
 
     fn of_source(source: SourceLosses<'a>) -> ItemLossIter<'a>
@@ -241,7 +240,7 @@ impl Iterator for ItemLossIter<'_> {
 ///
 /// Each sum is capped at 2^64-1.
 pub trait LossSource: Sealed {
-    ghost use Rattle.std.specs.Prelude.{◌≡◌, List};
+    ghost use Rattle.std.specs.Prelude.{List};
     ghost use Rattle.sentry_reports.specs.declared.item_loss.ItemLoss.{ItemLoss};
     ghost use Rattle.sentry_items.specs.Losses.{losses_left};
 
