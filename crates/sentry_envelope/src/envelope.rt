@@ -129,7 +129,7 @@ impl Envelope {
     ///   [`sentry_framing::Frames::next_frame`] says.
     /// - `InvalidItemPayload` if a payload isn't read as its item type.
     ///
-    /// `OutOfMemory` if an allocation fails.
+    /// `OutOfMemory` if an allocation fails, or if a URL would take 4 GB.
     #[inline(never)]
     pub fn from_slice<R: Rng>(
         alloc: Global,
@@ -165,7 +165,7 @@ impl Envelope {
     /// # Errors
     ///
     /// - `UnexpectedEof` if the file can't be read, or as `from_slice` says.
-    /// - `OutOfMemory` if an allocation fails.
+    /// - `OutOfMemory` if an allocation fails, or as `from_slice` says.
     /// - Any other error as `from_slice` says.
     pub fn from_path<F: Files + AllocGlobal, R: Rng>(
         rt: &F,
@@ -350,7 +350,8 @@ impl Envelope {
         }
     }
 
-    // Returns the text that `to_writer` and `write_counted` write, or their error before any write.
+    // Returns the text that `to_writer`, `to_vec` and `write_counted` give, or their error before
+    // any write.
     //
     // Parts that lie in memory have fewer than 2^64 bytes together: that is counted here, for
     // `sized`.

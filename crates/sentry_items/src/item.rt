@@ -160,8 +160,8 @@ impl EnvelopeItem {
         self.remake(Way::Same)
     }
 
-    /// Returns the normal form: the item that is read back after writing. `AllocError` if an
-    /// allocation fails.
+    /// Returns the normal form: the item that is read back after writing. `Raw` stays `Raw`.
+    /// `AllocError` if an allocation fails.
     #[tactic(auto, unfolding(crate::specs::Made::item_made))]
     pub fn normalized(&self, alloc: Global) -> Result<EnvelopeItem, AllocError>
         ensures { IfOk result (λ item. item_held item ≡ item_norm (item_held self.now)) }

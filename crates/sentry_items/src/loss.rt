@@ -237,6 +237,8 @@ impl Iterator for ItemLossIter<'_> {
 /// - metrics: their number as `trace_metric`, and their size as `trace_metric_byte`
 /// - a client report: each of its items, with its reason
 /// - `EnvelopeItem::Raw`: none
+/// - an envelope: the losses of its items, in order; none if raw
+/// - a [`LossSlice`]: those of its list, in order
 ///
 /// Each sum is capped at 2^64-1.
 pub trait LossSource: Sealed {
