@@ -6,10 +6,7 @@ use sentry_moments::Moment;
 
 // 1970-01-01T00:00:00Z.
 pub(crate) fn epoch() -> Moment
-    ensures { result.secs ≡ 0 }
+    ensures { (result.secs ≡ 0) × (result.nanos ≡ 0) }
 {
-    match Moment::new(0, 0) {
-        Some(moment) => moment,
-        None => unreachable!(),
-    }
+    Moment::new(0, 0).unwrap()
 }
