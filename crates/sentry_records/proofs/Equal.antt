@@ -1,5 +1,5 @@
 -- What `==` says of values: they are equal exactly where their cells are the same.
-use Rattle.std.proofs.Common.{rules, ◌≡◌, ℕ, zero, suc, Bool, true, false, List, Option, Some, refl, sym, ap, ◌∙◌, Decides}
+use Rattle.std.proofs.Common.{rules, ◌≡◌, ℕ, zero, suc, Bool, List, Option, Some, refl, sym, ap, ◌∙◌, Decides}
 use Rattle.std.proofs.lemmas.Bool.Decides.{Decides-and, Decides-like}
 use Rattle.std.proofs.lemmas.Option.{same_Some}
 use mathlib.Core.Bool.{beq}
@@ -26,7 +26,8 @@ use Rattle.sentry_text.specs.contracts.project_id.OrganizationIdPartialEq.TheImp
 use Rattle.sentry_text.specs.declared.project_id.OrganizationId.{OrganizationId}
 use Rattle.sentry_words.specs.MonitorCheckInStatus.{check_in_status_of, check_in_status_word}
 use Rattle.sentry_words.specs.MonitorIntervalUnit.{interval_unit_of, interval_unit_word}
-use Rattle.sentry_words.specs.Sampled.{sampled_cell}
+use Rattle.sentry_words.proofs.SampledLaws.{sampled_back}
+use Rattle.sentry_words.specs.Sampled.{sampled_word, sampled_of, sampled_cell}
 use Rattle.sentry_words.specs.contracts.monitor_check_in_status.MonitorCheckInStatusPartialEq.TheImpl.{eq-value as of_statuses}
 use Rattle.sentry_words.specs.contracts.monitor_interval_unit.MonitorIntervalUnitPartialEq.TheImpl.{eq-value as of_units}
 use Rattle.sentry_words.specs.declared.monitor_check_in_status.MonitorCheckInStatus.{MonitorCheckInStatus}
@@ -71,11 +72,8 @@ rands_decide a b = search rules
 organizations_decide : (a b : OrganizationId) → Decides (of_organizations.it a b) (organization_cell a ≡ organization_cell b)
 organizations_decide a b = search rules
 
-sampled_decides : (a b : Bool) → Decides (beq a b) (sampled_cell a ≡ sampled_cell b)
-sampled_decides false false = (λ same. refl, λ same. refl)
-sampled_decides false true = (λ same. cc, λ same. cc)
-sampled_decides true false = (λ same. cc, λ same. cc)
-sampled_decides true true = (λ same. refl, λ same. refl)
+pub truths_same : (a b : Bool) → Decides (beq a b) (a ≡ b)
+truths_same a b = search rules
 
 -- words that are read back are the same where their variants are
 module _ {V : Type 0} (E : V → V → Bool) (same : (a b : V) → Decides (E a b) (a ≡ b)) (of_text : List ℕ → Option V) (word : V → List ℕ) (own : (v : V) → of_text (word v) ≡ Some v) where
@@ -84,6 +82,9 @@ module _ {V : Type 0} (E : V → V → Bool) (same : (a b : V) → Decides (E a 
 
   pub words_decide : (a b : V) → Decides (E a b) (word_cell word a ≡ word_cell word b)
   words_decide a b = Decides-like (E a b) (λ e. ap (word_cell word) e) (λ e. one_word a b (cc)) (same a b)
+
+sampled_decides : (a b : Bool) → Decides (beq a b) (sampled_cell a ≡ sampled_cell b)
+sampled_decides = words_decide beq truths_same sampled_of sampled_word sampled_back
 
 units_same : (a b : MonitorIntervalUnit) → Decides (of_units.it a b) (a ≡ b)
 units_same a b = search rules

@@ -1,5 +1,5 @@
 -- What `==` says of sessions: they are equal exactly where their cells are the same.
-use Rattle.std.proofs.Common.{Global, rules, ◌≡◌, Bool, true, false, Option, Some, None, IfSome, refl, sym, ap, ◌∙◌, Decides}
+use Rattle.std.proofs.Common.{Global, rules, ◌≡◌, Bool, Option, Some, None, IfSome, refl, sym, ap, ◌∙◌, Decides}
 use Rattle.std.proofs.lemmas.Bool.Decides.{Decides-and, Decides-like}
 use Rattle.std.proofs.lemmas.Option.{same_Some}
 use Rattle.std.proofs.lemmas.Slice.Eq.{bytes_eq-Decides}
@@ -33,7 +33,7 @@ use Rattle.sentry_records.specs.contracts.session_update.SessionUpdatePartialEq.
 use Rattle.sentry_records.specs.declared.session_aggregates.SessionAggregates.{SessionAggregates}
 use Rattle.sentry_records.specs.declared.session_attributes.SessionAttributes.{SessionAttributes}
 use Rattle.sentry_records.specs.declared.session_update.SessionUpdate.{SessionUpdate}
-use Rattle.sentry_records.proofs.Equal.{ids_decide, moments_decide, words_decide, nth, cells_in, row, groups_decide as items_decide}
+use Rattle.sentry_records.proofs.Equal.{ids_decide, moments_decide, truths_same, words_decide, nth, cells_in, row, groups_decide as items_decide}
 
 -- ---- scalars
 
@@ -41,10 +41,7 @@ cows_decide : (a b : CowStr Global) → Decides (bytes_eq (cow_str_bytes a) (cow
 cows_decide a b = Decides-like (bytes_eq (cow_str_bytes a) (cow_str_bytes b)) (λ same. ap text same) (λ same. cc) (bytes_eq-Decides (cow_str_bytes a) (cow_str_bytes b))
 
 truths_decide : (a b : Bool) → Decides (beq a b) (truth a ≡ truth b)
-truths_decide false false = (λ same. refl, λ same. refl)
-truths_decide false true = (λ same. cc, λ same. cc)
-truths_decide true false = (λ same. cc, λ same. cc)
-truths_decide true true = (λ same. refl, λ same. refl)
+truths_decide a b = Decides-like (beq a b) (λ same. ap truth same) (λ same. cc) (truths_same a b)
 
 statuses_same : (a b : SessionStatus) → Decides (of_statuses.it a b) (a ≡ b)
 statuses_same a b = search rules
