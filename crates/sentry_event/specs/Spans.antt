@@ -53,14 +53,4 @@ DrawsIds s a z = (m : Stream) × ((span_bytes s.span_id, m) ≡ fill_bytes 8 a) 
 
 -- the one ends at that moment, and is the other in all else
 abbrev pub EndsAt : Moment → Span → Span → Type 0
-EndsAt end old new = (new.timestamp ≡ Some end)
-    × (new.span_id ≡ old.span_id)
-    × (new.trace_id ≡ old.trace_id)
-    × (new.parent_span_id ≡ old.parent_span_id)
-    × (new.same_process_as_parent ≡ old.same_process_as_parent)
-    × (new.op ≡ old.op)
-    × (new.description ≡ old.description)
-    × (new.start_timestamp ≡ old.start_timestamp)
-    × (new.status ≡ old.status)
-    × (new.tags ≡ old.tags)
-    × (new.data_ ≡ old.data_)
+EndsAt end old new = new ≡ record old { timestamp = Some end }

@@ -54,18 +54,4 @@ transaction_text t = codes "Transaction(id: " ++ (hyphenated_text lower t.event_
 
 -- the one ends at that moment, and is the other in all else
 abbrev pub EndsAt : Moment → Transaction → Transaction → Type 0
-EndsAt end old new = (new.timestamp ≡ Some end)
-    × (new.event_id ≡ old.event_id)
-    × (new.name ≡ old.name)
-    × (new.release ≡ old.release)
-    × (new.environment ≡ old.environment)
-    × (new.user ≡ old.user)
-    × (new.tags ≡ old.tags)
-    × (new.extra ≡ old.extra)
-    × (new.sdk ≡ old.sdk)
-    × (new.platform ≡ old.platform)
-    × (new.start_timestamp ≡ old.start_timestamp)
-    × (new.spans ≡ old.spans)
-    × (new.contexts ≡ old.contexts)
-    × (new.request ≡ old.request)
-    × (new.server_name ≡ old.server_name)
+EndsAt end old new = new ≡ record old { timestamp = Some end }

@@ -65,7 +65,7 @@ pub struct Transaction<'a> {
 }
 
 impl<'a> Transaction<'a> {
-    ghost use Rattle.std.specs.Prelude.{◌≡◌, IfErr, IfOk};
+    ghost use Rattle.std.specs.Prelude.{IfErr, IfOk};
     ghost use Rattle.rand_core.specs.Stream.{fill_bytes};
     ghost use Rattle.uuid.specs.Parts.{v4_of_fill};
     ghost use Rattle.sentry_tables.specs.Defaults.{IsDefaultAt};
