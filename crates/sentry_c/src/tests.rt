@@ -7,6 +7,7 @@ use crate::texts::{
     SentryAuth, SentryDsn, SentryPlace, sentry_auth_parse, sentry_crontab_check, sentry_dsn_parse,
     sentry_rfc3339_format, sentry_rfc3339_parse,
 };
+use std::alloc::Global;
 
 // An envelope of an attachment, and its normal form.
 const GIVEN: &[u8] =
@@ -14,6 +15,10 @@ const GIVEN: &[u8] =
 
 const WRITTEN: &[u8] =
     b"{\"event_id\":\"9ec79c33-ec99-42ab-8353-589fcb2e04dc\"}\n{\"attachment_type\":\"event.attachment\",\"content_type\":\"application/octet-stream\",\"filename\":\"\",\"length\":10,\"type\":\"attachment\"}\nhelloworld\n";
+
+// The text of a report of three recordings that sampling dropped, at the first second of 1970.
+const REPORT: &[u8] =
+    b"{}\n{\"length\":94,\"type\":\"client_report\"}\n{\"discarded_events\":[{\"category\":\"replay\",\"quantity\":3,\"reason\":\"sample_rate\"}],\"timestamp\":0}\n";
 
 const NOWHERE: SentryPlace = SentryPlace {
     offset: 0,
@@ -35,24 +40,40 @@ fn an_envelope_is_written(rt: HostRuntime) {
     assert!(rt; out.starts_with(WRITTEN));
 }
 
-#[test]
-fn attachments_are_removed(rt: HostRuntime) {
-    let (mut out, mut losses) = ([0_u8; 200], [0_u64; 120]);
+// Filters the envelope of an attachment by the kinds of these bits: the status, how many bytes are
+// needed, and whether exactly these bytes were lost.
+fn filtered(
+    alloc: Global,
+    kinds: u32,
+    lost: u64,
+    out: &mut [u8; 200],
+) -> (i32, u64, bool) {
+    let (mut losses, mut due) = ([9_u64; 120], [0_u64; 120]);
+    due[40] = lost;
     let mut needed = 0;
     let status = sentry_envelope_filter(
-        rt.alloc(),
+        alloc,
         GIVEN,
         0,
         0,
         1,
-        16,
+        kinds,
         false,
         true,
-        &mut out,
+        out,
         &mut needed,
         &mut losses,
     );
-    assert_eq!(rt; (status, needed, losses[40]), (6, 0, 10));
+    (status, needed, losses == due)
+}
+
+#[test]
+fn attachments_are_removed(rt: HostRuntime) {
+    let mut out = [7_u8; 200];
+    assert_eq!(rt; filtered(rt.alloc(), 16, 10, &mut out), (6, 0, true));
+    assert!(rt; out == [7; 200]);
+    assert_eq!(rt; filtered(rt.alloc(), 1, 0, &mut out), (0, 190, true));
+    assert!(rt; out.starts_with(WRITTEN));
 }
 
 #[test]
@@ -148,7 +169,10 @@ fn small_texts(rt: HostRuntime) {
         (parsed, secs, nanos, written, same),
         (0, 1, 500_000_000, 0, true)
     );
-    assert_eq!(rt; sentry_crontab_check(b"* * * * *"), 0);
+    assert_eq!(rt;
+        (sentry_crontab_check(b"* * * * *"), sentry_crontab_check(b"* * * *")),
+        (0, 4)
+    );
 }
 
 #[test]
@@ -160,5 +184,6 @@ fn a_ledger_is_flushed(rt: HostRuntime) {
     let short = sentry_ledger_flush(rt.alloc(), &mut ledger, 0, 0, &mut out[..3], &mut needed);
     assert_eq!(rt; (recorded, told, held, short, ledger[107]), (0, 0, 3, 1, 3));
     let flushed = sentry_ledger_flush(rt.alloc(), &mut ledger, 0, 0, &mut out, &mut needed);
-    assert_eq!(rt; (flushed, ledger[107]), (0, 0));
+    assert_eq!(rt; (flushed, needed, ledger == [0; 108]), (0, 135, true));
+    assert!(rt; out.starts_with(REPORT));
 }

@@ -26,7 +26,7 @@ fn envelope(alloc: Global, word: &str, members: &str, bytes: usize) -> Result<St
 /// The message of an envelope's event.
 fn message(envelope: &Envelope) -> &str {
     let Some(event) = envelope.event() else {
-        return REFUSED;
+        return "no event";
     };
     match &event.message {
         Some(text) => text.as_str(),
