@@ -58,8 +58,8 @@ fn place_in(ledger: &[u64], category: u32, reason: u32) -> Option<usize>
 ///
 /// - `OK` if the loss was added.
 /// - `LEDGER_FULL` if the sum would exceed 2^64-1.
-/// - `INVALID_ARGUMENT` if the ledger has another length than [`PAIRS`], or no category or no reason
-///   has the number.
+/// - `INVALID_ARGUMENT` if the ledger has another length than [`PAIRS`], or no category or no
+///   reason has the number.
 #[unsafe(no_mangle)]
 pub extern "C" fn sentry_ledger_record(
     ledger: &mut [u64],
@@ -97,8 +97,8 @@ pub extern "C" fn sentry_ledger_record(
 /// # Returns
 ///
 /// - `OK` if `quantity` was set.
-/// - `INVALID_ARGUMENT` if the ledger has another length than [`PAIRS`], or no category or no reason
-///   has the number.
+/// - `INVALID_ARGUMENT` if the ledger has another length than [`PAIRS`], or no category or no
+///   reason has the number.
 #[unsafe(no_mangle)]
 pub extern "C" fn sentry_ledger_held(
     ledger: &[u64],

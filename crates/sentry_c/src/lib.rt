@@ -2,8 +2,8 @@
 //!
 //! The exported functions for envelopes, frames and small texts are each a few lines over a call of
 //! `sentry_types`, and say that call's clauses again, over bytes. Those of the ledger add, read and
-//! report sums in the caller's memory. `bindings/c/curdmesa.h` declares all of them, and says what a
-//! caller owes.
+//! report sums in the caller's memory. `bindings/c/curdmesa.h` declares all of them, and says what
+//! a caller owes.
 #![tactic(auto)]
 
 pub mod envelope;

@@ -16,6 +16,10 @@ const GIVEN: &[u8] =
 const WRITTEN: &[u8] =
     b"{\"event_id\":\"9ec79c33-ec99-42ab-8353-589fcb2e04dc\"}\n{\"attachment_type\":\"event.attachment\",\"content_type\":\"application/octet-stream\",\"filename\":\"\",\"length\":10,\"type\":\"attachment\"}\nhelloworld\n";
 
+// An event as it is written, and an attachment behind it.
+const WITH_EVENT: &[u8] =
+    b"{\"event_id\":\"22d00b3f-d1b1-4b5d-8d20-49d138cd8a9c\"}\n{\"length\":86,\"type\":\"event\"}\n{\"event_id\":\"22d00b3fd1b14b5d8d2049d138cd8a9c\",\"timestamp\":\"2020-07-20T14:51:14.296Z\"}\n{\"type\":\"attachment\",\"length\":12}\nHello World!";
+
 // The text of a report of three recordings that sampling dropped, at the first second of 1970.
 const REPORT: &[u8] =
     b"{}\n{\"length\":94,\"type\":\"client_report\"}\n{\"discarded_events\":[{\"category\":\"replay\",\"quantity\":3,\"reason\":\"sample_rate\"}],\"timestamp\":0}\n";
@@ -40,11 +44,11 @@ fn an_envelope_is_written(rt: HostRuntime) {
     assert!(rt; out.starts_with(WRITTEN));
 }
 
-// Filters the envelope of an attachment by the kinds of these bits: the status, how many bytes are
-// needed, and whether exactly these bytes were lost.
-fn filtered(
+// Takes the attachments out of an envelope: the status, how many bytes are needed, and whether
+// exactly these bytes were lost.
+fn without_attachments(
     alloc: Global,
-    kinds: u32,
+    given: &[u8],
     lost: u64,
     out: &mut [u8; 200],
 ) -> (i32, u64, bool) {
@@ -53,11 +57,11 @@ fn filtered(
     let mut needed = 0;
     let status = sentry_envelope_filter(
         alloc,
-        GIVEN,
+        given,
         0,
         0,
         1,
-        kinds,
+        16,
         false,
         true,
         out,
@@ -70,10 +74,10 @@ fn filtered(
 #[test]
 fn attachments_are_removed(rt: HostRuntime) {
     let mut out = [7_u8; 200];
-    assert_eq!(rt; filtered(rt.alloc(), 16, 10, &mut out), (6, 0, true));
+    assert_eq!(rt; without_attachments(rt.alloc(), GIVEN, 10, &mut out), (6, 0, true));
     assert!(rt; out == [7; 200]);
-    assert_eq!(rt; filtered(rt.alloc(), 1, 0, &mut out), (0, 190, true));
-    assert!(rt; out.starts_with(WRITTEN));
+    assert_eq!(rt; without_attachments(rt.alloc(), WITH_EVENT, 12, &mut out), (0, 168, true));
+    assert!(rt; out.starts_with(&WITH_EVENT[..168]));
 }
 
 #[test]

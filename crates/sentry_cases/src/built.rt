@@ -220,8 +220,8 @@ fn said_built(alloc: Global, mut envelope: Envelope, words: &str) -> Result<Valu
     told
 }
 
-/// What an envelope is that some items were added to, and the words of those that it hands back. The
-/// first word tells which envelope they are added to, and the others name the items.
+/// What an envelope is that some items were added to, and the words of those that it hands back.
+/// The first word tells which envelope they are added to, and the others name the items.
 pub fn of_built(alloc: Global, words: &str, bytes: &[u8]) -> Result<Value, AllocError> {
     let (first, words) = words.split_once(' ').unwrap_or((words, ""));
     taken(

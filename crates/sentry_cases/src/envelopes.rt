@@ -89,8 +89,8 @@ pub fn of_reader(alloc: Global, texts: &[Value]) -> Result<Value, AllocError> {
     Ok(Value::from(told))
 }
 
-/// What is written of a raw envelope, whether it is plain, how many items it shows, and what is lost
-/// with them.
+/// What is written of a raw envelope, whether it is plain, how many items it shows, and what is
+/// lost with them.
 pub fn said_raw(alloc: Global, envelope: &Envelope) -> Result<Value, AllocError> {
     let fields = [
         said_of(alloc, envelope.clone(), said_envelope),

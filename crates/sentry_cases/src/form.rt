@@ -300,8 +300,8 @@ fn found(alloc: Global, place: &Option<Scalar<'_>>) -> Result<Value, AllocError>
     }
 }
 
-/// What the members `a` and `b` leave of a line on a tape, and the object at `c` that is read apart,
-/// or null; `false` if the tape doesn't take the line so.
+/// What the members `a` and `b` leave of a line on a tape, and the object at `c` that is read
+/// apart, or null; `false` if the tape doesn't take the line so.
 pub fn of_apart(alloc: Global, line: &[u8]) -> Result<Value, AllocError> {
     let texts = Bump::new(alloc);
     let mut tape = Tape::new(alloc, &texts);

@@ -5,35 +5,34 @@ use crate::said::{as_tree, debug, list, owned, refused, shown, text};
 use sentry_types::protocol::v7::{OrganizationId, SpanId, TraceId, Value};
 use sentry_types::{CodeId, DebugId, ProjectId};
 use std::alloc::{AllocError, Global};
+use std::fmt;
+
+// What an id of hexadecimal digits is printed as in three ways, and whether both readers give it.
+fn said_hex<T: fmt::Display + fmt::Debug>(
+    alloc: Global,
+    id: &T,
+    text: Result<String, AllocError>,
+    same: bool,
+) -> Result<Value, AllocError> {
+    let fields = [
+        shown(alloc, id),
+        owned(text),
+        debug(alloc, id),
+        as_tree(same),
+    ];
+    list(alloc, fields)
+}
 
 fn of_span(alloc: Global, given: &str) -> Result<Value, AllocError> {
     match SpanId::try_from(String::from_str(alloc, given)?) {
-        Ok(id) => {
-            let same = given.parse::<SpanId>() == Ok(id);
-            let fields = [
-                shown(alloc, &id),
-                owned(id.to_text(alloc)),
-                debug(alloc, &id),
-                as_tree(same),
-            ];
-            list(alloc, fields)
-        }
+        Ok(id) => said_hex(alloc, &id, id.to_text(alloc), given.parse() == Ok(id)),
         Err(error) => refused(alloc, &error),
     }
 }
 
 fn of_trace(alloc: Global, given: &str) -> Result<Value, AllocError> {
     match TraceId::try_from(String::from_str(alloc, given)?) {
-        Ok(id) => {
-            let same = given.parse::<TraceId>() == Ok(id);
-            let fields = [
-                shown(alloc, &id),
-                owned(id.to_text(alloc)),
-                debug(alloc, &id),
-                as_tree(same),
-            ];
-            list(alloc, fields)
-        }
+        Ok(id) => said_hex(alloc, &id, id.to_text(alloc), given.parse() == Ok(id)),
         Err(error) => refused(alloc, &error),
     }
 }

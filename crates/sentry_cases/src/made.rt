@@ -302,8 +302,8 @@ fn of_user(alloc: Global, id: &str, members: &Map<String, Value>) -> Result<Valu
 }
 
 // What is said of a value of its own, whose text may name another value: the tree that it writes,
-// whether it is the value that is named, whether it is its clone, and whether its normal form is the
-// value that is named.
+// whether it is the value that is named, whether it is its clone, and whether its normal form is
+// the value that is named.
 fn said_beside<T: Member + PartialEq>(
     alloc: Global,
     custom: &T,

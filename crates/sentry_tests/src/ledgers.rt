@@ -181,8 +181,8 @@ fn keeps_none(_item: &EnvelopeItem) -> bool {
     false
 }
 
-/// What is told of an envelope that a filter takes out, after a refusal that recorded nothing at the
-/// second try.
+/// What is told of an envelope that a filter takes out, after a refusal that recorded nothing at
+/// the second try.
 fn recorded_at_last(alloc: Global, envelope: Envelope, ledger: &mut Ledger) -> Option<(bool, u64)> {
     match filter_recorded(alloc, envelope, keeps_none, Reason::SampleRate, ledger) {
         Err(envelope) => {

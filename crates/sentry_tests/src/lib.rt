@@ -1,5 +1,5 @@
-//! Tests of what no line of text can ask, by public names: orders, builders, memory and writers that
-//! fail, filters with a state, programs. This crate has no code of its own.
+//! Tests of what no line of text can ask, by public names: orders, builders, memory and writers
+//! that fail, filters with a state, programs. This crate has no code of its own.
 //!
 //! A test makes its values and asks them in small calls that answer yes or no, and fails once, by
 //! `wanted`. No call lets a value of a large type go where its scope ends: see `wanted`.

@@ -89,7 +89,8 @@ pub(crate) fn read_at_last(alloc: Global, bytes: &[u8]) -> Result<Envelope, Enve
     }
 }
 
-/// Whether a page gets the whole text, after a failed allocation, which wrote nothing, at the second try.
+/// Whether a page gets the whole text, after a failed allocation, which wrote nothing, at the
+/// second try.
 fn is_written_at_last(alloc: Global, envelope: &Envelope) -> bool {
     let mut page = Page {
         bytes: [0; 512],
@@ -143,8 +144,8 @@ fn is_left<T: Drop, E: Drop>(filtered: Result<Option<T>, E>) -> bool {
     matches!(filtered, Ok(Some(_)))
 }
 
-/// Whether all stays, after a failed allocation, which called nothing and left the envelope as it was, at the
-/// second try.
+/// Whether all stays, after a failed allocation, which called nothing and left the envelope as it
+/// was, at the second try.
 fn stays_at_last(alloc: Global, envelope: Envelope) -> bool {
     let none = Calls {
         asked: 0,

@@ -23,8 +23,8 @@ fn normal_text(alloc: Global, envelope: &Envelope) -> Result<Vec<u8>, EnvelopeWr
     }
 }
 
-/// Returns how many of the bytes are the header line and items that were written whole: each ends in
-/// a line feed, behind its header and behind its payload.
+/// Returns how many of the bytes are the header line and items that were written whole: each ends
+/// in a line feed, behind its header and behind its payload.
 fn whole_len(alloc: Global, bytes: &[u8]) -> usize {
     let mut frames = Frames::new(bytes);
     let mut whole = bytes.len().saturating_sub(frames.rest().len());
