@@ -68,12 +68,15 @@ pub stored_and_plain_parts : (e : Envelope) (r : Bool) → (IsTrue r ↔ IsSomeA
 stored_and_plain_parts e r plain stored is = stored_and_plain_held (header_of e) (held e) (plain.0 is) (stored is)
 
 -- what is told of a structured envelope holds where an envelope is structured
-if_structured : (m : Option Model) → IsSomeAnd m (IsEnvelopeStored profile) → IfSome m (IsEnvelopeStored profile)
-if_structured None none = absurd none
-if_structured (Some m) stored = stored
+if_structured : (P : Model → Type 0) (m : Option Model) → IsSomeAnd m P → IfSome m P
+if_structured P None none = absurd none
+if_structured P (Some m) holds = holds
+
+pub plain_where_structured : (e : Envelope) (r : Bool) → (IsTrue r ↔ IsSomeAnd (structured e) (IsEnvelopePlain profile)) → r ≡ true → IfSome (structured e) (IsEnvelopePlain profile)
+plain_where_structured e r plain is = if_structured (IsEnvelopePlain profile) (structured e) (plain.0 is)
 
 pub stored_where_structured : (e : Envelope) (r : Bool) → (IsTrue r → IsSomeAnd (structured e) (IsEnvelopeStored profile)) → r ≡ true → IfSome (structured e) (IsEnvelopeStored profile)
-stored_where_structured e r stored is = if_structured (structured e) (stored is)
+stored_where_structured e r stored is = if_structured (IsEnvelopeStored profile) (structured e) (stored is)
 
 -- what is written is sized, since its text stood in memory
 sized_held : (h : Cell) (x : Held) → length (text_by h x) < 2 ^ 64 → IfSome (structured_by h x) (IsEnvelopeStored profile) → IfSome (structured_by h x) (IsEnvelopeSized profile)

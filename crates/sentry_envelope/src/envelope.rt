@@ -52,7 +52,7 @@ pub enum AddRefused {
 }
 
 impl Envelope {
-    ghost use Rattle.std.specs.Prelude.{false, ◌≡◌, ◌≢◌, ◌↔◌, ◌⊎◌, List, ℕ, ◌+◌, ◌-◌, ◌^◌, ◌<◌, Some, IfOk, IfErr, IsOkAnd, OnErr, OnOk, IsSome, IsSomeAnd, IfSome, IsTrue, option_map};
+    ghost use Rattle.std.specs.Prelude.{false, ◌≡◌, ◌≢◌, ◌↔◌, ◌⊎◌, List, [], ◌∷◌, ◌++◌, ℕ, ◌+◌, ◌-◌, ◌^◌, ◌<◌, Some, IfOk, IfErr, IsOkAnd, OnErr, OnOk, IsSome, IsSomeAnd, IfSome, IsTrue, option_map};
     ghost use Rattle.std.specs.Io.KnownBytes.{Appends, Keeps};
     ghost use Rattle.sentry_items.specs.Counted.{writer_inside, writer_failures, AppendsFront};
     ghost use Rattle.sentry_envelope.specs.Envelope.{Envelope as Model, IsEnvelopePlain, IsEnvelopeSized, IsEnvelopeStored, Spells, envelope_text, envelope_norm};
@@ -66,7 +66,8 @@ impl Envelope {
 
     /// Creates a structured envelope without header fields and items.
     pub fn new(alloc: Global) -> Envelope
-        ensures { structured result ≡ Some empty }
+        ensures fresh { structured result ≡ Some empty }
+        ensures no_items { items_of result ≡ [] }
     {
         Envelope {
             headers: EnvelopeHeaders::new(),
@@ -76,7 +77,8 @@ impl Envelope {
 
     /// Creates a structured envelope without header fields and items.
     pub fn default_in(alloc: Global) -> Envelope
-        ensures { structured result ≡ Some empty }
+        ensures fresh { structured result ≡ Some empty }
+        ensures no_items { items_of result ≡ [] }
     {
         Envelope::new(alloc)
     }
@@ -89,6 +91,7 @@ impl Envelope {
     /// `Memory` with the item if an allocation fails.
     pub fn from_item(alloc: Global, item: EnvelopeItem) -> Result<Envelope, AddRefused>
         ensures ok { IfOk result (λ e. structured e ≡ Some (with_item empty (item_view item))) }
+        ensures one { IfOk result (λ e. items_of e ≡ item ∷ []) }
         ensures memory { IfErr result (λ refused. refused ≡ AddRefused.Memory item) }
     {
         let mut envelope = Envelope::new(alloc);
@@ -219,11 +222,14 @@ impl Envelope {
     pub fn add_item(&mut self, item: EnvelopeItem) -> Result<(), AddRefused>
         ensures added { (old : Model) → structured self.old ≡ Some old →
             OnOk result (structured self.new ≡ Some (with_item old (item_view item))) }
+        ensures behind { IsSome (structured self.old) →
+            OnOk result (items_of self.new ≡ items_of self.old ++ item ∷ []) }
         ensures raw_envelope { (result ≡ Err (AddRefused.RawEnvelope item)) ↔
             (IsSome (raw_bytes self.old) × (item ≢ EnvelopeItem.Raw)) }
         ensures raw_taken { IsSome (raw_bytes self.old) → item ≡ EnvelopeItem.Raw → result ≡ Ok tt }
         ensures raw_same { IsSome (raw_bytes self.old) → IsSame self.new self.old }
         ensures refused { OnErr result (IsSame self.new self.old) }
+        ensures same_items { OnErr result (items_of self.new ≡ items_of self.old) }
         ensures handed_back { IfErr result (λ refused. refused_item refused ≡ item) }
     {
         match &mut self.contents {
@@ -255,6 +261,7 @@ impl Envelope {
     pub fn with_headers(self, headers: EnvelopeHeaders) -> Envelope
         ensures header { header_of result ≡ headers_cell headers }
         ensures same { held result ≡ held self }
+        ensures same_items { items_of result ≡ items_of self }
     {
         let Envelope {
             headers: _,
@@ -338,10 +345,11 @@ impl Envelope {
     }
 
     // A raw envelope can always be written.
-    #[tactic(auto, using(crate::proofs::Demands::stored_and_plain_parts, crate::proofs::Demands::stored_where_structured))]
+    #[tactic(auto, using(crate::proofs::Demands::stored_and_plain_parts, crate::proofs::Demands::plain_where_structured, crate::proofs::Demands::stored_where_structured))]
     fn is_unwritable(&self) -> bool
         ensures exactly { IsTrue result ↔ IsUnwritable self.now }
         ensures stored_and_plain { result ≡ false → PartsAreStoredAndPlain self.now }
+        ensures plain { result ≡ false → IfSome (structured self.now) (IsEnvelopePlain profile) }
         ensures stored { result ≡ false → IfSome (structured self.now) (IsEnvelopeStored profile) }
     {
         match &self.contents {
@@ -357,6 +365,7 @@ impl Envelope {
     // `sized`.
     fn text(&self, alloc: Global) -> Result<Text<'_>, EnvelopeWriteError>
         ensures ok { IfOk result (λ text. bytes_of text ≡ text_of self.now) }
+        ensures plain { OnOk result (IfSome (structured self.now) (IsEnvelopePlain profile)) }
         ensures stored { OnOk result (IfSome (structured self.now) (IsEnvelopeStored profile)) }
         ensures sized { OnOk result (IfSome (structured self.now) (IsEnvelopeSized profile)) }
         ensures not_plain { (result ≡ Err EnvelopeWriteError.NotPlain) ↔ IsUnwritable self.now }
@@ -390,6 +399,7 @@ impl Envelope {
     ) -> Result<(), EnvelopeWriteError>
         ensures whole { OnOk result (Appends (W.contents writer.old) (W.contents writer.new)
             (text_of self.now)) }
+        ensures plain { OnOk result (IfSome (structured self.now) (IsEnvelopePlain profile)) }
         ensures stored { OnOk result (IfSome (structured self.now) (IsEnvelopeStored profile)) }
         ensures sized { OnOk result (IfSome (structured self.now) (IsEnvelopeSized profile)) }
         ensures not_plain { (result ≡ Err EnvelopeWriteError.NotPlain) ↔ IsUnwritable self.now }
@@ -413,6 +423,7 @@ impl Envelope {
     /// - `Memory` if an allocation fails.
     pub fn to_vec(&self, alloc: Global) -> Result<Vec<u8>, EnvelopeWriteError>
         ensures whole { IfOk result (λ text. text.items ≡ text_of self.now) }
+        ensures plain { OnOk result (IfSome (structured self.now) (IsEnvelopePlain profile)) }
         ensures stored { OnOk result (IfSome (structured self.now) (IsEnvelopeStored profile)) }
         ensures sized { OnOk result (IfSome (structured self.now) (IsEnvelopeSized profile)) }
         ensures not_plain { (result ≡ Err EnvelopeWriteError.NotPlain) ↔ IsUnwritable self.now }
@@ -441,6 +452,7 @@ impl Envelope {
         requires { writer_failures writer.old < 2 ^ 64 - 1 }
         ensures whole { OnOk result (Appends (W.contents (writer_inside writer.old))
             (W.contents (writer_inside writer.new)) (text_of self.now)) }
+        ensures plain { OnOk result (IfSome (structured self.now) (IsEnvelopePlain profile)) }
         ensures stored { OnOk result (IfSome (structured self.now) (IsEnvelopeStored profile)) }
         ensures sized { OnOk result (IfSome (structured self.now) (IsEnvelopeSized profile)) }
         ensures not_plain { (result ≡ Err EnvelopeWriteError.NotPlain) ↔ IsUnwritable self.now }
