@@ -50,9 +50,9 @@ impl Envelope {
     /// event id becomes that of the first event or transaction. For a raw envelope the result is a
     /// clone.
     ///
-    /// The normal form of a plain envelope is plain and its own normal form. If the envelope is also
-    /// readable, so is the form; if it is sized too, as whatever `to_writer` has written is, the
-    /// envelope's text reads back as this form and as nothing else.
+    /// The normal form of a plain envelope is plain and its own normal form. If the envelope is
+    /// also readable, so is the form; if it is sized too, as whatever `to_writer` has written is,
+    /// the envelope's text reads back as this form and as nothing else.
     #[tactic(auto, using(crate::proofs::EnvelopeMade::answers_raw))]
     pub fn normalized(&self) -> Result<Envelope, AllocError>
         ensures normal { IfOk result (λ n. IfSome (structured self.now) (λ m.

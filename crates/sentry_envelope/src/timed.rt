@@ -66,8 +66,8 @@ fn read_long_at<'a, T: ReadApart, R: Rng>(
     Some(value.with_extra(extra))
 }
 
-// As `read_at`. Of a long line, neither additional data nor members that the type doesn't know leave
-// tokens.
+// As `read_at`. Of a long line, neither additional data nor members that the type doesn't know
+// leave tokens.
 //
 // # Errors
 //

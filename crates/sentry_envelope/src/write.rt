@@ -59,8 +59,8 @@ fn write_headers(headers: &EnvelopeHeaders, out: &mut Vec<u8>) -> Result<(), All
 
 // Appends the header and payload of an item, each with a line feed; nothing for `Raw`.
 //
-// A JSON payload is built in the buffer `payload`, since its length is written before it, and a JSON
-// writer clears memory ahead of what it writes.
+// A JSON payload is built in the buffer `payload`, since its length is written before it, and a
+// JSON writer clears memory ahead of what it writes.
 fn write_item<'e>(
     item: &'e EnvelopeItem,
     payload: &mut Vec<u8>,

@@ -39,8 +39,8 @@ impl<'e> Text<'e> {
         }
     }
 
-    /// Creates a text of these bytes, which are lent if they are many. `AllocError` if an allocation
-    /// fails.
+    /// Creates a text of these bytes, which are lent if they are many. `AllocError` if an
+    /// allocation fails.
     pub fn lent(alloc: Global, bytes: &'e [u8]) -> Result<Text<'e>, AllocError>
         ensures { IfOk result (λ text. bytes_of text ≡ bytes.now) }
     {
@@ -62,8 +62,8 @@ impl<'e> Text<'e> {
         Ok(())
     }
 
-    /// Appends the bytes of a buffer, which are moved out of it if they are many. `AllocError` if an
-    /// allocation fails.
+    /// Appends the bytes of a buffer, which are moved out of it if they are many. `AllocError` if
+    /// an allocation fails.
     pub fn take(&mut self, bytes: &mut Vec<u8>) -> Result<(), AllocError>
         ensures { OnOk result (bytes_of self.new ≡ bytes_of self.old ++ bytes.old.items) }
     {
