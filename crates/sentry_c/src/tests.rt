@@ -74,9 +74,15 @@ fn without_attachments(
 #[test]
 fn attachments_are_removed(rt: HostRuntime) {
     let mut out = [7_u8; 200];
-    assert_eq!(rt; without_attachments(rt.alloc(), GIVEN, 10, &mut out), (6, 0, true));
+    assert_eq!(rt;
+        without_attachments(rt.alloc(), GIVEN, 10, &mut out),
+        (6, 0, true)
+    );
     assert!(rt; out == [7; 200]);
-    assert_eq!(rt; without_attachments(rt.alloc(), WITH_EVENT, 12, &mut out), (0, 168, true));
+    assert_eq!(rt;
+        without_attachments(rt.alloc(), WITH_EVENT, 12, &mut out),
+        (0, 168, true)
+    );
     assert!(rt; out.starts_with(&WITH_EVENT[..168]));
 }
 
@@ -174,7 +180,10 @@ fn small_texts(rt: HostRuntime) {
         (0, 1, 500_000_000, 0, true)
     );
     assert_eq!(rt;
-        (sentry_crontab_check(b"* * * * *"), sentry_crontab_check(b"* * * *")),
+        (
+            sentry_crontab_check(b"* * * * *"),
+            sentry_crontab_check(b"* * * *")
+        ),
         (0, 4)
     );
 }
