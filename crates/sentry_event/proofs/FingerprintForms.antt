@@ -3,7 +3,7 @@ use Rattle.std.proofs.Common.{◌≡◌, ℕ, List, [], ◌∷◌, codes, Bool, 
 use Rattle.std.specs.Prelude.{◌&&◌, ◌==◌, OnOk, IfOk}
 use Rattle.std.specs.declared.borrow.CowStr.{CowStr}
 use Rattle.json.specs.Token.{Token}
-use Rattle.sentry_json.specs.Written.{Written, Writes}
+use Rattle.json.specs.Written.{Written, Writes}
 use Rattle.serde_json.specs.Data.{Data, string, array, item, no_items}
 use Rattle.serde_json.specs.View.{view, items_view}
 use Rattle.serde_json.specs.declared.value.Value.{Value}

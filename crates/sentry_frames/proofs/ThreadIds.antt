@@ -2,7 +2,7 @@
 use Rattle.std.proofs.Common.{◌≡◌, ◌<◌, ◌^◌, ℕ, pos, negsuc, List, Some, None, option_and_then, cond, Result, OnOk, refl, sym, ap, ◌∙◌, arith, lt-ltb, false}
 use Rattle.std.proofs.lemmas.Option.{none-some, same_Some}
 use Rattle.json.specs.Token.{Token}
-use Rattle.sentry_json.specs.Written.{Written, Writes}
+use Rattle.json.specs.Written.{Written, Writes}
 use Rattle.std.specs.Prelude.{decimal}
 use Rattle.serde_json.specs.Data.{Data, number, string}
 use Rattle.serde_json.specs.Find.{as_str, as_number, as_u64}

@@ -8,7 +8,7 @@ use Rattle.json.specs.Print.{separator, begins, token_text, ends, IsPrintable}
 use Rattle.json.proofs.Printed.Tokens.{tokens-print, print_from_push, ends_push, ArePrintable-push}
 use Rattle.json.proofs.Printed.Utf8.{IsUtf8-separator}
 use Rattle.sentry_json.specs.Filled.{Appends}
-use Rattle.sentry_json.specs.Written.{Writes}
+use Rattle.json.specs.Written.{Writes}
 use Rattle.sentry_json.specs.Writer.{writer_view, IsWriter}
 use Rattle.sentry_json.specs.declared.writer.Writer.TheInside.{Inside}
 use Rattle.sentry_json.proofs.Appended.{comma_room}
@@ -38,6 +38,5 @@ module _ (w v : Inside) (h : IsWriter w) (t : Token) (printable : IsPrintable t)
   writes r is = rw is (record {
     ok = shows_printed v stays_writer ∙ ap (λ l. l ++ t ∷ []) (sym (shows_printed w h));
     err = tt;
-    before = (λ i. take (start i) (appended.items i)) ∙ take-append-le w.start w.out.items _ h.within;
-    room = omega (arith, appended.room, comma_room (w.after_value && begins t) (token_text t));
+    room = ((λ i. take (start i) (appended.items i)) ∙ take-append-le w.start w.out.items _ h.within, omega (arith, appended.room, comma_room (w.after_value && begins t) (token_text t)));
   })

@@ -12,6 +12,5 @@ pub mod Spelled
 pub mod TapeView
 pub mod Tokens
 pub mod Filled
-pub mod Written
 pub mod Writer
 pub mod Taken

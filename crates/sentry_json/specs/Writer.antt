@@ -4,7 +4,7 @@ use Rattle.std.specs.Str.{IsUtf8}
 use Rattle.json.specs.Token.{Token}
 use Rattle.json.specs.Lex.{tokens}
 use Rattle.json.specs.Print.{print, ends_value, ArePrintable}
-use Rattle.sentry_json.specs.Written.{Written}
+use Rattle.json.specs.Written.{Written}
 use Rattle.sentry_json.specs.declared.writer.Writer.TheInside.{Inside}
 
 -- the tokens are those that the text behind the start spells, and what is spare is the buffer's

@@ -9,7 +9,7 @@ ghost use Rattle.json.specs.Lex.{tokens};
 ghost use Rattle.json.specs.Print.{print, ends, IsNumber, IsPrintable};
 ghost use Rattle.json.specs.Reads.{token_of};
 ghost use Rattle.json.specs.Token.{begin_object, end_object, begin_array, end_array, key, string, number, boolean, null};
-ghost use Rattle.sentry_json.specs.Written.{Writes};
+ghost use Rattle.json.specs.Written.{Writes};
 
 mod buffer;
 mod copy;
@@ -38,7 +38,7 @@ pub struct Writer {
 }
 
 impl Model for Writer {
-    ghost use Rattle.sentry_json.specs.Written.{Written, written_code};
+    ghost use Rattle.json.specs.Written.{Written, written_code};
     ghost use Rattle.sentry_json.specs.Writer.{writer_view, IsWriter};
 
     ghost Value = { Written };

@@ -4,7 +4,7 @@ use Rattle.std.specs.Prelude.{OnOk, IfOk, String}
 use Rattle.std.specs.declared.alloc.Global.{Global}
 use Rattle.std.proofs.lemmas.Bool.{false≢true}
 use Rattle.std.proofs.lemmas.Str.{IsUtf8-string_bytes}
-use Rattle.sentry_json.specs.Written.{Written}
+use Rattle.json.specs.Written.{Written}
 use Rattle.serde_json.specs.Data.{Data, null, no_members, depth}
 use Rattle.sentry_json.specs.Sound.{IsSound}
 use Rattle.sentry_moments.specs.declared.moment.Moment.{Moment}

@@ -4,7 +4,7 @@ use Rattle.std.proofs.lemmas.Bool.{false≢true}
 use Rattle.std.proofs.lemmas.Option.{none-some, same_Some}
 use Rattle.std.specs.Prelude.{OnOk, is_some, if◌then◌else◌}
 use Rattle.json.specs.Token.{Token}
-use Rattle.sentry_json.specs.Written.{Written, Writes}
+use Rattle.json.specs.Written.{Written, Writes}
 use Rattle.serde_json.specs.Data.{Num, unsigned, negative, float, Data, null, boolean, number, string, array, object, Members, no_members, member, depth}
 use Rattle.serde_json.specs.Find.{get, get_member, as_str, of_integer}
 use Rattle.serde_json.specs.Written.{has_float, compact_text}

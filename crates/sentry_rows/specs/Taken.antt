@@ -1,7 +1,7 @@
 -- What was made of a case.
 use Rattle.std.specs.Prelude.{◌≡◌, ◌↔◌, ℕ, List, Bool, IsTrue, OnOk, IfOk, Result, false}
 use Rattle.std.specs.declared.alloc.AllocError.{AllocError}
-use Rattle.sentry_json.specs.Written.{Written}
+use Rattle.json.specs.Written.{Written}
 use Rattle.serde_json.specs.Data.{Members}
 use Rattle.serde_json.specs.View.{view}
 use Rattle.serde_json.specs.Written.{members_have_float}

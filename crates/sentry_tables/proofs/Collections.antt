@@ -8,7 +8,7 @@ use Rattle.std.specs.List.Sorted.{IsStrictlySortedBy}
 use Rattle.std.specs.Map.{keys_of}
 use Rattle.std.specs.BTreeMap.{insert_entry}
 use Rattle.json.specs.Token.{Token}
-use Rattle.sentry_json.specs.Written.{Written, Writes}
+use Rattle.json.specs.Written.{Written, Writes}
 use Rattle.serde_json.specs.Data.{Data, array, object, no_items, item, Members, member, put}
 use Rattle.serde_json.specs.View.{view, items_view, members_view}
 use Rattle.serde_json.specs.declared.value.Value.{Value}

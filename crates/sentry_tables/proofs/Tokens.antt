@@ -6,7 +6,7 @@ use Rattle.std.specs.Fmt.{signed_decimal}
 use Rattle.json.specs.Token.{Token}
 use Rattle.json.specs.Print.{print}
 use Rattle.json.specs.Tree.{json_tokens, items_tokens, members_tokens}
-use Rattle.sentry_json.specs.Written.{Written, Writes}
+use Rattle.json.specs.Written.{Written, Writes}
 use Rattle.serde_json.specs.Data.{Num, unsigned, negative, float, Data, null, boolean, number, string, array, object, Items, no_items, item, Members, no_members, member}
 use Rattle.serde_json.specs.View.{view, items_view}
 use Rattle.serde_json.specs.Written.{has_float, outline, items_outline, members_outline, compact_text}
@@ -23,7 +23,7 @@ use Rattle.sentry_tables.specs.Writes.{written, tokens_of, item_tokens, member_t
 
 one_token : {E : Type 0} (d : Data) (t : Token) (r : Result (Unit {0}) E) (old new : Written) → tokens_of d ≡ t ∷ [] → Writes r old new t → OnOk r (WritesTree d old new)
 unfolding WritesTree
-one_token d t (Ok u) old new is w = λ h. (w.before, w.ok ∙ ap (λ ts. old.tokens ++ ts) (sym is))
+one_token d t (Ok u) old new is w = λ h. (w.room.0, w.ok ∙ ap (λ ts. old.tokens ++ ts) (sym is))
 one_token d t (Err e) old new is w = tt
 
 pub text_wrote : {E : Type 0} (s : List ℕ) (r : Result (Unit {0}) E) (old new : Written) → Writes r old new (Token.string s) → OnOk r (WritesTree (written text_kind (text s)) old new)
@@ -78,7 +78,7 @@ i64_tree z d is = whole_tree_is (2 ^ 63) z d is
 -- ---- token after token
 
 pub continues : {E : Type 0} (t : Token) (u : Unit {0}) (old new : Written) → Writes {E = E} (Ok u) old new t → Continues old new (t ∷ [])
-continues t u old new w = (w.before, w.ok)
+continues t u old new w = (w.room.0, w.ok)
 
 -- ---- pairs
 

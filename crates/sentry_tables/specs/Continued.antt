@@ -1,7 +1,7 @@
 -- That a writer goes on: with tokens after tokens, and with none.
 use Rattle.std.proofs.Common.{◌≡◌, List, ◌++◌, refl, sym, ap, ◌∙◌, append_assoc, append-nil}
 use Rattle.json.specs.Token.{Token}
-use Rattle.sentry_json.specs.Written.{Written}
+use Rattle.json.specs.Written.{Written}
 use Rattle.serde_json.specs.Data.{no_members}
 use Rattle.sentry_tables.specs.Writes.{Continues, WritesMembers}
 

@@ -8,7 +8,7 @@ use Rattle.std.proofs.lemmas.Option.{same_Some}
 use Rattle.std.proofs.lemmas.Fmt.{digits_is_IsNumeral}
 use Rattle.std.proofs.lemmas.Str.{IsUtf8-from_ascii}
 use Rattle.json.specs.Token.{Token}
-use Rattle.sentry_json.specs.Written.{Written, Writes}
+use Rattle.json.specs.Written.{Written, Writes}
 use Rattle.serde_json.specs.Data.{Num, unsigned, negative, float, Data, number, string}
 use Rattle.serde_json.specs.Find.{as_str, as_number, as_u64, as_i64}
 use Rattle.sentry_json.specs.Sound.{IsSound, IsWholeNumber}

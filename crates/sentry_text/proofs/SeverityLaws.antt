@@ -4,7 +4,7 @@ use Rattle.std.proofs.lemmas.Bool.{and_parts}
 use Rattle.std.proofs.lemmas.Bool.Decides.{nat_tests}
 use Rattle.std.proofs.lemmas.Option.{none-some, same_Some}
 use Rattle.json.specs.Token.{Token}
-use Rattle.sentry_json.specs.Written.{Written, Writes}
+use Rattle.json.specs.Written.{Written, Writes}
 use Rattle.serde_json.specs.Data.{unsigned, negative, float, Data, number}
 use Rattle.serde_json.specs.Find.{as_number, as_u64}
 use Rattle.sentry_json.specs.Sound.{IsSound}

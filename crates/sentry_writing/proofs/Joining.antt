@@ -2,7 +2,7 @@
 use Rattle.std.proofs.Common.{ℕ, List, Result, Ok, Err, refl}
 use Rattle.std.specs.Prelude.{OnOk}
 use Rattle.json.specs.Token.{Token}
-use Rattle.sentry_json.specs.Written.{Written, Writes}
+use Rattle.json.specs.Written.{Written, Writes}
 use Rattle.serde_json.specs.Data.{Data, null, string, no_members, member}
 use Rattle.sentry_tables.specs.Continued.{no_members_wrote}
 use Rattle.sentry_tables.specs.Writes.{WritesTree, WritesMembers}

@@ -2,7 +2,7 @@
 use Rattle.std.proofs.Common.{◌≡◌, ℕ, List, Option, None, true, refl, Result, Ok, sym, ap, ◌∙◌, subst}
 use Rattle.std.specs.Prelude.{OnOk, codes}
 use Rattle.json.specs.Token.{Token}
-use Rattle.sentry_json.specs.Written.{Written, Writes}
+use Rattle.json.specs.Written.{Written, Writes}
 use Rattle.serde_json.specs.Data.{Data, string, object, Members, no_members, member, put}
 use Rattle.sentry_tables.specs.Fields.{Field, rows_of, cells_by, table_of, fields_by}
 use Rattle.sentry_tables.specs.Cell.{Cell, fields}

@@ -24,7 +24,7 @@ pub(super) struct Buffer {
 
 impl Model for Buffer {
     ghost use Rattle.std.specs.Prelude.{◌-◌, ◌≤◌, length, take, vec_capacity};
-    ghost use Rattle.sentry_json.specs.Filled.{Filled, filled_code};
+    ghost use Rattle.json.specs.Filled.{Filled, filled_code};
 
     ghost Value = { Filled };
 

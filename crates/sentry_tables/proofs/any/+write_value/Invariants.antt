@@ -1,5 +1,5 @@
 use Rattle.std.proofs.Common.{drop}
-use Rattle.sentry_json.specs.Written.{Written}
+use Rattle.json.specs.Written.{Written}
 use Rattle.serde_json.specs.View.{items_view, members_view}
 use Rattle.sentry_tables.specs.Writes.{WritesItems, WritesMembers}
 use Rattle.sentry_tables.proofs.any.+write_value.Given as goal

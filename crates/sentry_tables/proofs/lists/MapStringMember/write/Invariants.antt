@@ -1,4 +1,4 @@
-use Rattle.sentry_json.specs.Written.{Written}
+use Rattle.json.specs.Written.{Written}
 use Rattle.sentry_tables.specs.Written.{members_tree}
 use Rattle.sentry_tables.specs.Cells.{entries}
 use Rattle.sentry_tables.specs.Writes.{written, WritesMembers}

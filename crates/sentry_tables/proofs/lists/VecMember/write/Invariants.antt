@@ -1,5 +1,5 @@
 use Rattle.std.proofs.Common.{drop}
-use Rattle.sentry_json.specs.Written.{Written}
+use Rattle.json.specs.Written.{Written}
 use Rattle.sentry_tables.specs.Written.{items_tree}
 use Rattle.sentry_tables.specs.Cells.{cells}
 use Rattle.sentry_tables.specs.Writes.{written, WritesItems}
