@@ -119,10 +119,7 @@ impl<'v> Node for &'v Value {
     }
 
     fn as_i64(&self) -> Option<i64> {
-        match Value::as_number(*self) {
-            Some(number) => number_as_i64(number),
-            None => None,
-        }
+        number_as_i64(Value::as_number(*self)?)
     }
 
     fn as_str(&self) -> Option<&str> {
@@ -140,16 +137,12 @@ impl<'v> Node for &'v Value {
     }
 
     fn text_at(&self, key: &str) -> Option<&str> {
-        match Value::get(*self, key) {
-            Some(text) => Value::as_str(text),
-            None => None,
-        }
+        Value::as_str(Value::get(*self, key)?)
     }
 
     fn items(&self, alloc: Global) -> Result<Option<Vec<&'v Value>>, AllocError> {
-        let items = match Value::as_array(*self) {
-            Some(items) => items,
-            None => return Ok(None),
+        let Some(items) = Value::as_array(*self) else {
+            return Ok(None);
         };
         let mut nodes = Vec::with_capacity(alloc, items.len())?;
         for item in items {
@@ -159,9 +152,8 @@ impl<'v> Node for &'v Value {
     }
 
     fn members(&self, alloc: Global) -> Result<Option<Vec<Named<'_, &'v Value>>>, AllocError> {
-        let members = match Value::as_object(*self) {
-            Some(members) => members,
-            None => return Ok(None),
+        let Some(members) = Value::as_object(*self) else {
+            return Ok(None);
         };
         let mut named = Vec::with_capacity(alloc, members.len())?;
         for (key, node) in members.iter() {

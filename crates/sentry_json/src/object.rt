@@ -37,10 +37,7 @@ impl<'n, N: Node> Object<'n, N> {
         ensures { IfOk result (λ o. option_map (λ it. named_by N.data_of it.members.items) o
             ≡ find.as_object (N.data_of node.now)) }
     {
-        match node.members(alloc)? {
-            Some(members) => Ok(Some(Object { members })),
-            None => Ok(None),
-        }
+        Ok(node.members(alloc)?.map(|members| Object { members }))
     }
 
     /// Returns the node at a key; `None` if absent.

@@ -81,13 +81,9 @@ impl Writer {
         requires { IsPrintable (token_of token) }
         ensures { Writes result self.old self.new (token_of token.entry) }
     {
-        match put(&mut self.out, self.after_value, token) {
-            Ok(()) => {
-                self.after_value = ends_value(token);
-                Ok(())
-            }
-            Err(error) => Err(error),
-        }
+        put(&mut self.out, self.after_value, token)?;
+        self.after_value = ends_value(token);
+        Ok(())
     }
 
     /// Writes the brace that begins an object.

@@ -1,6 +1,6 @@
 //! Nodes of tapes.
 
-ghost use Rattle.std.specs.Prelude.{◌≡◌, ◌<◌, ◌+◌, ◌∷◌, ℕ, List, None, Some, MatchOption, IfOk, IfSome, drop, length};
+ghost use Rattle.std.specs.Prelude.{◌≡◌, ◌<◌, ◌≤◌, ◌+◌, ◌∷◌, ℕ, List, None, Some, MatchOption, IfOk, IfSome, drop, length};
 ghost use Rattle.serde_json.specs.Data.{Members, item, no_items, no_members, put};
 ghost use Rattle.serde_json.specs.Find.{as_array, as_object};
 ghost use Rattle.serde_json.specs.View.{view, items_view, members_view};
@@ -151,10 +151,7 @@ impl<'t, 'a> Node for TapeNode<'t, 'a> {
     }
 
     fn text_at(&self, key: &str) -> Option<&str> {
-        match self.get(key) {
-            Some(node) => node.tokens.first()?.text(),
-            None => None,
-        }
+        self.get(key)?.tokens.first()?.text()
     }
 
     fn items(&self, alloc: Global) -> Result<Option<Vec<TapeNode<'t, 'a>>>, AllocError> {
@@ -220,7 +217,9 @@ fn grow(node: TapeNode<'_, '_>, alloc: Global) -> Result<Value, AllocError>
 pub(crate) const FEW: usize = 4;
 
 // Returns how many items an array has, or `FEW` if it has more.
-fn few_items(inside: &[Token<'_>]) -> usize {
+fn few_items(inside: &[Token<'_>]) -> usize
+    ensures { result ≤ 4 }
+{
     let mut place = 0_usize;
     for count in 0..FEW {
         let Some(token) = inside.get(place) else {

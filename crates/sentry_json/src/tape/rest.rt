@@ -28,10 +28,8 @@ impl<'a> Rest<'a> {
             let text = unsafe { str::from_utf8_unchecked(line) };
             return Some(Rest { text });
         }
-        match simdutf8::basic::from_utf8(line) {
-            Ok(text) => Some(Rest { text }),
-            Err(_) => None,
-        }
+        let text = simdutf8::basic::from_utf8(line).ok()?;
+        Some(Rest { text })
     }
 
     /// Returns the bytes.
@@ -158,6 +156,6 @@ impl<'a> Rest<'a> {
         ensures { IfSome result (λ rest. self.now.text.now ≡ word.now ++ rest.text.now) }
     {
         let (front, rest) = self.split(word.len())?;
-        if front == word { Some(rest) } else { None }
+        (front == word).then_some(rest)
     }
 }

@@ -104,10 +104,7 @@ impl<'a> Token<'a> {
     {
         match self {
             Token::Whole(number) => Some(*number),
-            Token::Negative(number) => match u64::try_from(*number) {
-                Ok(number) => Some(number),
-                Err(_) => None,
-            },
+            Token::Negative(number) => u64::try_from(*number).ok(),
             _ => None,
         }
     }
@@ -122,10 +119,7 @@ impl<'a> Token<'a> {
             → IfSome (find.as_number (value_of self.now inside)) IsRanged }
     {
         match self {
-            Token::Whole(number) => match i64::try_from(*number) {
-                Ok(number) => Some(number),
-                Err(_) => None,
-            },
+            Token::Whole(number) => i64::try_from(*number).ok(),
             Token::Negative(number) => Some(*number),
             _ => None,
         }
