@@ -1,7 +1,7 @@
 -- Keys among others, and the members of other keys.
 use Rattle.std.proofs.Common.{◌≡◌, ℕ, zero, suc, ◌<◌, List, [], ◌∷◌, length, get_or, map, bytes_eq, Bor, refl, sym, ap, ◌∙◌, Bool, true, false, cond, ◌||◌, not, Some, arith, true≢false, Ordering, Less, Equal, Greater, nat_cmp}
 use Rattle.std.proofs.lemmas.Map.Text.{is_eq-slice_cmp}
-use Rattle.std.proofs.lemmas.Bool.{false_from_ne_true}
+use Rattle.std.proofs.lemmas.Bool.{false_from_ne_true, or_right}
 use Rattle.std.proofs.lemmas.Slice.Eq.{bytes_eq-Decides}
 use Rattle.std.specs.Ordering.{match_ordering, is_eq}
 use Rattle.std.specs.Cmp.Lexicographic.{slice_cmp}
@@ -43,11 +43,7 @@ nowhere key (k ∷ ks) h = at (bytes_eq key k) refl (nowhere key ks (λ i. h (su
 pub among : (key : List ℕ) (i : ℕ) (ks : List (List ℕ)) → StandsAt key i ks → is_among key ks ≡ true
 among key i [] h = absurd h
 among key zero (k ∷ ks) h = rw ((bytes_eq-Decides key k).1 h)
-among key (suc i) (k ∷ ks) h = rw (among key i ks h) (or_true (bytes_eq key k))
-  where
-    or_true : (b : Bool) → (b || true) ≡ true
-    or_true true = refl
-    or_true false = refl
+among key (suc i) (k ∷ ks) h = or_right (bytes_eq key k) _ (among key i ks h)
 
 -- ---- the members whose keys pass a test, and those of other keys
 
@@ -98,18 +94,14 @@ module _ (passes : List ℕ → Bool) where
   get_passes k no_members pass = refl
   get_passes k (member l d ms) pass = at (slice_cmp nat_cmp k l) refl (get_passes k ms pass)
     where
+      by_test : (b : Bool) → get_member k (member l d (filtered passes ms)) ≡ get_member k ms → get_member k (filtered passes ms) ≡ get_member k ms → get_member k (cond b (member l d (filtered passes ms)) (filtered passes ms)) ≡ get_member k ms
+      by_test true is more = is
+      by_test false is more = more
+
       at : (o : Ordering) → slice_cmp nat_cmp k l ≡ o → get_member k (filtered passes ms) ≡ get_member k ms → get_member k (filtered passes (member l d ms)) ≡ match_ordering o (get_member k ms) (Some d) (get_member k ms)
-      at Less is more = by_test (passes l)
-        where
-          by_test : (b : Bool) → get_member k (cond b (member l d (filtered passes ms)) (filtered passes ms)) ≡ get_member k ms
-          by_test true = rw is more
-          by_test false = more
+      at Less is more = by_test (passes l) (rw is more) more
       at Equal is more = let l_passes : passes l ≡ true = rw (← same_key k l is) pass in rw (l_passes, is)
-      at Greater is more = by_test (passes l)
-        where
-          by_test : (b : Bool) → get_member k (cond b (member l d (filtered passes ms)) (filtered passes ms)) ≡ get_member k ms
-          by_test true = rw is more
-          by_test false = more
+      at Greater is more = by_test (passes l) (rw is more) more
 
 beside_is : (names : List (List ℕ)) (ms : Members) → beside names ms ≡ filtered (λ k. not (is_among k names)) ms
 beside_is names no_members = refl

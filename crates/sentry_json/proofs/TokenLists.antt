@@ -1,5 +1,6 @@
 -- What lists of tokens mean, one token after the other: any number that is at least the count of the tokens gives the same.
-use Rattle.std.proofs.Common.{Ordering, Less, Equal, Greater, true≢false, ◌+◌, ◌-◌, min, Bool, take_all, ◌≡◌, ℕ, zero, suc, pos, negsuc, ◌<◌, ◌≤◌, List, [], ◌∷◌, length, take, drop, length-take, length-drop, Option, Some, None, refl, sym, ap, ◌∙◌, slice_get, is_some, true, false, ◌||◌, arith}
+use Rattle.std.proofs.Common.{Ordering, Less, Equal, Greater, ◌+◌, ◌-◌, min, take_all, ◌≡◌, ℕ, zero, suc, pos, negsuc, ◌<◌, ◌≤◌, List, [], ◌∷◌, length, take, drop, length-take, length-drop, Option, Some, None, refl, sym, ap, ◌∙◌, slice_get, is_some, true, false, arith}
+use Rattle.std.proofs.lemmas.Bool.{or_parts, or_from}
 use Rattle.std.proofs.lemmas.List.{take_min, drop_min}
 use Rattle.std.proofs.lemmas.Option.{same_Some}
 use Rattle.std.specs.Ordering.{match_ordering}
@@ -187,30 +188,23 @@ members_next k t ts s before named =
 
 -- ---- no number is held as a float
 
-no_or : (a b : Bool) → a ≡ false → b ≡ false → (a || b) ≡ false
-no_or a b p q = rw (p, q) refl
-
 items_no_float : (f : Meaning) (n : ℕ) (ts : List Token) → ((t : Token) (us : List Token) → has_float (f t us) ≡ false) → items_have_float (items_by f n ts) ≡ false
 unfolding items_by
 items_no_float f zero ts h = refl
 items_no_float f (suc n) [] h = refl
-items_no_float f (suc n) (t ∷ ts) h = no_or _ _ (h t (take (width t) ts)) (items_no_float f n (drop (width t) ts) h)
+items_no_float f (suc n) (t ∷ ts) h = or_from _ _ (h t (take (width t) ts)) (items_no_float f n (drop (width t) ts) h)
 
 -- a member without a float put among members without any
-or_parts : (a b : Bool) → (a || b) ≡ false → (a ≡ false) × (b ≡ false)
-or_parts true b e = absurd (true≢false e)
-or_parts false b e = (refl, e)
-
 by_ordering : (o : Ordering) (a b c : Members) → members_have_float a ≡ false → members_have_float b ≡ false → members_have_float c ≡ false → members_have_float (match_ordering o a b c) ≡ false
 by_ordering Less a b c x y z = x
 by_ordering Equal a b c x y z = y
 by_ordering Greater a b c x y z = z
 
 pub put_no_float : (k : List ℕ) (d : Data) (ms : Members) → has_float d ≡ false → members_have_float ms ≡ false → members_have_float (put k d ms) ≡ false
-put_no_float k d no_members h m = no_or _ _ h refl
+put_no_float k d no_members h m = or_from _ _ h refl
 put_no_float k d (member l e ms) h m =
     let p = or_parts _ _ m in
-    by_ordering _ (member k d (member l e ms)) (member l d ms) (member l e (put k d ms)) (no_or _ _ h m) (no_or _ _ h p.1) (no_or _ _ p.0 (put_no_float k d ms h p.1))
+    by_ordering _ (member k d (member l e ms)) (member l d ms) (member l e (put k d ms)) (or_from _ _ h m) (or_from _ _ h p.1) (or_from _ _ p.0 (put_no_float k d ms h p.1))
 
 step_no_float : (o : Option (List ℕ)) (d : Data) (more : Members → Members) (before : Members) → has_float d ≡ false → members_have_float before ≡ false → ((ms : Members) → members_have_float ms ≡ false → members_have_float (more ms) ≡ false) → members_have_float (member_step o d more before) ≡ false
 step_no_float None d more before x b h = b

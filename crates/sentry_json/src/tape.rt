@@ -24,7 +24,7 @@ ghost use Rattle.sentry_json.specs.declared.tape.token.Token.TheVariants as toke
 use crate::tape::escape::split_escaped;
 use crate::tape::number::split_whole;
 use crate::tape::rest::Rest;
-use crate::tape::scalar::split_scalar;
+use crate::tape::scalar::split_rare_scalar;
 use crate::tape::token::Token;
 use bumpalo::Bump;
 pub use flat::{Scalar, look_up};
@@ -146,7 +146,7 @@ fn take_scalar<'a, const KEPT: bool>(
         text.entry.text.now rest.text.now) }
     ensures shorter { IfSome result (λ rest. length rest.text.now < length text.entry.text.now) }
 {
-    let (token, rest) = split_scalar(text)?;
+    let (token, rest) = split_rare_scalar(text)?;
     keep::<KEPT>(tokens, token)?;
     Some(rest)
 }
@@ -174,7 +174,7 @@ fn take_leaf<'a, const KEPT: bool>(
         return None;
     }
     if let Some((number, rest)) = split_whole(text) {
-        keep::<KEPT>(tokens, number)?;
+        keep::<KEPT>(tokens, Token::Whole(number))?;
         return Some(rest);
     }
     take_scalar::<KEPT>(text, tokens)

@@ -17,7 +17,6 @@ use crate::object::Named;
 use crate::tape::after_value;
 use crate::tape::number::split_whole;
 use crate::tape::rest::Rest;
-use crate::tape::token::Token;
 use serde_json::Value;
 use std::alloc::{AllocError, Global};
 
@@ -109,10 +108,8 @@ fn split_scalar<'a>(text: Rest<'a>) -> Option<(Scalar<'a>, Rest<'a>)>
     if let Some((string, rest)) = text.split_plain() {
         return Some((Scalar::Text(string), rest));
     }
-    match split_whole(text)? {
-        (Token::Whole(number), rest) => Some((Scalar::Whole(number), rest)),
-        _ => None,
-    }
+    let (number, rest) = split_whole(text)?;
+    Some((Scalar::Whole(number), rest))
 }
 
 // Puts a scalar into the place of its key, if that is one of `keys`.

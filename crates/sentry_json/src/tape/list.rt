@@ -1,6 +1,6 @@
 //! Lines that are an object of one member, an array, whose items are read one by one.
 
-ghost use Rattle.std.specs.Prelude.{◌≡◌, ◌∷◌, ◌<◌, ℕ, IfSome, IsTrue, List, length};
+ghost use Rattle.std.specs.Prelude.{◌≡◌, ◌∷◌, IfSome, IsTrue, List, length};
 ghost use Rattle.serde_json.specs.Data.{Data};
 ghost use Rattle.sentry_json.specs.Lists.{VisitsAll, VisitsLine};
 ghost use Rattle.sentry_json.specs.Nodes.{items_by};

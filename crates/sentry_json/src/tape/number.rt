@@ -3,6 +3,7 @@
 ghost use Rattle.std.specs.Prelude.{◌≡◌, ◌^◌, ◌<◌, ◌≤◌, [], IfSome, neg_ℤ, pos, length};
 ghost use Rattle.sentry_json.specs.Digits.{AreFirst, AreInteger};
 ghost use Rattle.sentry_json.specs.Spelled.{Spells};
+ghost use Rattle.sentry_json.specs.declared.tape.token.Token.TheVariants as token;
 
 use crate::tape::rest::Rest;
 use crate::tape::token::Token;
@@ -59,19 +60,21 @@ fn many_digits(bytes: &[u8]) -> Option<(u64, usize)>
 
 // Splits off an integer without a sign, of this number and so many digits.
 #[inline(always)]
-fn split_digits<'a>(text: Rest<'a>, number: u64, len: usize) -> Option<(Token<'a>, Rest<'a>)>
+fn split_digits<'a>(text: Rest<'a>, number: u64, len: usize) -> Option<(u64, Rest<'a>)>
     requires { AreInteger text.text.now number len }
-    ensures spelled { IfSome result (λ x. Spells text.entry.text.now x.1.text.now x.0 [] 0) }
+    ensures spelled { IfSome result (λ x.
+        Spells text.entry.text.now x.1.text.now (token.Whole x.0) [] 0) }
     ensures shorter { IfSome result (λ x. length x.1.text.now < length text.entry.text.now) }
 {
     let (_, rest) = text.split(len)?;
-    Some((Token::Whole(number), rest))
+    Some((number, rest))
 }
 
 // Splits off an integer without a sign, of at most `ALWAYS` digits.
 #[inline(always)]
-pub(crate) fn split_whole<'a>(text: Rest<'a>) -> Option<(Token<'a>, Rest<'a>)>
-    ensures spelled { IfSome result (λ x. Spells text.entry.text.now x.1.text.now x.0 [] 0) }
+pub(crate) fn split_whole<'a>(text: Rest<'a>) -> Option<(u64, Rest<'a>)>
+    ensures spelled { IfSome result (λ x.
+        Spells text.entry.text.now x.1.text.now (token.Whole x.0) [] 0) }
     ensures shorter { IfSome result (λ x. length x.1.text.now < length text.entry.text.now) }
 {
     let (number, len) = leading_integer(text.bytes())?;
@@ -81,8 +84,9 @@ pub(crate) fn split_whole<'a>(text: Rest<'a>) -> Option<(Token<'a>, Rest<'a>)>
 // The same of more digits, which few integers have.
 #[cold]
 #[inline(never)]
-pub(crate) fn split_many<'a>(text: Rest<'a>) -> Option<(Token<'a>, Rest<'a>)>
-    ensures spelled { IfSome result (λ x. Spells text.entry.text.now x.1.text.now x.0 [] 0) }
+pub(crate) fn split_many<'a>(text: Rest<'a>) -> Option<(u64, Rest<'a>)>
+    ensures spelled { IfSome result (λ x.
+        Spells text.entry.text.now x.1.text.now (token.Whole x.0) [] 0) }
     ensures shorter { IfSome result (λ x. length x.1.text.now < length text.entry.text.now) }
 {
     let (number, len) = many_digits(text.bytes())?;

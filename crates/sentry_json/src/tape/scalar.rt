@@ -9,7 +9,7 @@ use crate::tape::token::Token;
 
 // Splits off a word, an integer with a minus or one of many digits.
 #[inline(always)]
-pub(crate) fn split_scalar<'a>(text: Rest<'a>) -> Option<(Token<'a>, Rest<'a>)>
+pub(crate) fn split_rare_scalar<'a>(text: Rest<'a>) -> Option<(Token<'a>, Rest<'a>)>
     ensures spelled { IfSome result (λ x. Spells text.entry.text.now x.1.text.now x.0 [] 0) }
     ensures shorter { IfSome result (λ x. length x.1.text.now < length text.entry.text.now) }
 {
@@ -18,6 +18,9 @@ pub(crate) fn split_scalar<'a>(text: Rest<'a>) -> Option<(Token<'a>, Rest<'a>)>
         b't' => Some((Token::Bool(true), text.after_word("true")?)),
         b'f' => Some((Token::Bool(false), text.after_word("false")?)),
         b'-' => split_negative(text),
-        _ => split_many(text),
+        _ => {
+            let (number, rest) = split_many(text)?;
+            Some((Token::Whole(number), rest))
+        }
     }
 }

@@ -11,7 +11,7 @@ use crate::tape::escape::split_escaped;
 use crate::tape::node::FEW;
 use crate::tape::number::split_whole;
 use crate::tape::rest::Rest;
-use crate::tape::scalar::split_scalar;
+use crate::tape::scalar::split_rare_scalar;
 use crate::tape::token::Token;
 use serde_json::{Map, Value};
 use std::alloc::Global;
@@ -44,7 +44,7 @@ fn split_tree<'a>(alloc: Global, text: Rest<'a>, depth: u8) -> Option<(Value, Re
         return Some((Value::try_from_str(alloc, string).ok()?, rest));
     }
     if let Some((number, rest)) = split_whole(text) {
-        return Some((scalar_value(number)?, rest));
+        return Some((Value::from(number), rest));
     }
     match text.bytes().first()? {
         b'{' => {
@@ -71,7 +71,7 @@ fn split_rare<'a>(alloc: Global, text: Rest<'a>) -> Option<(Value, Rest<'a>)>
         let (string, rest) = split_escaped(alloc, inside)?;
         return Some((Value::try_from_str(alloc, &string).ok()?, rest));
     }
-    let (token, rest) = split_scalar(text)?;
+    let (token, rest) = split_rare_scalar(text)?;
     Some((scalar_value(token)?, rest))
 }
 

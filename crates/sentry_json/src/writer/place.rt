@@ -1,6 +1,6 @@
 //! Texts stored at a place of a buffer that has room for them.
 
-ghost use Rattle.std.specs.Prelude.{◌≡◌, ◌+◌, ◌<◌, ◌≤◌, [], ◌∷◌, length, cond};
+ghost use Rattle.std.specs.Prelude.{◌+◌, ◌<◌, ◌≤◌, [], ◌∷◌, length, cond};
 ghost use Rattle.json.specs.Filled.{Placed};
 
 use crate::writer::copy::{copy_short, copy_text};

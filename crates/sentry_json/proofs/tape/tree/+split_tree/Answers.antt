@@ -1,6 +1,6 @@
 use Rattle.std.proofs.Common.{rules, refl, ◌≡◌, ◌++◌, ◌∷◌, [], length, if◌then◌else◌, ap, sym, subst, ◌∙◌, arith, true, false, string_cmp, string_bytes}
 use Rattle.std.specs.BTreeMap.{insert_entry}
-use Rattle.serde_json.specs.Data.{array, object, no_members, put, string}
+use Rattle.serde_json.specs.Data.{unsigned, number, array, object, no_members, put, string}
 use Rattle.serde_json.specs.View.{view, items_view, members_view}
 use Rattle.serde_json.proofs.Views.{members_view-insert_entry}
 use Rattle.sentry_json.specs.Tokens.{value_of}
@@ -9,7 +9,7 @@ use Rattle.sentry_json.proofs.Flat.{ReadSoFar, begun, comma_next, object_ends}
 use Rattle.sentry_json.proofs.Gathered.{more_items}
 use Rattle.sentry_json.proofs.Lists.{all_mean, means_next}
 use Rattle.sentry_json.proofs.SoFar.{begins, empty, ends, next_value, skipped, value_before}
-use Rattle.sentry_json.proofs.TokenLists.{items_end, members_end, value_array, value_object}
+use Rattle.sentry_json.proofs.TokenLists.{items_end, members_end, value_array, value_is, value_object}
 use Rattle.sentry_json.proofs.WordsAndTexts.{begun_spelled, string_tree, text_token}
 use Rattle.sentry_json.proofs.tape.tree.+split_tree.Goals as goal
 
@@ -131,3 +131,10 @@ split_tree-returns-in-Some-clause-spelled t c =
     let q = plain.ensures.quoted in
     let same : view c.in_ok-ok.field-0 ≡ string plain.string.now = search rules in
     string_tree c.args.text.text.now q.0 plain.rest.text.now plain.string.now (view c.in_ok-ok.field-0) c.args.depth q.1 q.2 same
+
+pub split_tree-returns-in-Some-split_whole-clause-spelled : goal.split_tree-returns-in-Some-split_whole-clause-spelled
+split_tree-returns-in-Some-split_whole-clause-spelled t c =
+    let n = c.in-Some-split_whole in
+    let s = n.ensures.spelled in
+    let same : view c.from.result ≡ number (unsigned n.number) = search rules in
+    (token.Whole n.number, [], record { json = s.json; lexed = s.lexed; meant = s.meant; closed = s.closed; shallow = omega (arith, s.shallow) }, value_is (token.Whole n.number) [] ∙ sym same)
