@@ -1,4 +1,4 @@
--- What holds of each piece of a compact text, and of two texts one after another, holds of the whole.
+-- What holds of each piece of a compact text, and of two texts in a row, holds of the whole.
 use Rattle.std.proofs.Common.{ℕ, ◌<◌, ◌≤◌, pos, negsuc, List, [], ◌∷◌, ◌++◌, Bool, true, false, arith, IsUtf8}
 use Rattle.std.proofs.lemmas.Fmt.{IsAscii-decimal, IsAscii-signed}
 use Rattle.std.proofs.lemmas.Str.{IsUtf8-append, IsUtf8-nil, IsUtf8-from_ascii}

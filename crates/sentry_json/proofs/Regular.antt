@@ -56,7 +56,7 @@ put_after : (j k : List ℕ) (d : Data) (ms : Members) → slice_cmp nat_cmp j k
 put_after j k d no_members above h = (above, tt)
 put_after j k d (member l e ms) above h = put_after_at (slice_cmp nat_cmp k l) j k l d e ms above h (put_after j k d ms above h.1)
 
-all_above : (k l : List ℕ) (ms : Members) → slice_cmp nat_cmp k l ≡ Less → AllAfter l ms → AllAfter k ms
+pub all_above : (k l : List ℕ) (ms : Members) → slice_cmp nat_cmp k l ≡ Less → AllAfter l ms → AllAfter k ms
 all_above k l no_members e h = tt
 all_above k l (member j d ms) e h = (nat_list_cmp_total.trans k l j e h.0, all_above k l ms e h.1)
 

@@ -1,4 +1,5 @@
--- The items of an array and the members of an object, one after the other: whatever the rest has, the whole has those so far and then these.
+-- The items of an array and the members of an object, one after the other: whatever the rest has,
+-- the whole has those so far and then these.
 use Rattle.std.proofs.Common.{◌≡◌, ◌≤◌, ◌<◌, ◌-◌, ℕ, List, [], ◌∷◌, ◌++◌, length, slice_set, if◌then◌else◌, true, false, true≢false, Bool, subst, Some, option_map, option_and_then, refl, sym, ap, ap₂, ◌∙◌, arith, append_assoc, append-nil, length-append, drop, take_at, not, ◌==◌}
 use Rattle.std.proofs.lemmas.Bool.{eqb-true}
 use Rattle.std.proofs.lemmas.List.{drop_at}
@@ -22,7 +23,8 @@ begins_comma (comma ∷ ls) = true
 begins_comma (colon ∷ ls) = false
 begins_comma (token t ∷ ls) = false
 
--- What was read of an array: `text` follows the bracket, `ahead` are the lexemes that come, with a comma before a value, and `done` are the tokens so far.
+-- What was read of an array: `text` follows the bracket, `ahead` are the lexemes that come, with a
+-- comma before a value, and `done` are the tokens so far.
 pub record ItemsSoFar (text : List ℕ) (ahead : List Lexeme) (done : List Token) (most : ℕ) : Type 0 where
   pub add : Items → Items
   pub spelled : (js : Items) (r : List Lexeme) → ahead ≡ items_lexemes true js ++ r → comma ∷ lex between text ≡ items_lexemes true (add js) ++ r
@@ -38,7 +40,7 @@ item_means first inside ts j js closed one more =
     ap₂ (λ o p. option_and_then (λ d. option_map (serde.item d) p) o) one more
     ∙ ap Some (sym (items_next first (inside ++ ts) ∙ ap₂ (λ us vs. serde.item (value_of first us) (items_of vs)) (take_at inside ts (width first) (sym closed)) (drop_at inside ts (width first) (sym closed))))
 
--- the same of an object
+-- What was read of an object, as `ItemsSoFar` of an array.
 pub record MembersSoFar (text : List ℕ) (ahead : List Lexeme) (done : List Token) (most : ℕ) : Type 0 where
   pub add : Members → Members
   pub spelled : (ms : Members) (r : List Lexeme) → ahead ≡ members_lexemes true ms ++ r → comma ∷ lex between text ≡ members_lexemes true (add ms) ++ r

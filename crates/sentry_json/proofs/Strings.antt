@@ -1,4 +1,5 @@
--- In a text that is UTF-8, what a string stands for is UTF-8: its plain bytes stand between ASCII bytes, and each escape stands for a character.
+-- In a text that is UTF-8, what a string stands for is UTF-8: its plain bytes stand between ASCII
+-- bytes, and each escape stands for a character.
 use Rattle.std.proofs.Common.{◌≡◌, ℕ, ◌+◌, ◌*◌, ◌<◌, ◌≤◌, true, false, cond, ◌&&◌, ◌||◌, ◌==◌, nat_lt, List, [], ◌∷◌, ◌++◌, length, get_or, Option, Some, None, IfSome, IsUtf8, sym, subst, append_assoc, append-nil, arith, ltb-true, eqb-true, length-append}
 use Rattle.std.proofs.Math.Seq.{get_or-append_seam, take-append_seam, drop-append-add}
 use Rattle.std.proofs.lemmas.Bool.{and_parts, leb-true}
@@ -29,7 +30,7 @@ one_ascii x small = subst IsUtf8 (encode_ascii x small) (IsUtf8-encode x (low_sc
 
 -- ---- escapes
 
-digit_is_ascii : (x : ℕ) → digit_value x < 16 → x < 128
+pub digit_is_ascii : (x : ℕ) → digit_value x < 16 → x < 128
 digit_is_ascii x h = grind (arith, nat_tests)
 
 below_2_16 : (a b c d : ℕ) → a < 16 → b < 16 → c < 16 → d < 16 → a * 4096 + b * 256 + c * 16 + d < 65536

@@ -1,4 +1,5 @@
--- What lists of tokens mean, one token after the other: any number that is at least the count of the tokens gives the same.
+-- What lists of tokens mean, one token after the other: any number that is at least the count of
+-- the tokens gives the same.
 use Rattle.std.proofs.Common.{Ordering, Less, Equal, Greater, ◌+◌, ◌-◌, min, take_all, ◌≡◌, ℕ, zero, suc, pos, negsuc, ◌<◌, ◌≤◌, List, [], ◌∷◌, length, take, drop, length-take, length-drop, Option, Some, None, refl, sym, ap, ◌∙◌, slice_get, is_some, true, false, arith}
 use Rattle.std.proofs.lemmas.Bool.{or_parts, or_from}
 use Rattle.std.proofs.lemmas.List.{take_min, drop_min}

@@ -1,4 +1,5 @@
--- A balanced piece: `{`, what stands up to its `}`, and that `}`, where braces within strings do not count. Each object of JSON is one, and a piece need not be JSON.
+-- A balanced piece: `{`, what stands up to its `}`, and that `}`, where braces within strings do
+-- not count. Each object of JSON is one, and a piece need not be JSON.
 use Rattle.std.specs.Prelude.{◌≢◌, ℕ, List, [], ◌∷◌, ◌++◌}
 
 abbrev pub quote : ℕ
@@ -13,7 +14,8 @@ open_brace = 123
 abbrev pub close_brace : ℕ
 close_brace = 125
 
--- what stands after a string's first quote: bytes up to the quote that ends it, with that quote. A backslash goes with the byte after it
+-- what stands after a string's first quote: bytes up to the quote that ends it, with that quote. A
+-- backslash goes with the byte after it
 pub data IsStringEnd : List ℕ → Type 0 where
   closed : IsStringEnd (quote ∷ [])
   byte : {b : ℕ} {s : List ℕ} → b ≢ quote → b ≢ backslash → IsStringEnd s → IsStringEnd (b ∷ s)

@@ -12,7 +12,8 @@ pub record IsUnit (text : List ℕ) (unit : ℕ) (rest : List ℕ) : Type 0 wher
   pub digits : text ≡ a ∷ b ∷ c ∷ d ∷ rest
   pub spelled : code_unit a b c d ≡ Some unit
 
--- In a string, what stands in the text before `rest` is for the bytes. The first two tell what came before the text.
+-- In a string, what stands in the text before `rest` is for the bytes. The first two tell what came
+-- before the text.
 pub record StandsFor (within : Within) (mode : Mode) (text bytes rest : List ℕ) : Type 0 where
   pub read : content within text ≡ prepend bytes (content plain rest)
   pub lexed : lex mode text ≡ lex in_string rest

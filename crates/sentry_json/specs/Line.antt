@@ -17,6 +17,6 @@ HasNoNewline bytes = All (λ b. b ≢ newline) bytes
 abbrev pub unless_float : Data → Option Data
 unless_float d = if has_float d then None else Some d
 
--- the tree of a line: its bytes are UTF-8, they are one JSON text, and no number in it is held as a float
+-- the tree of a line: its bytes are UTF-8, they are one JSON text, and no number is held as a float
 unfoldable pub tree_of : List ℕ → Option Data
 tree_of line = if is_utf8 line then option_and_then unless_float (read line) else None

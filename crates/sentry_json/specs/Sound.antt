@@ -1,5 +1,6 @@
--- Sound trees, which are what a line of JSON can be read as: texts are UTF-8, numbers are whole and fit 64 bits, and each object has its keys in order.
--- The parts of that stand alone too: `IsRegular` holds of each tree that is read, and `HasTexts` of each that is read of UTF-8.
+-- Sound trees, which are what a line of JSON can be read as: texts are UTF-8, numbers are whole and
+-- fit 64 bits, and each object has its keys in order. The parts of that stand alone too:
+-- `IsRegular` holds of each tree that is read, and `HasTexts` of each that is read of UTF-8.
 use Rattle.std.specs.Prelude.{◌≡◌, ℕ, ◌<◌, ◌^◌, pos, negsuc, List, ⊤, IsUtf8}
 use Rattle.std.specs.declared.cmp.Ordering.TheVariants.{Less}
 use Rattle.std.specs.Ordering.{nat_cmp}

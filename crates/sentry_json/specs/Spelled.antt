@@ -48,7 +48,8 @@ pub record IsQuoted (inside content_bytes rest : List ℕ) : Type 0 where
   pub read : content plain inside ≡ Some content_bytes
   pub lexed : lex in_string inside ≡ lex between rest
 
--- The text begins with a value, and `rest` follows. The first token, and those inside it, are for that value.
+-- The text begins with a value, and `rest` follows. The first token, and those inside it, are for
+-- that value.
 pub record Spells (text rest : List ℕ) (first : Token) (inside : List Token) (most : ℕ) : Type 0 where
   pub json : Json
   -- a word, as a number, ends where a comma, a bracket or the end stands
@@ -57,7 +58,8 @@ pub record Spells (text rest : List ℕ) (first : Token) (inside : List Token) (
   pub closed : width first ≡ length inside
   pub shallow : depth json ≤ most
 
--- The text begins with a value, which is this tree, and `rest` follows: there are tokens for that value, kept or not, and they are the tree.
+-- The text begins with a value, which is this tree, and `rest` follows: there are tokens for that
+-- value, kept or not, and they are the tree.
 abbrev pub SpellsTree : (text rest : List ℕ) (d : Data) (most : ℕ) → Type 0
 SpellsTree text rest d most = (first : Token) × (inside : List Token) × Spells text rest first inside most × (value_of first inside ≡ d)
 
@@ -65,7 +67,7 @@ SpellsTree text rest d most = (first : Token) × (inside : List Token) × Spells
 abbrev pub BeginsString : (text rest content_bytes : List ℕ) → Type 0
 BeginsString text rest content_bytes = lex between text ≡ token (json_token.string content_bytes) ∷ lex between rest
 
--- The same. The token has that string.
+-- The text begins with the string that the token has, and `rest` follows.
 pub record SpellsString (text rest : List ℕ) (first : Token) : Type 0 where
   pub name : List ℕ
   pub named : text_of first ≡ Some name

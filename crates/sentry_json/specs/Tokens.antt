@@ -1,4 +1,5 @@
--- What a list of tokens means: each token is a value, and what is inside an array or an object comes behind it.
+-- What a list of tokens means: each token is a value, and what is inside an array or an object
+-- comes behind it.
 use Rattle.std.specs.Prelude.{ℕ, zero, suc, ℤ, pos, negsuc, List, [], ◌∷◌, length, take, drop, Option, Some, None, Bool, if◌then◌else◌}
 use Rattle.serde_json.specs.Data.{Num, unsigned, negative, Data, null, boolean, number, string, array, object, Items, no_items, item, Members, no_members, put}
 use Rattle.sentry_json.specs.declared.tape.token.Token.{Token}
@@ -46,7 +47,8 @@ value_with items members (token.Object n) ts = object (members ts)
 abbrev pub Meaning : Type 0
 Meaning = Token → List Token → Data
 
--- The values one after the other, by what a token with the tokens inside it means. The number bounds the turns: the count of the tokens is always enough.
+-- The values one after the other, by what a token with the tokens inside it means. The number
+-- bounds the turns: the count of the tokens is always enough.
 unfoldable pub items_by : Meaning → ℕ → List Token → Items
 items_by value zero ts = no_items
 items_by value (suc n) [] = no_items

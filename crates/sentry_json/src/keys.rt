@@ -4,7 +4,7 @@ ghost use Rattle.std.specs.Prelude.{◌≡◌, IfSome, IfNone, false, map};
 ghost use Rattle.std.specs.Str.{bytes_eq};
 ghost use Rattle.sentry_json.specs.Keys.{is_among as among, StandsAt};
 
-// Returns whether two keys are equal. Most that differ have another length, which is compared first.
+// Returns whether two keys are equal. Most that differ have another length, which is asked first.
 #[inline(always)]
 #[tactic(auto, using(crate::proofs::Beside::apart))]
 pub(crate) fn is_same(key: &str, other: &str) -> bool

@@ -78,8 +78,9 @@ impl<'a> Tape<'a> {
 
     /// Reads a line, in place of the one before, and returns its root node.
     ///
-    /// The line is JSON by RFC 8259, nested at most 127 deep. Its numbers are integers of 64 bits, in
-    /// digits alone and other than `-0`; no white space stands between brackets that hold nothing.
+    /// The line is JSON by RFC 8259, nested at most 127 deep. Its numbers are integers of 64 bits,
+    /// in digits alone and other than `-0`; no white space stands between brackets that hold
+    /// nothing.
     /// `None` if it isn't such a line, or if an allocation fails.
     pub fn parse(&mut self, line: &'a [u8]) -> Option<TapeNode<'_, 'a>>
         ensures { IfSome result (λ root. tree_of line.now ≡ Some (node_data root)) }
@@ -114,7 +115,7 @@ fn keep<'a, const KEPT: bool>(tokens: &mut Vec<Token<'a>>, token: Token<'a>) -> 
     Some(())
 }
 
-// Appends the token of a string with escapes, behind its opening quote, and returns what follows it.
+// Appends the token of a string with escapes, behind its opening quote; returns what follows it.
 #[inline(always)]
 fn take_escaped<'a, const KEPT: bool>(
     alloc: Global,
@@ -136,7 +137,8 @@ fn take_escaped<'a, const KEPT: bool>(
     Some(rest)
 }
 
-// The same of a word, an integer with a minus or one of many digits.
+// Appends the token of a word, an integer with a minus or one of many digits, and returns what
+// follows it.
 #[inline(always)]
 fn take_scalar<'a, const KEPT: bool>(
     text: Rest<'a>,
@@ -180,8 +182,8 @@ fn take_leaf<'a, const KEPT: bool>(
     take_scalar::<KEPT>(text, tokens)
 }
 
-// The same, inlined, so that the call's answer is cleared on this way alone: a place is cleared
-// where the function begins that has it.
+// As `take_leaf`, inlined, so that the call's answer is cleared on this way alone: a place is
+// cleared where the function begins that has it.
 #[inline(always)]
 fn take_rare<'a, const KEPT: bool>(
     alloc: Global,
@@ -217,8 +219,8 @@ fn take_value<'a, const KEPT: bool>(
         → TakesString KEPT tokens.old.items tokens.new.items text.entry.text.now rest.text.now) }
     ensures shorter { IfSome result (λ rest. length rest.text.now < length text.entry.text.now) }
 {
-    // Each call's answer is taken apart before the ways join, so that the place in the line stays in
-    // registers.
+    // Each call's answer is taken apart before the ways join, so that the place in the line stays
+    // in registers.
     if let Some((string, rest)) = text.split_plain() {
         keep::<KEPT>(tokens, Token::Text(string))?;
         return Some(rest);
@@ -230,7 +232,7 @@ fn take_value<'a, const KEPT: bool>(
     take_rare::<KEPT>(alloc, texts, text, key, tokens)
 }
 
-// The same of an object or an array, behind its opening bracket; inlined as `take_rare` is.
+// As `take_value`, of an object or an array, behind its opening bracket; inlined as `take_rare`.
 #[cycle(take)]
 #[inline(always)]
 fn take_nested<'a, const KEPT: bool>(
@@ -249,8 +251,8 @@ fn take_nested<'a, const KEPT: bool>(
     Some(rest)
 }
 
-// The same, not inlined. A key and its value are one turn of the loop each, so that what takes a
-// string stands in it once.
+// As `take_nested`, not inlined. A key and its value are one turn of the loop each, so that what
+// takes a string stands in it once.
 #[cycle(take)]
 #[inline(never)]
 fn take_inside<'a, const KEPT: bool>(

@@ -16,6 +16,7 @@ use Rattle.sentry_tables.specs.Kind.{Kind, default, map, table, ignored, Rows, n
 use Rattle.sentry_tables.specs.Kinds.{any_kind}
 use Rattle.sentry_tables.specs.Reading.{keys_but, IsShownWith}
 use Rattle.sentry_tables.specs.Shows.{is_object, MembersShow, RowShows, Shows, RowsShow}
+use Rattle.sentry_tables.proofs.Members.{is_among_here, is_among_later}
 use Rattle.sentry_tables.proofs.Shown.{fields_meet}
 
 -- ---- what stands at a key of what the members of some keys leave
@@ -60,16 +61,6 @@ object_at ks (string s) = refl
 object_at ks (array ds) = refl
 object_at ks (object ms) = refl
 
-first : (k : List ℕ) (ks : List (List ℕ)) → is_among k (k ∷ ks) ≡ true
-first k ks = rw ((bytes_eq-Decides k k).1 refl)
-
-later : (k l : List ℕ) (ks : List (List ℕ)) → is_among k ks ≡ true → is_among k (l ∷ ks) ≡ true
-later k l ks one = rw one (or_true (bytes_eq k l))
-  where
-    or_true : (b : Bool) → (b || true) ≡ true
-    or_true true = refl
-    or_true false = refl
-
 -- ---- the rows of such a table
 
 -- they show the same of a tree that has the same at their keys
@@ -78,7 +69,7 @@ rows_same no_rows now a d no_cells same h = h
 rows_same no_rows now a d (cell c cs) same h = h
 rows_same (row k r K rows) now a d no_cells same h = h
 rows_same (row k r K rows) now a d (cell c cs) same h =
-    (subst (λ o. RowShows r (Shows K now) now o c) (same k (first k (keys rows))) h.0, rows_same rows now a d cs (λ l one. same l (later l k (keys rows) one)) h.1)
+    (subst (λ o. RowShows r (Shows K now) now o c) (same k (is_among_here k (keys rows))) h.0, rows_same rows now a d cs (λ l one. same l (is_among_later l k (keys rows) one)) h.1)
 
 abbrev pub Chosen : Bool → Type 0 → Type 0 → Type 0
 Chosen true A B = A
@@ -106,7 +97,7 @@ rows_with k x (row l r K rows) now a d (cell c cs) same takes h = at (bytes_eq k
         → RowsShow (row l r K rows) now d (cond b (cell x cs) (cell c (replaced k x rows cs)))
     at true same takes more = (takes, rows_same rows now a d cs same h.1)
     at false same takes more =
-        (subst (λ o. RowShows r (Shows K now) now o c) (same l (first l (keys_but k rows))) h.0, more (λ m one. same m (later m l (keys_but k rows) one)) takes h.1)
+        (subst (λ o. RowShows r (Shows K now) now o c) (same l (is_among_here l (keys_but k rows))) h.0, more (λ m one. same m (is_among_later m l (keys_but k rows) one)) takes h.1)
 
 -- each key is this one or one of the others
 among_but : (k l : List ℕ) (rows : Rows) → is_among l (keys rows) ≡ true → bytes_eq k l ≡ false → is_among l (keys_but k rows) ≡ true

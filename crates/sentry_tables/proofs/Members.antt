@@ -1,6 +1,6 @@
 -- Members: what is put, looked up, and left out. And the test of cells.
 use Rattle.std.proofs.Common.{◌≡◌, ℕ, pos, negsuc, List, [], ◌∷◌, ◌++◌, Bool, true, false, cond, ◌||◌, Option, Some, None, Ordering, Less, Equal, Greater, nat_cmp, bytes_eq, is_eq, refl, sym, ap, ap₂, ◌∙◌, true≢false}
-use Rattle.std.proofs.lemmas.Bool.{and_parts, eqb-true, false≢true}
+use Rattle.std.proofs.lemmas.Bool.{and_parts, or_left, or_right, eqb-true, false≢true}
 use Rattle.std.proofs.lemmas.Slice.Eq.{bytes_eq-Decides}
 use Rattle.std.proofs.lemmas.Map.Text.{is_eq-slice_cmp}
 use Rattle.std.specs.Ordering.{match_ordering}
@@ -61,23 +61,15 @@ mutual
 pub apart : (k : List ℕ) (ks : List (List ℕ)) (j : List ℕ) → is_among k ks ≡ false → is_among j ks ≡ true → j ≡ k → ⊥
 apart k ks j e f same = false≢true (sym e ∙ ap (λ l. is_among l ks) (sym same) ∙ f)
 
-either_true : (a b : Bool) → b ≡ true → (a || b) ≡ true
-either_true true b e = refl
-either_true false b e = e
-
-first_true : (a b : Bool) → a ≡ true → (a || b) ≡ true
-first_true true b e = refl
-first_true false b e = absurd (false≢true e)
-
 pub is_among_here : (k : List ℕ) (ks : List (List ℕ)) → is_among k (k ∷ ks) ≡ true
-is_among_here k ks = first_true _ _ (same_itself k)
+is_among_here k ks = or_left _ _ (same_itself k)
 
 pub is_among_later : (j k : List ℕ) (ks : List (List ℕ)) → is_among j ks ≡ true → is_among j (k ∷ ks) ≡ true
-is_among_later j k ks e = either_true _ _ e
+is_among_later j k ks e = or_right _ _ e
 
 pub is_among_after : (j : List ℕ) (reserved ks : List (List ℕ)) → is_among j ks ≡ true → is_among j (reserved ++ ks) ≡ true
 is_among_after j [] ks e = e
-is_among_after j (r ∷ reserved) ks e = either_true _ _ (is_among_after j reserved ks e)
+is_among_after j (r ∷ reserved) ks e = or_right _ _ (is_among_after j reserved ks e)
 
 pub is_among_before : (j : List ℕ) (reserved ks : List (List ℕ)) → is_among j reserved ≡ true → is_among j (reserved ++ ks) ≡ true
 is_among_before j [] ks e = absurd (false≢true e)

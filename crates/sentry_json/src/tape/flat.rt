@@ -157,8 +157,9 @@ fn look_up_inside<'a>(
 /// Looks up several keys in a line that is an object of scalars: `places[i]` becomes the scalar at
 /// `keys[i]`, if present.
 ///
-/// The keys are distinct; `places` has as many elements, each `None` before the call. Answers `None`
-/// if the line is no such object, one without members, or a long one; some places may be filled then.
+/// The keys are distinct; `places` has as many elements, each `None` before the call. Answers
+/// `None` if the line is no such object, one without members, or a long one; some places may be
+/// filled then.
 #[inline(always)]
 pub fn look_up<'a>(line: &'a [u8], keys: &[&str], places: &mut [Option<Scalar<'a>>]) -> Option<()>
     requires distinct { are_distinct (map (λ key. key.now) keys.now) ≡ true }

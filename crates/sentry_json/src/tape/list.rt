@@ -63,7 +63,7 @@ impl<'a> Tape<'a> {
 // As deep as an item may nest, which stands in an array and an object.
 const ITEM_DEEPEST: u8 = DEEPEST - 2;
 
-// Shows the items of an array to `visitor`, behind its opening bracket, and returns what follows it.
+// Shows the items of an array to `visitor`, behind its opening bracket; returns what follows it.
 fn visit_items<'a, T: Visitor>(
     alloc: Global,
     texts: &'a Bump,

@@ -24,7 +24,7 @@ use serde_json::{Map, Value};
 use std::alloc::Global;
 
 impl<'a> Tape<'a> {
-    /// Reads a line that is an object, in place of the one before, and returns the root node of what
+    /// Reads a line that is an object, in place of the one before; returns the root node of what
     /// the members of `keys` leave of it, and the members of the object at `apart`, if one stands
     /// there. Neither that object nor members of other keys leave tokens.
     ///
@@ -100,8 +100,9 @@ fn take_member<'a>(
     take_value::<true>(alloc, texts, value, false, MEMBER_DEEPEST, tokens)
 }
 
-// The same of a member that may stand at `apart`: there its value has to be an object, which leaves
-// no tokens, and whose members take the place of those found before; `None` for another value.
+// As `take_member`, of a member that may stand at `apart`: there its value has to be an object,
+// which leaves no tokens, and whose members take the place of those found before; `None` for
+// another value.
 #[inline(always)]
 fn take_or_split<'a>(
     alloc: Global,

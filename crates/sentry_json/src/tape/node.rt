@@ -95,24 +95,15 @@ impl<'t, 'a> Node for TapeNode<'t, 'a> {
     ghost data_of = { node_data };
 
     fn is_null(&self) -> bool {
-        match self.tokens.first() {
-            Some(token) => token.is_null(),
-            None => true,
-        }
+        self.tokens.first().is_none_or(|token| token.is_null())
     }
 
     fn is_object(&self) -> bool {
-        match self.tokens.first() {
-            Some(token) => token.is_object(),
-            None => false,
-        }
+        self.tokens.first().is_some_and(|token| token.is_object())
     }
 
     fn is_array(&self) -> bool {
-        match self.tokens.first() {
-            Some(token) => token.is_array(),
-            None => false,
-        }
+        self.tokens.first().is_some_and(|token| token.is_array())
     }
 
     fn as_bool(&self) -> Option<bool> {

@@ -24,7 +24,7 @@ fn integer(bytes: &[u8], number: u64, len: usize) -> Option<(u64, usize)>
     Some((number, len))
 }
 
-/// Reads an integer without a sign from the front of a text: the integer, and how many digits it has.
+/// Reads an integer without a sign from the front of a text: the integer, and its count of digits.
 ///
 /// `None` if no digit stands there, if a zero leads others, or if there are more than 19 digits.
 #[inline(always)]
@@ -43,7 +43,7 @@ pub fn leading_integer(bytes: &[u8]) -> Option<(u64, usize)>
     integer(bytes, number, len)
 }
 
-// The same of more digits, as long as 64 bits hold their number, which is asked at each.
+// As `leading_integer`, of more digits, as long as 64 bits hold their number: asked at each digit.
 fn many_digits(bytes: &[u8]) -> Option<(u64, usize)>
     ensures { IfSome result (λ x. AreInteger bytes.now x.0 x.1) }
 {
@@ -81,7 +81,7 @@ pub(crate) fn split_whole<'a>(text: Rest<'a>) -> Option<(u64, Rest<'a>)>
     split_digits(text, number, len)
 }
 
-// The same of more digits, which few integers have.
+// As `split_whole`, of more digits, which few integers have.
 #[cold]
 #[inline(never)]
 pub(crate) fn split_many<'a>(text: Rest<'a>) -> Option<(u64, Rest<'a>)>

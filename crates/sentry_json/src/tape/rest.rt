@@ -66,7 +66,7 @@ impl<'a> Rest<'a> {
         }
     }
 
-    // The same. Not inlined: clients write few lines with white space.
+    // As `skip_space`, not inlined: clients write few lines with white space.
     #[inline(never)]
     fn skip_spaces(&self) -> Rest<'a>
         ensures spaced { IsSpaced self.now.text.now result.text.now }
@@ -93,7 +93,7 @@ impl<'a> Rest<'a> {
         }
     }
 
-    /// Returns what follows a byte of white space at the front; `None` if another byte stands there.
+    /// Returns what follows a byte of white space at the front; `None` if another stands there.
     #[inline(always)]
     pub fn after_space(&self) -> Option<Rest<'a>>
         ensures spaced { IfSome result (λ rest. IsSpaced self.now.text.now rest.text.now) }

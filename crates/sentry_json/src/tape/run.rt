@@ -17,7 +17,7 @@ fn stops(lanes: u8x16) -> u64
         | lanes.simd_lt(u8x16::splat(0x20))).to_bitmask()
 }
 
-// The same of the last bytes, one by one.
+// Returns where the run that goes on at `from` ends: byte by byte, for the last bytes of a text.
 fn short_run_end(bytes: &[u8], from: usize) -> usize
     requires { from ≤ length bytes.now }
     ensures { result ≡ from + prefix_len is_plain (drop from bytes.now) }

@@ -123,7 +123,7 @@ impl Buffer {
         self.len = place_known(buffer, at, text);
     }
 
-    // The same with any text.
+    // As `put_known`, with any text.
     #[inline(always)]
     pub(super) fn put_text(&mut self, comma: bool, text: &[u8])
         requires { length text.now + 1 ≤ self.old.ready }
@@ -134,7 +134,7 @@ impl Buffer {
         self.len = place_text(buffer, at, text);
     }
 
-    // The same with a text of at most 32 bytes.
+    // As `put_known`, with a text of at most 32 bytes.
     #[inline(always)]
     pub(super) fn put_short(&mut self, comma: bool, text: &[u8])
         requires short { length text.now ≤ 32 }
@@ -146,7 +146,7 @@ impl Buffer {
         self.len = place_short(buffer, at, text);
     }
 
-    // The same with any text between a quote and `close`.
+    // As `put_known`, with any text between a quote and `close`.
     #[inline(always)]
     pub(super) fn quote(&mut self, comma: bool, text: &[u8], close: &[u8])
         requires { length text.now + length close.now + 2 ≤ self.old.ready }

@@ -33,7 +33,7 @@ fn store_ends<const N: usize>(ends: &mut [u8], text: &[u8])
     Simd::<u8, N>::from_slice(&text[at..]).copy_to_slice(&mut ends[N..]);
 }
 
-// Whether N to 2 N bytes need no escape: both ends, which may overlap, are tested as one vector of M.
+// Whether N to 2 N bytes need no escape: both ends, which may overlap, are tested as one vector.
 #[inline(always)]
 fn has_plain_ends<const N: usize, const M: usize>(text: &[u8]) -> bool
     requires twice { M ≡ N + N }
@@ -47,7 +47,7 @@ fn has_plain_ends<const N: usize, const M: usize>(text: &[u8]) -> bool
     is_plain_at::<M>(&ends[..], 0)
 }
 
-// The same of a few bytes.
+// Whether a few bytes need no escape.
 #[inline(always)]
 fn are_plain(text: &[u8]) -> bool
     ensures { OnTrue result (PlainBetween text.now 0 (length text.now)) }
@@ -60,7 +60,7 @@ fn are_plain(text: &[u8]) -> bool
     true
 }
 
-// The same of 32 bytes and more.
+// Whether 32 bytes and more need no escape.
 #[inline(always)]
 fn is_long_plain(text: &[u8]) -> bool
     requires { 32 ≤ length text.now }
@@ -76,7 +76,7 @@ fn is_long_plain(text: &[u8]) -> bool
     is_plain_at::<32>(text, text.len() - 32)
 }
 
-// The same of fewer than 16 bytes.
+// Whether fewer than 16 bytes need no escape.
 #[inline(always)]
 fn is_small_plain(text: &[u8]) -> bool
     requires { length text.now < 16 }
@@ -91,7 +91,7 @@ fn is_small_plain(text: &[u8]) -> bool
     }
 }
 
-// The same of a text of any length.
+// Whether a text of any length needs no escape.
 #[inline(always)]
 fn is_plain_to_its_end(text: &[u8]) -> bool
     ensures { OnTrue result (PlainBetween text.now 0 (length text.now)) }

@@ -82,8 +82,8 @@ fn put_string(out: &mut Buffer, comma: bool, text: &[u8]) -> Result<(), AllocErr
     put_quoted(out, comma, text, b"\"")
 }
 
-// Appends a text between a quote and `close`. What has escapes, or no room yet, is left to calls that
-// end this one: so a string that is stored at once needs no frame.
+// Appends a text between a quote and `close`. What has escapes, or no room yet, is left to calls
+// that end this one: so a string that is stored at once needs no frame.
 #[inline(always)]
 fn put_quoted(out: &mut Buffer, comma: bool, text: &[u8], close: &[u8]) -> Result<(), AllocError>
     requires { length close.now ≤ 2 }
@@ -101,7 +101,7 @@ fn put_quoted(out: &mut Buffer, comma: bool, text: &[u8], close: &[u8]) -> Resul
     Ok(())
 }
 
-// The same of a text without escapes that has no room yet.
+// As `put_quoted`, of a text without escapes that has no room yet.
 #[cold]
 #[inline(never)]
 fn put_growing(out: &mut Buffer, comma: bool, text: &[u8], close: &[u8]) -> Result<(), AllocError>
@@ -116,7 +116,7 @@ fn put_growing(out: &mut Buffer, comma: bool, text: &[u8], close: &[u8]) -> Resu
     Ok(())
 }
 
-// The same of a text with escapes. A failure cuts off what was appended.
+// As `put_quoted`, of a text with escapes. A failure cuts off what was appended.
 #[inline(never)]
 fn put_escaped(out: &mut Buffer, comma: bool, text: &[u8], close: &[u8]) -> Result<(), AllocError>
     requires { length close.now ≤ 2 }

@@ -9,7 +9,8 @@ use Rattle.sentry_json.specs.declared.tape.token.Token.TheVariants as token
 use Rattle.sentry_json.proofs.Flat.{AreMembers, ReadSoFar}
 use Rattle.sentry_json.proofs.tape.members.take_members.Given as goal
 
--- `ms` are the members so far, `done` are the tokens of those that are kept, and `found` is the object at `apart`
+-- `ms` are the members so far, `done` are the tokens of those that are kept, and `found` is the
+-- object at `apart`
 abbrev pub invariant-loop-found : goal.invariant-loop-found
 invariant-loop-found l =
     (ms : Members) × ReadSoFar l.fn.inside.text.now l.left.text.now ms 126 × IsOrdered ms × (done : List Token) × (l.tokens.items ≡ token.Object 0 ∷ done) × AreMembers done (among (map (λ k. k.now) l.keys) ms) × (option_map (λ m. object (members_view m.entries)) l.found ≡ get_member l.apart ms)
