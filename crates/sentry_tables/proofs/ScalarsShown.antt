@@ -5,11 +5,13 @@ use Rattle.serde_json.specs.Data.{Num, unsigned, negative, float, Data, Items}
 use Rattle.serde_json.specs.Find.{as_array, as_str, as_bool, as_number, as_u64, as_i64}
 use Rattle.sentry_json.specs.Sound.{IsRanged}
 use Rattle.sentry_tables.specs.Cell.{Cell, text, truth, whole, any}
-use Rattle.std.specs.Prelude.{pos, negsuc, ℤ, IfSome, nat_lt}
+use Rattle.std.specs.Prelude.{pos, negsuc, ℤ, IfSome, nat_lt, Result, ok_or}
 use Rattle.sentry_tables.specs.Basic.{whole_below, signed_at, IsWithin, pair_of}
-use Rattle.sentry_tables.specs.Cells.{pair_cell}
+use Rattle.sentry_tables.specs.Cells.{natural_cell, pair_cell}
 use Rattle.sentry_tables.specs.Kinds.{text_kind, truth_kind, unsigned_kind, signed_kind, pair_kind, any_kind}
-use Rattle.sentry_tables.specs.Reading.{Shown, Refused}
+use Rattle.sentry_tables.specs.Reading.{Shown, Refused, Reads}
+use Rattle.sentry_tables.specs.declared.error.TreeError.{TreeError}
+use Rattle.sentry_tables.specs.declared.error.TreeError.TheVariants.{Misfit}
 
 pub text_refused : (d : Data) → as_str d ≡ None → Refused text_kind d
 unfolding Refused
@@ -31,17 +33,16 @@ pub whole_refused : (bound : ℕ) (d : Data) → option_and_then as_u64 (as_numb
 unfolding Refused
 whole_refused bound d e now c h = none-some c (sym (ap (option_and_then (whole_below bound)) e) ∙ h)
 
-pub whole_shown : (bound n : ℕ) (d : Data) → option_and_then as_u64 (as_number d) ≡ Some n → n < bound → Shown (unsigned_kind bound) d (whole (pos n))
-unfolding Shown
-whole_shown bound n d e below now = ap (option_and_then (whole_below bound)) e ∙ ap (λ b. cond b (Some (whole (pos n))) None) (lt-ltb n bound below)
+pub whole_read : {A : Type 0} (number : A → ℕ) (bound n : ℕ) (d : Data) (o : Option A) (r : Result A TreeError) → option_and_then as_u64 (as_number d) ≡ Some n → IfSome o (λ x. (number x ≡ n) × (n < bound)) → (o ≡ None → n < bound → ⊥) → r ≡ ok_or o Misfit → Reads (unsigned_kind bound) (λ x. natural_cell (number x)) d r
+unfolding Shown Refused
+whole_read number bound n d (Some x) r e held large is = rw (is, held.0) (λ now. ap (option_and_then (whole_below bound)) e ∙ ap (λ b. cond b (Some (whole (pos n))) None) (lt-ltb n bound held.1))
+whole_read number bound n d None r e held large is =
+    let least : n < bound → ⊥ = large refl in
+    rw is (λ now c h. none-some c (sym (ap (option_and_then (whole_below bound)) e ∙ ap (λ b. cond b (Some (whole (pos n))) None) (le-ltb n bound (omega arith))) ∙ h))
 
 pub any_shown : (d e : Data) → e ≡ d → Shown any_kind d (any e)
 unfolding Shown
 any_shown d e same now = ap any (sym same)
-
-pub whole_too_large : (bound n : ℕ) (d : Data) → option_and_then as_u64 (as_number d) ≡ Some n → (n < bound → ⊥) → Refused (unsigned_kind bound) d
-unfolding Refused
-whole_too_large bound n d e large now c h = none-some c (sym (ap (option_and_then (whole_below bound)) e ∙ ap (λ b. cond b (Some (whole (pos n))) None) (le-ltb n bound (omega arith))) ∙ h)
 
 -- ---- whole numbers with a sign
 
@@ -52,6 +53,10 @@ signed_refused bound d e now c h = none-some c (sym e ∙ h)
 pub signed_shown : (bound : ℕ) (z : ℤ) (d : Data) → option_and_then (signed_at bound) (as_number d) ≡ Some (whole z) → Shown (signed_kind bound) d (whole z)
 unfolding Shown
 signed_shown bound z d e now = e
+
+pub signed_read : (bound : ℕ) (d : Data) (o : Option ℤ) (r : Result ℤ TreeError) → option_map whole o ≡ option_and_then (signed_at bound) (as_number d) → r ≡ ok_or o Misfit → Reads (signed_kind bound) whole d r
+signed_read bound d (Some z) r e is = rw is (signed_shown bound z d (sym e))
+signed_read bound d None r e is = rw is (signed_refused bound d (sym e))
 
 chosen : (t : Bool) (c x : Cell) → cond t (Some c) None ≡ Some x → c ≡ x
 chosen true c x e = same_Some c x e

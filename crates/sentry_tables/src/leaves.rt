@@ -1,9 +1,9 @@
-//! Strings, booleans, integers and pairs of integers as members.
+//! Strings, booleans, integers with a sign and pairs of integers as members.
 
 ghost use Rattle.std.specs.Prelude.{◌^◌};
 ghost use Rattle.sentry_tables.specs.Cell.{truth, whole};
-ghost use Rattle.sentry_tables.specs.Cells.{text_cell, cow_cell, natural_cell, pair_cell};
-ghost use Rattle.sentry_tables.specs.Kinds.{text_kind, truth_kind, unsigned_kind, signed_kind, pair_kind};
+ghost use Rattle.sentry_tables.specs.Cells.{text_cell, cow_cell, pair_cell};
+ghost use Rattle.sentry_tables.specs.Kinds.{text_kind, truth_kind, signed_kind, pair_kind};
 
 use crate::member::Member;
 use crate::way::Way;
@@ -67,126 +67,6 @@ impl Member for bool {
     }
 
     fn is_plain(&self) -> bool {
-        true
-    }
-}
-
-impl Member for u8 {
-    ghost kind = { unsigned_kind (2 ^ 8) };
-
-    ghost cell_of = { natural_cell };
-
-    #[tactic(auto, unfolding(crate::specs::Writes::written))]
-    fn to_tree(&self, _alloc: Global) -> Result<Value, AllocError> {
-        Ok(Value::from(*self))
-    }
-
-    #[tactic(auto, using(crate::proofs::Tokens::u8_wrote))]
-    fn write(&self, out: &mut Writer) -> Result<(), AllocError> {
-        out.u64(u64::from(*self))
-    }
-
-    #[tactic(auto, using(crate::proofs::Ways::unchanged))]
-    fn remake(&self, _way: Way) -> Result<u8, AllocError> {
-        Ok(*self)
-    }
-
-    fn is_null_tree(&self) -> bool {
-        false
-    }
-
-    fn is_plain(&self) -> bool {
-        let _number = *self;
-        true
-    }
-}
-
-impl Member for u16 {
-    ghost kind = { unsigned_kind (2 ^ 16) };
-
-    ghost cell_of = { natural_cell };
-
-    #[tactic(auto, unfolding(crate::specs::Writes::written))]
-    fn to_tree(&self, _alloc: Global) -> Result<Value, AllocError> {
-        Ok(Value::from(*self))
-    }
-
-    #[tactic(auto, using(crate::proofs::Tokens::u16_wrote))]
-    fn write(&self, out: &mut Writer) -> Result<(), AllocError> {
-        out.u64(u64::from(*self))
-    }
-
-    #[tactic(auto, using(crate::proofs::Ways::unchanged))]
-    fn remake(&self, _way: Way) -> Result<u16, AllocError> {
-        Ok(*self)
-    }
-
-    fn is_null_tree(&self) -> bool {
-        false
-    }
-
-    fn is_plain(&self) -> bool {
-        let _number = *self;
-        true
-    }
-}
-
-impl Member for u32 {
-    ghost kind = { unsigned_kind (2 ^ 32) };
-
-    ghost cell_of = { natural_cell };
-
-    #[tactic(auto, unfolding(crate::specs::Writes::written))]
-    fn to_tree(&self, _alloc: Global) -> Result<Value, AllocError> {
-        Ok(Value::from(*self))
-    }
-
-    #[tactic(auto, using(crate::proofs::Tokens::u32_wrote))]
-    fn write(&self, out: &mut Writer) -> Result<(), AllocError> {
-        out.u64(u64::from(*self))
-    }
-
-    #[tactic(auto, using(crate::proofs::Ways::unchanged))]
-    fn remake(&self, _way: Way) -> Result<u32, AllocError> {
-        Ok(*self)
-    }
-
-    fn is_null_tree(&self) -> bool {
-        false
-    }
-
-    fn is_plain(&self) -> bool {
-        let _number = *self;
-        true
-    }
-}
-
-impl Member for u64 {
-    ghost kind = { unsigned_kind (2 ^ 64) };
-
-    ghost cell_of = { natural_cell };
-
-    #[tactic(auto, unfolding(crate::specs::Writes::written))]
-    fn to_tree(&self, _alloc: Global) -> Result<Value, AllocError> {
-        Ok(Value::from(*self))
-    }
-
-    #[tactic(auto, using(crate::proofs::Tokens::u64_wrote))]
-    fn write(&self, out: &mut Writer) -> Result<(), AllocError> {
-        out.u64(*self)
-    }
-
-    #[tactic(auto, using(crate::proofs::Ways::unchanged))]
-    fn remake(&self, _way: Way) -> Result<u64, AllocError> {
-        Ok(*self)
-    }
-
-    fn is_null_tree(&self) -> bool {
-        false
-    }
-
-    fn is_plain(&self) -> bool {
-        let _number = *self;
         true
     }
 }

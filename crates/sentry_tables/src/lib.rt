@@ -22,6 +22,7 @@ pub mod read;
 pub mod spelled;
 pub mod text;
 pub mod tree;
+pub mod unsigned;
 pub mod way;
 pub mod word;
 

@@ -75,75 +75,22 @@ where
 impl FromTree for String {
     #[tactic(auto, using(crate::proofs::ScalarsShown::text_refused, crate::proofs::ScalarsShown::text_shown))]
     fn from_node<N: Node>(alloc: Global, node: &N) -> Result<String, TreeError> {
-        match node.as_str() {
-            Some(text) => Ok(String::from_str(alloc, text)?),
-            None => Err(TreeError::Misfit),
-        }
+        let text = node.as_str().ok_or(TreeError::Misfit)?;
+        Ok(String::from_str(alloc, text)?)
     }
 }
 
 impl<'a> FromTree for CowStr<'a> {
     #[tactic(auto, using(crate::proofs::ScalarsShown::text_refused, crate::proofs::ScalarsShown::text_shown))]
     fn from_node<N: Node>(alloc: Global, node: &N) -> Result<CowStr<'a>, TreeError> {
-        match node.as_str() {
-            Some(text) => Ok(CowStr::Owned(String::from_str(alloc, text)?)),
-            None => Err(TreeError::Misfit),
-        }
+        Ok(CowStr::Owned(String::from_node(alloc, node)?))
     }
 }
 
 impl FromTree for bool {
     #[tactic(auto, using(crate::proofs::ScalarsShown::truth_refused, crate::proofs::ScalarsShown::truth_shown))]
     fn from_node<N: Node>(_alloc: Global, node: &N) -> Result<bool, TreeError> {
-        match node.as_bool() {
-            Some(truth) => Ok(truth),
-            None => Err(TreeError::Misfit),
-        }
-    }
-}
-
-impl FromTree for u8 {
-    fn from_node<N: Node>(_alloc: Global, node: &N) -> Result<u8, TreeError> {
-        match node.as_u64() {
-            Some(number) => match u8::try_from(number) {
-                Ok(number) => Ok(number),
-                Err(_) => Err(TreeError::Misfit),
-            },
-            None => Err(TreeError::Misfit),
-        }
-    }
-}
-
-impl FromTree for u16 {
-    fn from_node<N: Node>(_alloc: Global, node: &N) -> Result<u16, TreeError> {
-        match node.as_u64() {
-            Some(number) => match u16::try_from(number) {
-                Ok(number) => Ok(number),
-                Err(_) => Err(TreeError::Misfit),
-            },
-            None => Err(TreeError::Misfit),
-        }
-    }
-}
-
-impl FromTree for u32 {
-    fn from_node<N: Node>(_alloc: Global, node: &N) -> Result<u32, TreeError> {
-        match node.as_u64() {
-            Some(number) => match u32::try_from(number) {
-                Ok(number) => Ok(number),
-                Err(_) => Err(TreeError::Misfit),
-            },
-            None => Err(TreeError::Misfit),
-        }
-    }
-}
-
-impl FromTree for u64 {
-    fn from_node<N: Node>(_alloc: Global, node: &N) -> Result<u64, TreeError> {
-        match node.as_u64() {
-            Some(natural) => Ok(natural),
-            None => Err(TreeError::Misfit),
-        }
+        node.as_bool().ok_or(TreeError::Misfit)
     }
 }
 
@@ -169,10 +116,7 @@ impl FromTree for i32 {
 
 impl FromTree for i64 {
     fn from_node<N: Node>(_alloc: Global, node: &N) -> Result<i64, TreeError> {
-        match node_as_i64(node) {
-            Some(number) => Ok(number),
-            None => Err(TreeError::Misfit),
-        }
+        node_as_i64(node).ok_or(TreeError::Misfit)
     }
 }
 
@@ -198,22 +142,15 @@ fn two_numbers<N: Node>(items: &[N]) -> Option<(u64, u64)>
 impl FromTree for (u64, u64) {
     #[tactic(auto, using(crate::proofs::ScalarsShown::no_pair, crate::proofs::ScalarsShown::pair_refused, crate::proofs::ScalarsShown::pair_shown))]
     fn from_node<N: Node>(alloc: Global, node: &N) -> Result<(u64, u64), TreeError> {
-        match node.items(alloc)? {
-            Some(items) => match two_numbers(&items) {
-                Some(pair) => Ok(pair),
-                None => Err(TreeError::Misfit),
-            },
-            None => Err(TreeError::Misfit),
-        }
+        let items = node.items(alloc)?.ok_or(TreeError::Misfit)?;
+        two_numbers(&items).ok_or(TreeError::Misfit)
     }
 }
 
 impl<T: FromTree> FromTree for Vec<T> {
+    #[tactic(auto, using(crate::proofs::ListsShown::not_array))]
     fn from_node<N: Node>(alloc: Global, node: &N) -> Result<Vec<T>, TreeError> {
-        let items = match node.items(alloc)? {
-            Some(items) => items,
-            None => return Err(TreeError::Misfit),
-        };
+        let items = node.items(alloc)?.ok_or(TreeError::Misfit)?;
         let mut list = Vec::with_capacity(alloc, items.len())?;
         for item in &items {
             list.push(T::from_node(alloc, item)?)?;
@@ -232,10 +169,7 @@ fn members_of<'n, N: Node>(alloc: Global, node: &'n N) -> Result<Vec<Named<'n, N
         as_object (N.data_of node.now) ≡ Some (named_by N.data_of members.items)) }
     ensures err { IfErr result (λ e. Only e (as_object (N.data_of node.now) ≡ None)) }
 {
-    match node.members(alloc)? {
-        Some(members) => Ok(members),
-        None => Err(TreeError::Misfit),
-    }
+    node.members(alloc)?.ok_or(TreeError::Misfit)
 }
 
 // Reads the members of an object into a map at once: they are sorted, and the map is built of them,
@@ -314,8 +248,6 @@ pub fn read_values<T: FromTree, N: Node>(alloc: Global, node: &N) -> Result<Vec<
     if node.is_array() {
         return FromTree::from_node(alloc, node);
     }
-    match node.get("values") {
-        Some(list) => FromTree::from_node(alloc, &list),
-        None => Err(TreeError::Misfit),
-    }
+    let list = node.get("values").ok_or(TreeError::Misfit)?;
+    FromTree::from_node(alloc, &list)
 }

@@ -103,10 +103,7 @@ impl<T: Spelled> Codec<T> for AsText {
 impl<T: Spelled> ReadCodec<T> for AsText {
     #[tactic(auto, using(crate::proofs::Spellings::text_read, crate::proofs::Spellings::not_text))]
     fn from_node<N: Node>(alloc: Global, node: &N) -> Result<T, TreeError> {
-        match node.as_str() {
-            Some(text) => T::of_text(alloc, text),
-            None => Err(TreeError::Misfit),
-        }
+        T::of_text(alloc, node.as_str().ok_or(TreeError::Misfit)?)
     }
 }
 

@@ -32,10 +32,7 @@ pub trait Word: Clone {
 fn read_word<T: Word>(text: &str) -> Result<T, TreeError>
     ensures { ReadsSpelling (enumeration T.of_word T.word) (word_cell T.word) text.now result }
 {
-    match T::of_word(text) {
-        Some(value) => Ok(value),
-        None => Err(TreeError::Misfit),
-    }
+    T::of_word(text).ok_or(TreeError::Misfit)
 }
 
 /// The form of a [`Word`]: a JSON string.
@@ -73,10 +70,7 @@ impl<T: Word> Codec<T> for AsWord {
 impl<T: Word> ReadCodec<T> for AsWord {
     #[tactic(auto, using(crate::proofs::Spellings::text_read, crate::proofs::Spellings::not_text))]
     fn from_node<N: Node>(_alloc: Global, node: &N) -> Result<T, TreeError> {
-        match node.as_str() {
-            Some(text) => read_word(text),
-            None => Err(TreeError::Misfit),
-        }
+        read_word(node.as_str().ok_or(TreeError::Misfit)?)
     }
 }
 

@@ -4,11 +4,8 @@ use Rattle.sentry_json.specs.Nodes.{items_by}
 use Rattle.serde_json.specs.Find.{as_array}
 use Rattle.sentry_tables.specs.Reading.{Only, Refused}
 use Rattle.sentry_tables.specs.Kind.{list}
-use Rattle.sentry_tables.proofs.ListsShown.{not_array, list_fails, list_shown, each_more_at, shown_when}
+use Rattle.sentry_tables.proofs.ListsShown.{list_fails, list_shown, each_more_at, shown_when}
 use Rattle.sentry_tables.proofs.read.VecFromTree.from_node.Goals as goal
-
-pub returns-in-None : goal.returns-in-None
-returns-in-None g c = not_array _ _ (search rules)
 
 pub returns-in_err-from_node : goal.returns-in_err-from_node
 returns-in_err-from_node g c =
