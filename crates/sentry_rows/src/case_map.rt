@@ -116,25 +116,17 @@ fn read_entry<T: ReadCasedAt, N: Node, R: Rng>(
     ensures { ReadsEntryAt (moment_cell now) T.cases fallback.now T.choice_of key.now
         (N.data_of node.now) result }
 {
-    let Some(word) = entry_word::<T, N>(node, key, fallback) else {
-        return Err(TreeError::Misfit);
-    };
-    match place(T::words(), word) {
-        Some(case) => T::read(alloc, node, case, now, ids),
-        None => Err(TreeError::Misfit),
-    }
+    let word = entry_word::<T, N>(node, key, fallback).ok_or(TreeError::Misfit)?;
+    let case = place(T::words(), word).ok_or(TreeError::Misfit)?;
+    T::read(alloc, node, case, now, ids)
 }
 
-/// Reads a map of values of several cases; `now` fills absent timestamps, `ids` absent ids.
-///
-/// The case of a member without a tag is the one that its key names, or else `fallback`. Of members
-/// with the same key the last one counts.
-///
-/// # Errors
-///
-/// - `Misfit` if the node isn't an object, or a member shows no value of the type.
-/// - `Memory` if an allocation fails.
-pub fn read_case_map<T: ReadCasedAt, N: Node, R: Rng>(
+// Reads a map of values of several cases; `now` fills absent timestamps, `ids` absent ids.
+//
+// The case of a member without a tag is the one that its key names, or else `fallback`. Of members
+// with the same key the last one counts.
+#[tactic(auto, using(crate::proofs::CaseMaps::no_map))]
+fn read_case_map<T: ReadCasedAt, N: Node, R: Rng>(
     alloc: Global,
     node: &N,
     fallback: &str,
@@ -145,10 +137,7 @@ pub fn read_case_map<T: ReadCasedAt, N: Node, R: Rng>(
         map_cell T.choice_of m.entries)
         (N.data_of node.now) result }
 {
-    let members = match node.members(alloc)? {
-        Some(members) => members,
-        None => return Err(TreeError::Misfit),
-    };
+    let members = node.members(alloc)?.ok_or(TreeError::Misfit)?;
     let mut map = Map::new(alloc);
     let mut left = members.len();
     while left > 0 {

@@ -154,13 +154,9 @@ impl<T: Cased> Codec<T> for AsCase {
 impl<T: ReadCased> ReadCodec<T> for AsCase {
     #[tactic(auto, using(crate::proofs::CasesRead::case_read, crate::proofs::CasesRead::case_fails, crate::proofs::TagsShown::another_word, crate::proofs::TagsShown::no_word))]
     fn from_node<N: Node>(alloc: Global, node: &N) -> Result<T, TreeError> {
-        let Some(word) = tag(node) else {
-            return Err(TreeError::Misfit);
-        };
-        match place(T::words(), word) {
-            Some(case) => T::read(alloc, node, case),
-            None => Err(TreeError::Misfit),
-        }
+        let word = tag(node).ok_or(TreeError::Misfit)?;
+        let case = place(T::words(), word).ok_or(TreeError::Misfit)?;
+        T::read(alloc, node, case)
     }
 }
 
@@ -172,13 +168,9 @@ impl<T: ReadCasedAt> ReadCodecAt<T> for AsCase {
         now: Moment,
         ids: &mut R,
     ) -> Result<T, TreeError> {
-        let Some(word) = tag(node) else {
-            return Err(TreeError::Misfit);
-        };
-        match place(T::words(), word) {
-            Some(case) => T::read(alloc, node, case, now, ids),
-            None => Err(TreeError::Misfit),
-        }
+        let word = tag(node).ok_or(TreeError::Misfit)?;
+        let case = place(T::words(), word).ok_or(TreeError::Misfit)?;
+        T::read(alloc, node, case, now, ids)
     }
 }
 

@@ -9,14 +9,9 @@ use sentry_json::{Node, Object};
 use sentry_tables::{Drawn, TreeError};
 use std::alloc::Global;
 
-/// Reads a member with the codec `F`; drawn from `ids` if absent.
-///
-/// # Errors
-///
-/// - `Misfit` if the member is there and shows no value of the type.
-/// - `Memory` if an allocation fails.
+// Reads a member with the codec `F`; drawn from `ids` if absent.
 #[tactic(auto, using(crate::proofs::RowLemmas::draw_absent, crate::proofs::RowLemmas::draw_read))]
-pub fn or_drawn_as<F: Drawn<T>, T, R: Rng, N: Node>(
+pub(crate) fn or_drawn_as<F: Drawn<T>, T, R: Rng, N: Node>(
     alloc: Global,
     object: &Object<'_, N>,
     key: &str,

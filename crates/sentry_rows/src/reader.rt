@@ -51,14 +51,12 @@ impl<'t, N: Node> Reader<'t, N> {
         ensures err { IfErr result (λ e.
             Only e (is_some (as_object (N.data_of node.now)) ≡ false)) }
     {
-        match Object::new(alloc, node)? {
-            Some(object) => Ok(Reader {
-                alloc,
-                object,
-                failed: None,
-            }),
-            None => Err(TreeError::Misfit),
-        }
+        let object = Object::new(alloc, node)?.ok_or(TreeError::Misfit)?;
+        Ok(Reader {
+            alloc,
+            object,
+            failed: None,
+        })
     }
 
     /// Returns `value`, made of the rows that were read.

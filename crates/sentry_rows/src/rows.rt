@@ -28,10 +28,7 @@ pub(crate) fn required_as<F: ReadCodec<T>, T, N: Node>(
 ) -> Result<T, TreeError>
     ensures { ReadsRow key.now must F.kind F.cell_of (tree_of N.data_of object.now) result }
 {
-    match object.get(key) {
-        Some(member) => F::from_node(alloc, member),
-        None => Err(TreeError::Misfit),
-    }
+    F::from_node(alloc, object.get(key).ok_or(TreeError::Misfit)?)
 }
 
 // Reads an optional member that rejects null; `None` if absent.

@@ -104,13 +104,9 @@ where
     }
 }
 
-/// Reads a list from an array; `now` fills absent timestamps, `ids` absent ids.
-///
-/// # Errors
-///
-/// - `Misfit` if the node isn't an array, or an item shows no value of the type.
-/// - `Memory` if an allocation fails.
-pub fn read_list_at<T: FromTreeAt, R: Rng, N: Node>(
+// Reads a list from an array; `now` fills absent timestamps, `ids` absent ids.
+#[tactic(auto, using(sentry_tables::proofs::ListsShown::not_array_at))]
+pub(crate) fn read_list_at<T: FromTreeAt, R: Rng, N: Node>(
     alloc: Global,
     node: &N,
     now: Moment,
@@ -119,10 +115,7 @@ pub fn read_list_at<T: FromTreeAt, R: Rng, N: Node>(
     ensures { ReadsAt (moment_cell now) (list_kind T.kind) (λ v. list_cell T.cell_of v.items)
         (N.data_of node.now) result }
 {
-    let items = match node.items(alloc)? {
-        Some(items) => items,
-        None => return Err(TreeError::Misfit),
-    };
+    let items = node.items(alloc)?.ok_or(TreeError::Misfit)?;
     let mut list = Vec::with_capacity(alloc, items.len())?;
     for item in &items {
         list.push(T::from_node(alloc, item, now, ids)?)?;
@@ -130,14 +123,9 @@ pub fn read_list_at<T: FromTreeAt, R: Rng, N: Node>(
     Ok(list)
 }
 
-/// Reads a timestamp with the codec `F`; defaults to `now`.
-///
-/// # Errors
-///
-/// - `Misfit` if the member is there and shows no timestamp.
-/// - `Memory` if an allocation fails.
+// Reads a timestamp with the codec `F`; defaults to `now`.
 #[tactic(auto, using(crate::proofs::RowLemmas::at_once_absent_at, crate::proofs::RowLemmas::at_once_read_now))]
-pub fn now_or_as<F: ReadCodec<Moment>, N: Node>(
+pub(crate) fn now_or_as<F: ReadCodec<Moment>, N: Node>(
     alloc: Global,
     object: &Object<'_, N>,
     key: &str,
@@ -152,15 +140,10 @@ pub fn now_or_as<F: ReadCodec<Moment>, N: Node>(
     }
 }
 
-/// Reads a list from a bare array, or from an object with the array at the key `values`; `now`
-/// fills absent timestamps, `ids` absent ids.
-///
-/// # Errors
-///
-/// - `Misfit` if the node is neither, or an item shows no value of the type.
-/// - `Memory` if an allocation fails.
+// Reads a list from a bare array, or from an object with the array at the key `values`; `now`
+// fills absent timestamps, `ids` absent ids.
 #[tactic(auto, using(sentry_tables::proofs::ValuesShown::bare_read_at, sentry_tables::proofs::ValuesShown::no_values_at))]
-pub fn read_values_at<T: FromTreeAt, R: Rng, N: Node>(
+fn read_values_at<T: FromTreeAt, R: Rng, N: Node>(
     alloc: Global,
     node: &N,
     now: Moment,
@@ -172,10 +155,8 @@ pub fn read_values_at<T: FromTreeAt, R: Rng, N: Node>(
     if node.is_array() {
         return read_list_at(alloc, node, now, ids);
     }
-    match node.get("values") {
-        Some(list) => read_list_at(alloc, &list, now, ids),
-        None => Err(TreeError::Misfit),
-    }
+    let list = node.get("values").ok_or(TreeError::Misfit)?;
+    read_list_at(alloc, &list, now, ids)
 }
 
 impl<T: FromTreeAt> ReadCodecAt<Values<T>> for AsValues {

@@ -11,14 +11,11 @@ use Rattle.sentry_tables.specs.Reading.{Only, RefusedAt}
 use Rattle.sentry_tables.proofs.ListsShown.{shown_name, shown_still, shown_put_as}
 use Rattle.sentry_moments.specs.Moments.{moment_cell}
 use Rattle.sentry_rows.specs.Cased.{ShowsEntry}
-use Rattle.sentry_rows.proofs.CaseMaps.{no_map, map_fails, map_shown, entry_shown}
+use Rattle.sentry_rows.proofs.CaseMaps.{map_fails, map_shown, entry_shown}
 use Rattle.sentry_rows.proofs.case_map.read_case_map.Goals as goal
 
-pub returns-in-None : goal.returns-in-None
-returns-in-None g c = no_map _ _ _ _ (search rules)
-
 pub loop-left-init : goal.loop-left-init
-loop-left-init g c = (omega arith, rw (drop_all c.len-left.result c.in-Some.members.items (omega arith), c.new-map.ensures.empty) tt)
+loop-left-init g c = (omega arith, rw (drop_all c.len-left.result c.in_ok-members-2.members.items (omega arith), c.new-map.ensures.empty) tt)
 
 pub index-member-requires : goal.index-member-requires
 index-member-requires g c = omega (arith, c.loop-left.invariant.0)
@@ -26,7 +23,7 @@ index-member-requires g c = omega (arith, c.loop-left.invariant.0)
 pub loop-left-preserved : goal.loop-left-preserved
 loop-left-preserved g c =
     let l = c.loop-left in
-    let ms = c.in-Some.members.items in
+    let ms = c.in_ok-members-2.members.items in
     let m = c.index-member.result.now in
     let P = ShowsEntry g.T.Cased.cases c.args.fallback.now (moment_cell c.args.now) in
     let later : is_some (get_member m.key.now (named_by g.N.Node.data_of (drop l.left ms))) ≡ true =
@@ -39,7 +36,7 @@ loop-left-preserved g c =
 pub returns-in_err-read_entry : goal.returns-in_err-read_entry
 returns-in_err-read_entry g c =
     let l = c.loop-left in
-    let ms = c.in-Some.members.items in
+    let ms = c.in_ok-members-2.members.items in
     let m = c.index-member.result.now in
     let P = ShowsEntry g.T.Cased.cases c.args.fallback.now (moment_cell c.args.now) in
     let last : is_some (get_member m.key.now (named_by g.N.Node.data_of (drop l.left ms))) ≡ false =
@@ -52,7 +49,7 @@ returns-in_err-read_entry g c =
 pub loop-left-preserved-in-Vacant : goal.loop-left-preserved-in-Vacant
 loop-left-preserved-in-Vacant g c =
     let l = c.loop-left in
-    let ms = c.in-Some.members.items in
+    let ms = c.in_ok-members-2.members.items in
     let m = c.index-member.result.now in
     let P = ShowsEntry g.T.Cased.cases c.args.fallback.now (moment_cell c.args.now) in
     let last : is_some (get_member m.key.now (named_by g.N.Node.data_of (drop l.left ms))) ≡ false =
@@ -65,5 +62,5 @@ loop-left-preserved-in-Vacant g c =
 pub returns : goal.returns
 returns g c =
     let done : c.loop-left.left ≡ zero = omega arith in
-    map_shown _ _ _ _ _ (named_by g.N.Node.data_of c.in-Some.members.items) _ (search rules)
-    (subst (λ n. MembersShow (ShowsEntry g.T.Cased.cases c.args.fallback.now (moment_cell c.args.now)) (named_by g.N.Node.data_of (drop n c.in-Some.members.items)) (entries g.T.Cased.choice_of c.loop-left.map.entries)) done c.loop-left.invariant.1)
+    map_shown _ _ _ _ _ (named_by g.N.Node.data_of c.in_ok-members-2.members.items) _ (search rules)
+    (subst (λ n. MembersShow (ShowsEntry g.T.Cased.cases c.args.fallback.now (moment_cell c.args.now)) (named_by g.N.Node.data_of (drop n c.in_ok-members-2.members.items)) (entries g.T.Cased.choice_of c.loop-left.map.entries)) done c.loop-left.invariant.1)

@@ -5,11 +5,8 @@ use Rattle.serde_json.specs.Find.{as_array}
 use Rattle.sentry_tables.specs.Reading.{Only, RefusedAt}
 use Rattle.sentry_tables.specs.Kind.{list}
 use Rattle.sentry_moments.specs.Moments.{moment_cell}
-use Rattle.sentry_tables.proofs.ListsShown.{not_array_at, list_fails_at, list_shown_at, each_more_at, shown_here}
+use Rattle.sentry_tables.proofs.ListsShown.{list_fails_at, list_shown_at, each_more_at, shown_here}
 use Rattle.sentry_rows.proofs.timed.read_list_at.Goals as goal
-
-pub returns-in-None : goal.returns-in-None
-returns-in-None g c = not_array_at _ _ _ (search rules)
 
 pub returns-in_err-from_node : goal.returns-in_err-from_node
 returns-in_err-from_node g c =
