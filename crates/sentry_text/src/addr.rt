@@ -193,10 +193,7 @@ fn address_in<N: Node>(node: &N) -> Option<u64>
     if let Some(natural) = node.as_u64() {
         return Some(natural);
     }
-    match node.as_i64() {
-        Some(negative) => Some(negative.cast_unsigned()),
-        None => None,
-    }
+    node.as_i64().map(i64::cast_unsigned)
 }
 
 impl Addr {
@@ -247,10 +244,7 @@ impl Member for Addr {
 impl FromTree for Addr {
     #[tactic(auto, using(crate::proofs::AddressTrees::address_found, crate::proofs::AddressTrees::address_refused))]
     fn from_node<N: Node>(_alloc: Global, node: &N) -> Result<Addr, TreeError> {
-        match address_in(node) {
-            Some(address) => Ok(Addr(address)),
-            None => Err(TreeError::Misfit),
-        }
+        address_in(node).map(Addr).ok_or(TreeError::Misfit)
     }
 }
 

@@ -82,10 +82,7 @@ impl FromStr for IpAddress {
     fn from_str(text: &str) -> Result<IpAddress, ParseIpError> {
         match text {
             "{{auto}}" => Ok(IpAddress::Auto),
-            _ => match text.parse::<IpAddr>() {
-                Ok(ip) => Ok(IpAddress::Exact(ip)),
-                Err(_) => Err(ParseIpError),
-            },
+            _ => text.parse().map(IpAddress::Exact).map_err(|_| ParseIpError),
         }
     }
 }
@@ -114,11 +111,9 @@ impl Spelled for IpAddress {
 
     ghost cell_of = { ip_address_cell };
 
+    #[tactic(auto, using(crate::proofs::IpTrees::address_read, crate::proofs::IpTrees::address_refused))]
     fn of_text(_alloc: Global, text: &str) -> Result<IpAddress, TreeError> {
-        match text.parse::<IpAddress>() {
-            Ok(address) => Ok(address),
-            Err(_) => Err(TreeError::Misfit),
-        }
+        text.parse().map_err(|_| TreeError::Misfit)
     }
 
     fn text<'a>(&'a self, room: &'a mut Room) -> Result<&'a str, AllocError> {

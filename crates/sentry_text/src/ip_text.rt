@@ -53,21 +53,16 @@ impl Codec<IpAddr> for IpText {
 impl ReadCodec<IpAddr> for IpText {
     #[tactic(auto, using(sentry_tables::proofs::Spellings::text_read, sentry_tables::proofs::Spellings::not_text))]
     fn from_node<N: Node>(_alloc: Global, node: &N) -> Result<IpAddr, TreeError> {
-        match node.as_str() {
-            Some(text) => read_ip(text),
-            None => Err(TreeError::Misfit),
-        }
+        read_ip(node.as_str().ok_or(TreeError::Misfit)?)
     }
 }
 
 // The address that a text writes.
+#[tactic(auto, using(crate::proofs::IpTrees::ip_read, crate::proofs::IpTrees::ip_refused))]
 fn read_ip(text: &str) -> Result<IpAddr, TreeError>
     ensures { ReadsSpelling ip_spelling ip_cell text.now result }
 {
-    match text.parse::<IpAddr>() {
-        Ok(ip) => Ok(ip),
-        Err(_) => Err(TreeError::Misfit),
-    }
+    text.parse().map_err(|_| TreeError::Misfit)
 }
 
 // The text that is written.

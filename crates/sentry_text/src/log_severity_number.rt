@@ -101,15 +101,8 @@ impl Member for LogSeverityNumber {
 impl FromTree for LogSeverityNumber {
     #[tactic(auto, using(crate::proofs::SeverityLaws::not_whole, crate::proofs::SeverityLaws::whole_outside, crate::proofs::SeverityLaws::severity_shown))]
     fn from_node<N: Node>(_alloc: Global, node: &N) -> Result<LogSeverityNumber, TreeError> {
-        match node.as_u64() {
-            Some(number) => match u8::try_from(number) {
-                Ok(number) => match LogSeverityNumber::try_from(number) {
-                    Ok(severity) => Ok(severity),
-                    Err(_) => Err(TreeError::Misfit),
-                },
-                Err(_) => Err(TreeError::Misfit),
-            },
-            None => Err(TreeError::Misfit),
-        }
+        let number = node.as_u64().ok_or(TreeError::Misfit)?;
+        let number = u8::try_from(number).map_err(|_| TreeError::Misfit)?;
+        LogSeverityNumber::try_from(number).map_err(|_| TreeError::Misfit)
     }
 }

@@ -16,13 +16,11 @@ pub struct ParseNumberError;
 /// # Errors
 ///
 /// `ParseNumberError` if the text is no such number or the number has more than 64 bits.
+#[tactic(auto, using(crate::proofs::NumberTexts::numeral_read, crate::proofs::NumberTexts::not_numeral))]
 pub fn parse_number(text: &str, base: u32) -> Result<u64, ParseNumberError>
     requires low { 2 ≤ base }
     requires high { base ≤ 16 }
     ensures { result_ok result ≡ number_of base text.now }
 {
-    match u64::from_str_radix(text, base) {
-        Ok(number) => Ok(number),
-        Err(_) => Err(ParseNumberError),
-    }
+    u64::from_str_radix(text, base).map_err(|_| ParseNumberError)
 }

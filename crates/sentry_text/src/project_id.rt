@@ -271,9 +271,6 @@ impl Codec<OrganizationId> for OrganizationText {
 impl ReadCodec<OrganizationId> for OrganizationText {
     #[tactic(auto, using(sentry_tables::proofs::Spellings::text_read, sentry_tables::proofs::Spellings::not_text))]
     fn from_node<N: Node>(_alloc: Global, node: &N) -> Result<OrganizationId, TreeError> {
-        match node.as_str() {
-            Some(text) => OrganizationId::of_text(text),
-            None => Err(TreeError::Misfit),
-        }
+        OrganizationId::of_text(node.as_str().ok_or(TreeError::Misfit)?)
     }
 }

@@ -55,10 +55,7 @@ impl Codec<Url> for UrlText {
 impl ReadCodec<Url> for UrlText {
     #[tactic(auto, using(sentry_tables::proofs::Spellings::text_read, sentry_tables::proofs::Spellings::not_text))]
     fn from_node<N: Node>(alloc: Global, node: &N) -> Result<Url, TreeError> {
-        match node.as_str() {
-            Some(text) => read_url(alloc, text),
-            None => Err(TreeError::Misfit),
-        }
+        read_url(alloc, node.as_str().ok_or(TreeError::Misfit)?)
     }
 }
 
@@ -66,10 +63,7 @@ impl ReadCodec<Url> for UrlText {
 fn read_url(alloc: Global, text: &str) -> Result<Url, TreeError>
     ensures { ReadsSpelling url_spelling url_cell text.now result }
 {
-    match Url::parse(alloc, text) {
-        Ok(url) => Ok(url),
-        Err(error) => Err(tree_error(error)),
-    }
+    Url::parse(alloc, text).map_err(tree_error)
 }
 
 // The error of a tree with a text that was refused, or for which there was no room.
@@ -78,16 +72,7 @@ fn tree_error(error: ParseError) -> TreeError
 {
     match error {
         ParseError::Overflow | ParseError::OutOfMemory => TreeError::Memory,
-        ParseError::EmptyHost
-        | ParseError::IdnaError
-        | ParseError::InvalidPort
-        | ParseError::InvalidIpv4Address
-        | ParseError::InvalidIpv6Address
-        | ParseError::InvalidDomainCharacter
-        | ParseError::RelativeUrlWithoutBase
-        | ParseError::RelativeUrlWithCannotBeABaseBase
-        | ParseError::SetHostOnCannotBeABaseUrl
-        | ParseError::CannotSet => TreeError::Misfit,
+        _ => TreeError::Misfit,
     }
 }
 
