@@ -38,8 +38,6 @@ pub enum ParseAuthError {
 }
 
 impl From<AllocError> for ParseAuthError {
-    ghost use Rattle.sentry_keys.specs.declared.auth.ParseAuthError.TheVariants.{Memory};
-
     ghost from_gives = { λ _ e. e ≡ Memory };
 
     fn from(_e: AllocError) -> ParseAuthError {
@@ -60,11 +58,11 @@ impl From<AllocError> for ParseAuthError {
 /// `sentry_version`, without the timestamp.
 #[derive(Debug, Drop)]
 pub struct Auth {
-    timestamp: Option<Moment>,
-    client: Option<String>,
-    version: u16,
-    key: String,
-    secret: Option<String>,
+    pub(crate) timestamp: Option<Moment>,
+    pub(crate) client: Option<String>,
+    pub(crate) version: u16,
+    pub(crate) key: String,
+    pub(crate) secret: Option<String>,
 }
 
 // Returns the text before the first `at`; the whole text if absent.
@@ -72,10 +70,7 @@ fn before(text: &str, at: char) -> &str
     requires { at < 128 }
     ensures { result.now ≡ before_first (λ b. b == at) text.now }
 {
-    match text.split_once(at) {
-        Some((front, _)) => front,
-        None => text,
-    }
+    text.split_once(at).map_or(text, |(front, _)| front)
 }
 
 // Parses the number before the first `.`.
@@ -95,33 +90,17 @@ fn item_pair(item: &str) -> Option<(&str, &str)>
 }
 
 impl Auth {
-    pub(crate) fn from_parts(
-        timestamp: Option<Moment>,
-        client: Option<String>,
-        version: u16,
-        key: String,
-        secret: Option<String>,
-    ) -> Auth
-        ensures timestamp { result.timestamp ≡ timestamp }
-        ensures client { result.client ≡ client }
-        ensures version { result.version ≡ version }
-        ensures key { result.key ≡ key }
-        ensures secret { result.secret ≡ secret }
-    {
-        Auth {
-            timestamp,
-            client,
-            version,
-            key,
-            secret,
-        }
-    }
-
     // Returns the defaults, which an empty list of pairs gives: no key, version `LATEST`.
     fn untold(alloc: Global) -> Auth
         ensures { Tell [] (parts_of result) }
     {
-        Auth::from_parts(None, None, LATEST, String::new(alloc), None)
+        Auth {
+            timestamp: None,
+            client: None,
+            version: LATEST,
+            key: String::new(alloc),
+            secret: None,
+        }
     }
 
     // Applies one more pair, which replaces an earlier pair of its key; ignores an unknown key.

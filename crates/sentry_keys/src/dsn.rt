@@ -35,10 +35,7 @@ pub struct Dsn {
 pub(crate) fn copy_text(alloc: Global, text: Option<&str>) -> Result<Option<String>, AllocError>
     ensures { IfOk result (λ s. option_map string_bytes s ≡ option_copied text.entry) }
 {
-    match text {
-        Some(text) => Ok(Some(String::from_str(alloc, text)?)),
-        None => Ok(None),
-    }
+    text.map(|text| String::from_str(alloc, text)).transpose()
 }
 
 impl Dsn {
@@ -142,10 +139,7 @@ impl Dsn {
     pub fn secret_key(&self) -> Option<&str>
         ensures { option_copied result ≡ (spec.dsn_parts self.now).secret }
     {
-        match &self.secret_key {
-            Some(secret_key) => Some(secret_key.as_str()),
-            None => None,
-        }
+        self.secret_key.as_deref()
     }
 
     /// Returns the host of the URL.
@@ -159,10 +153,7 @@ impl Dsn {
     pub fn port(&self) -> u16
         ensures { result ≡ spec.port_of (spec.dsn_parts self.now) }
     {
-        match self.port {
-            Some(port) => port,
-            None => self.scheme.default_port(),
-        }
+        self.port.unwrap_or(self.scheme.default_port())
     }
 
     /// Returns the path before the project id, with a slash at both ends; `/` if empty.
@@ -198,10 +189,7 @@ impl Dsn {
     fn secret_or_empty(&self) -> &str
         ensures { result.now ≡ unwrap_or (spec.dsn_parts self.now).secret [] }
     {
-        match self.secret_key() {
-            Some(secret_key) => secret_key,
-            None => "",
-        }
+        self.secret_key().unwrap_or("")
     }
 }
 

@@ -27,9 +27,12 @@ impl Dsn {
         ensures { IfOk result (λ auth.
             parts_of auth ≡ auth_of (dsn_parts self.now) now (option_copied client_agent.entry)) }
     {
-        let key = String::from_str(alloc, self.public_key())?;
-        let secret = copy_text(alloc, self.secret_key())?;
-        let client = copy_text(alloc, client_agent)?;
-        Ok(Auth::from_parts(Some(now), client, LATEST, key, secret))
+        Ok(Auth {
+            timestamp: Some(now),
+            client: copy_text(alloc, client_agent)?,
+            version: LATEST,
+            key: String::from_str(alloc, self.public_key())?,
+            secret: copy_text(alloc, self.secret_key())?,
+        })
     }
 }

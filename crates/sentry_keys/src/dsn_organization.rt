@@ -24,13 +24,7 @@ fn is_sentry_io(host: &str) -> bool
 fn is_sentry(host: &str) -> bool
     ensures { IsTrue result ↔ IsSentry (labels host.now) }
 {
-    if is_sentry_io(host) {
-        return true;
-    }
-    match first_label(host) {
-        Some((_region, rest)) => is_sentry_io(rest),
-        None => false,
-    }
+    is_sentry_io(host) || first_label(host).is_some_and(|(_region, rest)| is_sentry_io(rest))
 }
 
 // Returns `N` of a host `oN.ingest.sentry.io` or `oN.ingest.X.sentry.io`; `N` may be any text.

@@ -28,22 +28,16 @@ fn tree_error(error: ParseDsnError) -> TreeError
 {
     match error {
         ParseDsnError::Memory => TreeError::Memory,
-        ParseDsnError::InvalidUrl
-        | ParseDsnError::InvalidScheme
-        | ParseDsnError::NoUsername
-        | ParseDsnError::NoProjectId
-        | ParseDsnError::InvalidProjectId(_) => TreeError::Misfit,
+        _ => TreeError::Misfit,
     }
 }
 
 // Parses a DSN in a JSON string.
+#[tactic(auto, using(crate::proofs::DsnTrees::tree_refused))]
 fn dsn_of_text(alloc: Global, text: &str) -> Result<Dsn, TreeError>
     ensures { ReadsSpelling dsn_spelling dsn_cell text.now result }
 {
-    match Dsn::from_str(alloc, text) {
-        Ok(dsn) => Ok(dsn),
-        Err(error) => Err(tree_error(error)),
-    }
+    Dsn::from_str(alloc, text).map_err(tree_error)
 }
 
 impl Member for Dsn {
@@ -78,9 +72,6 @@ impl Member for Dsn {
 impl FromTree for Dsn {
     #[tactic(auto, using(sentry_tables::proofs::Spellings::text_read, sentry_tables::proofs::Spellings::not_text))]
     fn from_node<N: Node>(alloc: Global, node: &N) -> Result<Dsn, TreeError> {
-        match node.as_str() {
-            Some(text) => dsn_of_text(alloc, text),
-            None => Err(TreeError::Misfit),
-        }
+        dsn_of_text(alloc, node.as_str().ok_or(TreeError::Misfit)?)
     }
 }
