@@ -9,7 +9,7 @@ use Rattle.serde_json.specs.Data.{Data, Members, no_members, member, put}
 use Rattle.serde_json.specs.View.{view}
 use Rattle.serde_json.specs.declared.value.Value.{Value}
 use Rattle.sentry_json.proofs.Puts.{less, put_over, put_commutes}
-use Rattle.sentry_json.proofs.Regular.{put_ordered}
+use Rattle.sentry_json.proofs.Regular.{all_above, put_ordered}
 use Rattle.sentry_json.specs.Sound.{AllAfter, IsOrdered}
 use Rattle.sentry_tables.specs.Cell.{Cells}
 use Rattle.sentry_tables.specs.Kind.{Rows, keys}
@@ -26,10 +26,6 @@ abbrev pub AllBelow : List ℕ → Members → Type 0
 AllBelow k no_members = Unit {0}
 AllBelow k (member l d ms) = (slice_cmp nat_cmp l k ≡ Less) × AllBelow k ms
 
-after_smaller : (l k : List ℕ) (ns : Members) → slice_cmp nat_cmp l k ≡ Less → AllAfter k ns → AllAfter l ns
-after_smaller l k no_members below h = tt
-after_smaller l k (member n d ns) below h = (nat_list_cmp_total.trans l k n below h.0, after_smaller l k ns below h.1)
-
 put_past : (k : List ℕ) (d : Data) (es rest : Members) → AllBelow k es → put k d (both es rest) ≡ both es (put k d rest)
 put_past k d no_members rest h = refl
 put_past k d (member l e es) rest h =
@@ -39,7 +35,7 @@ put_past k d (member l e es) rest h =
 put_all_past : (k : List ℕ) (es ns rest : Members) → AllBelow k es → AllAfter k ns → put_all ns (both es rest) ≡ both es (put_all ns rest)
 put_all_past k no_members ns rest h after = refl
 put_all_past k (member l e es) ns rest h after =
-    put_all_later l e ns (both es rest) (after_smaller l k ns h.0 after) ∙ ap (member l e) (put_all_past k es ns rest h.1 after)
+    put_all_later l e ns (both es rest) (all_above l k ns h.0 after) ∙ ap (member l e) (put_all_past k es ns rest h.1 after)
 
 -- what is below the key was handed on, and the key goes before what is left
 pub way_cleared : (HandedOn : Members → Type 0) (k : List ℕ) (es before rest after : Members) → HandedOn es → AllBelow k es → before ≡ both es rest → ((d : Data) → put k d rest ≡ member k d after) → ClearsWay HandedOn k before after
@@ -122,7 +118,7 @@ put_among_at Equal t k d e ms others is after order later =
     ap (λ x. put_all (put_all ms x) others) (goes_over k t d e no_members tied) ∙ ap (λ x. put_all x others) (alone k d ms after order) ∙ ap (put_all ms) (sym (put_over k d e others) ∙ ap (λ x. put k d (put x e others)) same)
 put_among_at Greater t k d e ms others is after order later =
     let last : put k d (member t e no_members) ≡ member t e (member k d no_members) = rw is refl in
-    ap (λ x. put_all (put_all ms x) others) last ∙ ap (λ x. put_all x others) (put_all_later t e ms (member k d no_members) (after_smaller t k ms (less k t is) after) ∙ ap (member t e) (alone k d ms after order))
+    ap (λ x. put_all (put_all ms x) others) last ∙ ap (λ x. put_all x others) (put_all_later t e ms (member k d no_members) (all_above t k ms (less k t is) after) ∙ ap (member t e) (alone k d ms after order))
 
 pub put_among : (t : List ℕ) (e : Data) (ms others : Members) → IsOrdered ms → put_all (put_all ms (member t e no_members)) others ≡ put_all ms (put t e others)
 put_among t e no_members others h = refl

@@ -1,7 +1,6 @@
 -- Members after members: that the two sinks go on.
-use Rattle.std.proofs.Common.{◌≡◌, ◌∷◌, ◌++◌, Bool, true, false, refl, ap, ◌∙◌, append_assoc}
-use Rattle.std.specs.Prelude.{◌||◌}
-use Rattle.std.proofs.lemmas.Bool.{or_parts}
+use Rattle.std.proofs.Common.{◌≡◌, ◌∷◌, ◌++◌, false, refl, ap, ◌∙◌, append_assoc}
+use Rattle.std.proofs.lemmas.Bool.{or_parts, or_from}
 use Rattle.json.specs.Token.{Token}
 use Rattle.json.specs.Written.{Written}
 use Rattle.serde_json.specs.Data.{Members, no_members, member, put}
@@ -17,16 +16,12 @@ pub tokens-both : (ms ns : Members) → member_tokens ms ++ member_tokens ns ≡
 tokens-both no_members ns = refl
 tokens-both (member k d ms) ns = ap (λ ts. Token.key k ∷ ts) (append_assoc (tokens_of d) (member_tokens ms) (member_tokens ns) ∙ ap (λ ts. tokens_of d ++ ts) (tokens-both ms ns))
 
-neither : (a b : Bool) → a ≡ false → b ≡ false → (a || b) ≡ false
-neither true b x y = x
-neither false b x y = y
-
 pub floats-both : (ms ns : Members) → members_have_float (both ms ns) ≡ false → (members_have_float ms ≡ false) × (members_have_float ns ≡ false)
 floats-both no_members ns h = (refl, h)
 floats-both (member k d ms) ns h =
     let p = or_parts (has_float d) (members_have_float (both ms ns)) h in
     let q = floats-both ms ns p.1 in
-    (neither (has_float d) (members_have_float ms) p.0 q.0, q.1)
+    (or_from (has_float d) (members_have_float ms) p.0 q.0, q.1)
 
 pub members_join : (ms ns : Members) (a b c : Written) → WritesMembers ms a b → WritesMembers ns b c → WritesMembers (both ms ns) a c
 unfolding WritesMembers
