@@ -3,7 +3,7 @@ use Rattle.std.specs.declared.alloc.Global.{Global}
 use Rattle.std.proofs.Common.{◌≡◌, ℕ, zero, suc, Bool, true, false, ◌||◌, ◌&&◌, nat_eq, slice_get, cond, List, [], ◌∷◌, ◌++◌, Option, Some, None, unwrap_or, bytes_eq, codes, refl, sym, ap, subst, ◌∙◌, option_map, IsUtf8}
 use Rattle.std.specs.Prelude.{⊤}
 use Rattle.std.proofs.lemmas.Option.{same_Some}
-use Rattle.std.proofs.lemmas.Bool.{and_parts, eqb-true, eq-eqb, ne_eqb, true≢false}
+use Rattle.std.proofs.lemmas.Bool.{and_parts, or_parts, eqb-true, eq-eqb, ne_eqb, true≢false}
 use Rattle.std.specs.List.{list_any, list_all, AllByRecursion, IsDistinct}
 use Rattle.sentry_tables.specs.Cell.{Cell, text, choice}
 use Rattle.sentry_tables.specs.Lawful.{is_ascii}
@@ -188,13 +188,9 @@ abbrev differ : List (List ℕ) → Bool
 differ [] = true
 differ (x ∷ xs) = cond (list_any (bytes_eq x) xs) false (differ xs)
 
-neither : (a b : Bool) → (a || b) ≡ false → (a ≡ false) × (b ≡ false)
-neither true b e = absurd cc
-neither false b e = (refl, e)
-
 none_alike : (x : List ℕ) (xs : List (List ℕ)) → list_any (bytes_eq x) xs ≡ false → AllByRecursion (λ y. bytes_eq x y ≡ false) xs
 none_alike x [] e = tt
-none_alike x (y ∷ ys) e = let p = neither (bytes_eq x y) (list_any (bytes_eq x) ys) e in (p.0, none_alike x ys p.1)
+none_alike x (y ∷ ys) e = let p = or_parts (bytes_eq x y) (list_any (bytes_eq x) ys) e in (p.0, none_alike x ys p.1)
 
 alone : (b c : Bool) → cond b false c ≡ true → (b ≡ false) × (c ≡ true)
 alone true c e = absurd cc
