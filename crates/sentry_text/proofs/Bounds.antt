@@ -1,11 +1,10 @@
 -- Lists of numbers below a bound.
 use Rattle.std.proofs.Common.{◌≡◌, ◌<◌, ℕ, zero, suc, List, [], ◌∷◌, ◌++◌, length, get_or, replicate, arith, inl, inr, IsUtf8}
-use Rattle.std.specs.Char.{digit_value}
 use Rattle.std.specs.Str.Parse.{AllDigits}
 use Rattle.std.proofs.lemmas.Bool.{cases_lt}
-use Rattle.std.proofs.lemmas.Bool.Decides.{nat_tests}
 use Rattle.std.proofs.lemmas.List.{get_or_past}
 use Rattle.std.proofs.lemmas.Str.{IsUtf8-from_ascii}
+use Rattle.sentry_json.proofs.Strings.{digit_is_ascii}
 
 -- each number is below the bound; past the end it is 0
 abbrev pub Small : ℕ → List ℕ → Type 0
@@ -36,10 +35,7 @@ small_within bound xs some within k =
 pub small_utf8 : (s : List ℕ) → Small 128 s → IsUtf8 s
 small_utf8 s small = IsUtf8-from_ascii s small
 
-digit_small : (c : ℕ) → digit_value c < 16 → c < 128
-digit_small c h = grind (arith, nat_tests)
-
 -- and so are digits in base 16
 pub digits_small : (ds : List ℕ) → AllDigits 16 ds → Small 128 ds
 digits_small [] all = small_nil 128 (omega arith)
-digits_small (c ∷ ds) all = small_cons 128 c ds (digit_small c all.0) (digits_small ds all.1)
+digits_small (c ∷ ds) all = small_cons 128 c ds (digit_is_ascii c all.0) (digits_small ds all.1)
