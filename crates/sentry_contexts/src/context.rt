@@ -58,10 +58,7 @@ fn boxed<T>(alloc: Global, value: T) -> Result<Box<T>, T>
     ensures boxed { IfOk result (λ it. it.value ≡ value) }
     ensures handed_back { IfErr result (λ back. back ≡ value) }
 {
-    match Box::new(alloc, value) {
-        Ok(boxed) => Ok(boxed),
-        Err(refused) => Err(refused.value),
-    }
+    Box::new(alloc, value).map_err(|refused| refused.value)
 }
 
 impl Context {

@@ -20,8 +20,5 @@ pub fn owned_option<'a>(
 ) -> Result<Option<CowStr<'static>>, AllocError>
     ensures { IfOk result (λ t. option_cell cow_cell t ≡ option_cell cow_cell text.now) }
 {
-    match text {
-        Some(text) => Ok(Some(owned_text(alloc, text)?)),
-        None => Ok(None),
-    }
+    text.as_ref().map(|text| owned_text(alloc, text)).transpose()
 }

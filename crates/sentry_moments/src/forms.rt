@@ -59,11 +59,9 @@ impl Codec<Moment> for Rfc3339 {
 impl ReadCodec<Moment> for Rfc3339 {
     #[tactic(auto, using(crate::proofs::MomentsShown::named_shown, crate::proofs::MomentsShown::not_named, sentry_tables::proofs::Spellings::not_text))]
     fn from_node<N: Node>(_alloc: Global, node: &N) -> Result<Moment, TreeError> {
-        match node.as_str() {
-            Some(text) => match Moment::from_rfc3339(text) {
-                Some(moment) => Ok(moment),
-                None => Err(TreeError::Misfit),
-            },
+        let text = node.as_str().ok_or(TreeError::Misfit)?;
+        match Moment::from_rfc3339(text) {
+            Some(moment) => Ok(moment),
             None => Err(TreeError::Misfit),
         }
     }
@@ -110,10 +108,7 @@ impl ReadCodec<Moment> for Seconds {
     #[tactic(auto, using(crate::proofs::MomentsShown::seconds_shown, crate::proofs::MomentsShown::past_the_range, crate::proofs::MomentsShown::without_number))]
     fn from_node<N: Node>(alloc: Global, node: &N) -> Result<Moment, TreeError> {
         match node.as_u64() {
-            Some(secs) => match Moment::new(secs, 0) {
-                Some(moment) => Ok(moment),
-                None => Err(TreeError::Misfit),
-            },
+            Some(secs) => Moment::new(secs, 0).ok_or(TreeError::Misfit),
             None => Rfc3339::from_node(alloc, node),
         }
     }

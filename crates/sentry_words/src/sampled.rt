@@ -63,9 +63,6 @@ impl Codec<bool> for Sampled {
 impl ReadCodec<bool> for Sampled {
     #[tactic(auto, using(sentry_tables::proofs::Spellings::text_read, sentry_tables::proofs::Spellings::not_text))]
     fn from_node<N: Node>(_alloc: Global, node: &N) -> Result<bool, TreeError> {
-        match node.as_str() {
-            Some(text) => truth_of(text),
-            None => Err(TreeError::Misfit),
-        }
+        truth_of(node.as_str().ok_or(TreeError::Misfit)?)
     }
 }

@@ -290,10 +290,7 @@ impl From<CowStr<'static>> for Unit {
     ghost from_gives = { λ text unit. unit_cell unit ≡ unit_of (cow_str_bytes text) };
 
     fn from(text: CowStr<'static>) -> Unit {
-        match Unit::known(text.as_str()) {
-            Some(unit) => unit,
-            None => Unit::Other(text),
-        }
+        Unit::known(text.as_str()).unwrap_or(Unit::Other(text))
     }
 }
 
