@@ -82,12 +82,10 @@ impl LogAttribute {
         let gave = self.give(&mut text);
         let TextRows { out, failed } = text;
         leave(out);
-        match gave {
-            Ok(()) => match failed {
-                None => Ok(()),
-                Some(error) => Err(error),
-            },
-            Err(error) => Err(error),
+        gave?;
+        match failed {
+            None => Ok(()),
+            Some(error) => Err(error),
         }
     }
 
@@ -156,13 +154,9 @@ impl FromTree for LogAttribute {
     #[inline(always)]
     #[tactic(auto, using(crate::proofs::Attributes::attribute_is, crate::proofs::Attributes::no_type, crate::proofs::Attributes::no_value, crate::proofs::Attributes::another_type))]
     fn from_node<N: Node>(alloc: Global, node: &N) -> Result<LogAttribute, TreeError> {
-        let Some(word) = tag(node) else {
-            return Err(TreeError::Misfit);
-        };
-        match node.get("value") {
-            Some(value) => Ok(LogAttribute(read_typed(alloc, word, &value)?)),
-            None => Err(TreeError::Misfit),
-        }
+        let word = tag(node).ok_or(TreeError::Misfit)?;
+        let value = node.get("value").ok_or(TreeError::Misfit)?;
+        Ok(LogAttribute(read_typed(alloc, word, &value)?))
     }
 }
 
@@ -227,17 +221,13 @@ fn give_large<S: Sink>(number: &Number, sink: &mut S) -> Result<(), AllocError>
         (attribute_members (compacted (number_data (number_view number.now))))) }
     ensures err { OnErr result (sink.new ≡ sink.old) }
 {
-    match number.as_u64() {
-        Some(natural) => {
-            let mut room = Room::new();
-            give_text(print_into(&natural, &mut room)?, sink);
-            Ok(())
-        }
-        None => {
-            give_text("", sink);
-            Ok(())
-        }
-    }
+    let Some(natural) = number.as_u64() else {
+        give_text("", sink);
+        return Ok(());
+    };
+    let mut room = Room::new();
+    give_text(print_into(&natural, &mut room)?, sink);
+    Ok(())
 }
 
 // Reads a value of the type `word`; `Misfit` for an unknown type or a value of another type.
@@ -246,18 +236,12 @@ fn read_typed<N: Node>(alloc: Global, word: &str, value: &N) -> Result<Value, Tr
     ensures { ReadsTyped word.now (N.data_of value.now) result }
 {
     match word {
-        "string" => match value.as_str() {
-            Some(text) => Ok(Value::try_from_str(alloc, text)?),
-            None => Err(TreeError::Misfit),
-        },
-        "integer" => match value.as_i64() {
-            Some(whole) => Ok(Value::from(whole)),
-            None => Err(TreeError::Misfit),
-        },
-        "boolean" => match value.as_bool() {
-            Some(truth) => Ok(Value::from(truth)),
-            None => Err(TreeError::Misfit),
-        },
+        "string" => {
+            let text = value.as_str().ok_or(TreeError::Misfit)?;
+            Ok(Value::try_from_str(alloc, text)?)
+        }
+        "integer" => value.as_i64().map(Value::from).ok_or(TreeError::Misfit),
+        "boolean" => value.as_bool().map(Value::from).ok_or(TreeError::Misfit),
         _ => Err(TreeError::Misfit),
     }
 }

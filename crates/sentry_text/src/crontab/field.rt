@@ -31,10 +31,7 @@ fn number(text: &str) -> Option<u64>
 fn is_step(text: &str) -> bool
     ensures { IsTrue result ↔ IsStep text.now }
 {
-    match number(text) {
-        Some(step) => step > 0,
-        None => false,
-    }
+    number(text).is_some_and(|step| step > 0)
 }
 
 // The texts before and after the first such character.

@@ -8,7 +8,7 @@ use Rattle.sentry_records.proofs.log_attribute.LogAttribute.write_members.Goals 
 pub returns-in-None : goal.returns-in-None
 returns-in-None c =
     let ms = attribute_members (attribute_form (view c.args.self.now.0)) in
-    let given = c.in-Ok.ensures.ok in
+    let given = c.in_ok-gave.ensures.ok in
     let name = given.0 in
     let q : WritesMembers ms c.args.out.now c.leave.new._sink = subst (λ s. WritesMembers ms c.args.out.now s) (sym c.leave.ensures) (while_none _ _ _ given.1 c.in-None.is) in
     search rules
