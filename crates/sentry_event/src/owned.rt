@@ -20,5 +20,7 @@ pub fn owned_option<'a>(
 ) -> Result<Option<CowStr<'static>>, AllocError>
     ensures { IfOk result (λ t. option_cell cow_cell t ≡ option_cell cow_cell text.now) }
 {
-    text.as_ref().map(|text| owned_text(alloc, text)).transpose()
+    text.as_ref()
+        .map(|text| owned_text(alloc, text))
+        .transpose()
 }

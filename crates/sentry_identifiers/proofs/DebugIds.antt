@@ -1,9 +1,10 @@
 -- Which texts are debug identifiers, and what they are read as.
-use Rattle.std.proofs.Common.{◌≡◌, ◌≢◌, ◌⊎◌, inl, inr, ℕ, zero, suc, ◌+◌, ◌*◌, ◌/◌, ◌%◌, ◌^◌, ◌<◌, ◌≤◌, ◌&&◌, ◌==◌, true, false, cond, nat_le, List, [], ◌∷◌, ◌++◌, length, take, drop, get_or, slice_index, Option, Some, None, option_and_then, option_map, refl, sym, ap, subst, ◌∙◌, ◌↔◌, arith, All, length-take, take-append-drop, add-one}
+use Rattle.std.proofs.Common.{◌≡◌, ◌≢◌, ◌⊎◌, inl, inr, ℕ, zero, suc, ◌+◌, ◌*◌, ◌/◌, ◌%◌, ◌^◌, ◌<◌, ◌≤◌, ◌&&◌, ◌==◌, true, false, cond, nat_le, List, [], ◌∷◌, ◌++◌, length, take, drop, get_or, slice_index, Option, Some, None, option_and_then, option_map, Result, Ok, Err, refl, sym, ap, subst, ◌∙◌, ◌↔◌, arith, All, length-take, take-append-drop, add-one}
 use Rattle.std.specs.Bool.{Decides}
 use Rattle.std.specs.Fmt.{digits, digits_onto, digit_glyph}
 use Rattle.std.proofs.lemmas.Grind.{pow_more}
 use Rattle.std.specs.List.{list_all}
+use Rattle.std.specs.Result.{OkIff, result_ok}
 use Rattle.std.specs.Str.{IsCharBoundary}
 use Rattle.std.specs.Str.Parse.{IsNumeral, digits_value, without_leading_plus}
 use Rattle.std.proofs.lemmas.Bool.{cond-true, cond-false, cases_Bool, cases_lt, cases_eq, and_parts, eqb-true, eq-eqb, ne_eqb, leb-true, le-leb, false_from_ne_true, true≢false}
@@ -98,14 +99,13 @@ both_parts text bytes n e f =
 abbrev pub Parses : List ℕ → Type 0
 Parses rest = IsNumeral 16 (without_leading_plus rest) × (digits_value 16 (without_leading_plus rest) < 2 ^ 32)
 
--- `parse` reads digits without a plus
-pub number_read : (text rest : List ℕ) (n : ℕ) → text ≡ 45 ∷ rest → length rest ≤ 8 → get_or rest 0 0 ≢ 43 → Parses rest × (n ≡ digits_value 16 (without_leading_plus rest)) → Some n ≡ appendix_of text
-number_read text rest n e short plain h =
+-- what `parse` answers of digits without a plus
+pub number_answered : {E : Type 0} (text rest : List ℕ) (r : Result ℕ E) → text ≡ 45 ∷ rest → length rest ≤ 8 → get_or rest 0 0 ≢ 43
+    → OkIff r (Parses rest) (digits_value 16 (without_leading_plus rest)) → result_ok r ≡ appendix_of text
+number_answered text rest (Ok n) e short plain h =
     let same = without_leading_plus_none rest plain in
     ap (λ (k : ℕ). Some k) (h.1 ∙ ap (digits_value 16) same) ∙ digits_read text rest e (subst (λ (ds : List ℕ). IsNumeral 16 ds) same h.0.0, short)
-
-pub number_refused : (text rest : List ℕ) → text ≡ 45 ∷ rest → length rest ≤ 8 → get_or rest 0 0 ≢ 43 → ¬ (Parses rest) → None ≡ appendix_of text
-number_refused text rest e short plain h =
+number_answered text rest (Err error) e short plain h =
     let same = without_leading_plus_none rest plain in
     digits_refused text rest e (λ fits. h (rw same (fits.0, eight_digits rest fits)))
 

@@ -75,10 +75,7 @@ fn read_appendix(tail: &str) -> Option<u32>
     if digits.len() > 8 || digits.starts_with('+') {
         return None;
     }
-    match u32::from_str_radix(digits, 16) {
-        Ok(appendix) => Some(appendix),
-        Err(_) => None,
-    }
+    u32::from_str_radix(digits, 16).ok()
 }
 
 fn read_parts(text: &str) -> Option<(Uuid, u32)>
@@ -103,10 +100,8 @@ impl FromStr for DebugId {
     /// `ParseDebugIdError` if the text doesn't begin with a UUID as 32 hex digits or with hyphens,
     /// or if the rest of the text is neither empty nor an appendix.
     fn from_str(text: &str) -> Result<DebugId, ParseDebugIdError> {
-        match read_parts(text) {
-            Some((uuid, appendix)) => Ok(DebugId::from_parts(uuid, appendix)),
-            None => Err(ParseDebugIdError),
-        }
+        let (uuid, appendix) = read_parts(text).ok_or(ParseDebugIdError)?;
+        Ok(DebugId::from_parts(uuid, appendix))
     }
 }
 

@@ -1,7 +1,7 @@
 use Rattle.std.proofs.Common.{ℕ, List, ◌∷◌, sym, ap, ◌∙◌, arith, lit<, rules}
 use Rattle.std.proofs.lemmas.Str.Pattern.{starts_char}
 use Rattle.sentry_text.proofs.NumberTexts.{no_plus}
-use Rattle.sentry_identifiers.proofs.DebugIds.{no_tail, no_hyphen, digits_refused, number_read, number_refused}
+use Rattle.sentry_identifiers.proofs.DebugIds.{no_tail, no_hyphen, digits_refused, number_answered}
 use Rattle.std.proofs.lemmas.Bool.{true≢false}
 use Rattle.sentry_identifiers.proofs.debug_id.read_appendix.Goals as goal
 use Rattle.sentry_identifiers.proofs.debug_id.read_appendix.Goals.{then-digits-gt8-via-then-digits-gt8, then-digits-gt8-via-else-digits-gt8+then-starts_with}
@@ -21,16 +21,10 @@ returns-then-digits-gt8 c =
       | then-digits-gt8-via-else-digits-gt8+then-starts_with w ↦ λ fits. no_plus 16 c.in-Some.digits.now (omega arith) fits.0 ((starts_char 43 c.in-Some.digits.now w.starts_with.result w.starts_with.ensures.cases (lit< tt) (lit< tt)).0 w.if-starts_with.true)
     ])
 
-pub returns-in-Ok : goal.returns-in-Ok
-returns-in-Ok c =
+pub returns : goal.returns
+returns c =
     let h = c.in-Some.ensures.cases in
     let plain = starts_char 43 c.in-Some.digits.now c.starts_with.result c.starts_with.ensures.cases (lit< tt) (lit< tt) in
-    number_read c.args.tail.now c.in-Some.digits.now c.in-Ok.appendix (h.1.1 ∙ ap (λ (t : List ℕ). 45 ∷ t) (sym h.2)) (omega (arith, c.if-digits-gt8.false))
-    (λ e. true≢false (sym (plain.1 e) ∙ c.if-starts_with.false)) c.in-Ok.ensures.value
-
-pub returns-in-Err : goal.returns-in-Err
-returns-in-Err c =
-    let h = c.in-Some.ensures.cases in
-    let plain = starts_char 43 c.in-Some.digits.now c.starts_with.result c.starts_with.ensures.cases (lit< tt) (lit< tt) in
-    number_refused c.args.tail.now c.in-Some.digits.now (h.1.1 ∙ ap (λ (t : List ℕ). 45 ∷ t) (sym h.2)) (omega (arith, c.if-digits-gt8.false))
-    (λ e. true≢false (sym (plain.1 e) ∙ c.if-starts_with.false)) c.in-Err.ensures.value
+    c.ok.ensures.value
+    ∙ number_answered c.args.tail.now c.in-Some.digits.now c.from_str_radix.result (h.1.1 ∙ ap (λ (t : List ℕ). 45 ∷ t) (sym h.2)) (omega (arith, c.if-digits-gt8.false))
+    (λ e. true≢false (sym (plain.1 e) ∙ c.if-starts_with.false)) c.from_str_radix.ensures.value
