@@ -115,7 +115,9 @@ pub(crate) fn read_list_at<T: FromTreeAt, R: Rng, N: Node>(
     ensures { ReadsAt (moment_cell now) (list_kind T.kind) (λ v. list_cell T.cell_of v.items)
         (N.data_of node.now) result }
 {
-    let items = node.items(alloc)?.ok_or(TreeError::Misfit)?;
+    let Some(items) = node.items(alloc)? else {
+        return Err(TreeError::Misfit);
+    };
     let mut list = Vec::with_capacity(alloc, items.len())?;
     for item in &items {
         list.push(T::from_node(alloc, item, now, ids)?)?;

@@ -35,5 +35,6 @@ pub use member::{Formed, Member};
 pub use read::{FromTree, ReadCodec};
 pub use spelled::{AsText, Room, Spelled};
 pub use text::{text_of, write_text};
+pub use unsigned::{AsUnsigned, Unsigned};
 pub use way::Way;
 pub use word::{AsWord, Word};

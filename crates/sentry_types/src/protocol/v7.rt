@@ -56,8 +56,8 @@ pub use sentry_moments::{Rfc3339, Seconds};
 pub use sentry_rows::values::AsValues;
 pub use sentry_rows::{AsCase, AsCaseMap, AsKept, AsTable, FromTreeAt, ReadCodecAt};
 pub use sentry_tables::{
-    AsBoxed, AsText, AsWord, Codec, Drawn, Formed, FromTree, Member, Own, ReadCodec, TreeError,
-    Way, Word, read_line, read_tree, text_of, whole,
+    AsBoxed, AsText, AsUnsigned, AsWord, Codec, Drawn, Formed, FromTree, Member, Own, ReadCodec,
+    TreeError, Unsigned, Way, Word, read_line, read_tree, text_of, whole,
 };
 pub use sentry_text::{IpText, OrganizationText, UrlText};
 pub use sentry_words::Sampled;
