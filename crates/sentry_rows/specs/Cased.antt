@@ -21,7 +21,8 @@ case_kind (case w rows o cases) (suc n) = case_kind cases n
 
 -- ---- taken
 
--- the case of this number was taken, with its word and rows, what becomes of other members, and what they hold
+-- the case of this number was taken, with its word and rows, what becomes of other members, and
+-- what they hold
 abbrev pub CaseTaken : (List ℕ → Rows → Other → Cells → Members → Type 0) → Cases → ℕ → Cell → Type 0
 CaseTaken Takes no_cases n c = ⊥
 CaseTaken Takes (case w rows o cases) zero c = AreFields (Takes w rows o) c

@@ -7,7 +7,8 @@ use Rattle.sentry_tables.specs.Kind.{Rule, must, may, may_null, may_strict, defa
 use Rattle.sentry_tables.specs.Made.{row_made}
 use Rattle.sentry_rows.specs.declared.copier.Copier.{Copier}
 
--- a rule by which a row has the same normal form: of those that have a value, and of those that may have none
+-- a rule by which a row has the same normal form: of those that have a value, and of those that may
+-- have none
 abbrev pub copied_by : Rule → Rule
 copied_by must = must
 copied_by may = may

@@ -1,4 +1,5 @@
--- A table that ignores members of other keys shows what the members of its rows' keys show, one of them apart from the others.
+-- A table that ignores members of other keys shows what the members of its rows' keys show, one of
+-- them apart from the others.
 use Rattle.std.proofs.Common.{◌≡◌, ℕ, List, [], ◌∷◌, Bool, true, false, true≢false, ◌||◌, bytes_eq, cond, Option, Some, None, String, Global, Ordering, Less, Equal, Greater, nat_cmp, refl, sym, subst, ◌∙◌}
 use Rattle.std.proofs.lemmas.Option.{none-some}
 use Rattle.std.proofs.lemmas.Slice.Eq.{bytes_eq-Decides}
@@ -12,7 +13,7 @@ use Rattle.sentry_json.specs.Keys.{is_among, at_keys, filtered}
 use Rattle.sentry_json.proofs.Beside.{get_passes}
 use Rattle.sentry_tables.specs.Cell.{Cell, fields, Cells, no_cells, cell}
 use Rattle.sentry_tables.specs.Cells.{tree_cell, entries, map_cell}
-use Rattle.sentry_tables.specs.Kind.{Kind, default, map, table, ignored, Rows, no_rows, row, keys}
+use Rattle.sentry_tables.specs.Kind.{default, map, table, ignored, Rows, no_rows, row, keys}
 use Rattle.sentry_tables.specs.Kinds.{any_kind}
 use Rattle.sentry_tables.specs.Reading.{keys_but, IsShownWith}
 use Rattle.sentry_tables.specs.Shows.{is_object, MembersShow, RowShows, Shows, RowsShow}

@@ -5,10 +5,9 @@ use Rattle.serde_json.specs.Data.{Data, null, boolean, number, string, array, ob
 use Rattle.serde_json.specs.Find.{get, as_array, as_object}
 use Rattle.sentry_tables.specs.Cell.{Cell, absent, present, sequence, mapping, fields, choice, Cells, no_cells, cell, Entries, no_entries, entry}
 use Rattle.sentry_tables.specs.Kind.{Rule, must, may, may_null, may_strict, default, always, draw, at_once, Other, Kind, scalar, list, map, values, table, tagged, tagged_map, Rows, no_rows, row, Cases, no_cases, case, keys, words, others}
-use Rattle.sentry_tables.specs.Shows.{is_object, members_in, ObjectShows, IsPresent, IsSequence, IsMapping, AreFields, IsChoice, ItemsShow, MembersShow, ArrayShows, ShowsOption, RowShows, OrElse, word_at, word_of, Shows, RowsShow, CaseShows}
+use Rattle.sentry_tables.specs.Shows.{is_object, members_in, ObjectShows, IsPresent, IsSequence, IsMapping, AreFields, IsChoice, ItemsShow, MembersShow, ArrayShows, ShowsOption, RowShows, OrElse, word_at, word_of, Shows, RowsShow, CaseShows, values_in, unless_null}
 use Rattle.sentry_tables.specs.Lawful.{RuleLaws, IsLawful, RowsLawful, CasesLawful}
 use Rattle.std.proofs.lemmas.Slice.Eq.{bytes_eq-Decides}
-use Rattle.sentry_tables.specs.Shows.{values_in, unless_null}
 
 abbrev pub Decided : {A : Type 0} → (A → Type 0) → Type 0
 Decided {A} P = ((x : A) × P x) ⊎ ((x : A) → P x → ⊥)

@@ -1,4 +1,5 @@
--- A sample of rows that draw, at every depth: nothing is drawn of a tree with all ids, something is of a tree without one of them.
+-- A sample of rows that draw, at every depth: nothing is drawn of a tree with all ids, something is
+-- of a tree without one of them.
 use Rattle.std.proofs.Common.{◌≡◌, ℕ, List, codes, Bool, true, false, bytes_eq, Some, refl, sym, ◌∙◌, subst}
 use Rattle.std.proofs.lemmas.Option.{same_Some}
 use Rattle.std.proofs.lemmas.Bool.{false≢true}
@@ -73,7 +74,8 @@ id = member (codes "id") (boolean true) no_members
 abbrev trace : Members → Data
 trace ms = object (member (codes "type") (string (codes "trace")) ms)
 
--- the members of a context of trace, of a part among the frames, of the whole, of a part in the list and in the map, and of the one
+-- the members of a context of trace, of a part among the frames, of the whole, of a part in the
+-- list and in the map, and of the one
 abbrev tree_with : Members → Members → Members → Members → Members → Data
 tree_with context frame listed mapped one =
     object
@@ -101,7 +103,8 @@ all_given = (
 one_value : (now c x : Cell) → Shows whole now (tree_with id id id id id) c → Shows whole now (tree_with id id id id id) x → c ≡ x
 one_value now c x = whole_shows_one now (tree_with id id id id id) c x all_given
 
--- something is drawn where one is absent: in a context, in a frame, in the list, in the map, in the one, or in the whole
+-- something is drawn where one is absent: in a context, in a frame, in the list, in the map, in the
+-- one, or in the whole
 no_context_id : NothingDrawn whole (tree_with no_members id id id id) → ⊥
 no_context_id h = (h.0.0.1.0 refl).0
 

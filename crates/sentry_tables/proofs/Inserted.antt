@@ -1,4 +1,5 @@
--- Maps that are made of pairs at once: what they hold is what the pairs give that are inserted one after the other.
+-- Maps that are made of pairs at once: what they hold is what the pairs give that are inserted one
+-- after the other.
 use Rattle.std.proofs.Common.{◌≡◌, List, [], ◌∷◌, Bool, true, false, cond, Option, Some, None, Ordering, Less, Equal, Greater, refl, sym, ap, ◌∙◌, true≢false}
 use Rattle.std.specs.Prelude.{is_some, unwrap_or}
 use Rattle.std.specs.Ordering.{is_eq, eq_by_cmp, match_ordering, ordering_reverse}

@@ -34,7 +34,8 @@ module _ {N A : Type 0} (P : List ℕ → Data → Cell → Type 0) (w : N → D
       → PairsShow (take i ms) xs → string_bytes name ≡ m.key.now → P m.key.now (w m.node) (f v) → PairsShow (take (i + 1) ms) ys
   pairs_more_at ms i m xs ys name v lt at made h named s = rw (take_more ms i m lt, ← at, made) (pairs_more (take i ms) m xs (name, v) h named s)
 
-  -- the members that the pairs show, put one after the other, show what the pairs give that are inserted so
+  -- the members that the pairs show, put one after the other, show what the pairs give that are
+  -- inserted so
   pairs_shown : (before : Members) (es : List (String Global × A)) (ms : List (Named N)) (xs : List (String Global × A)) → MembersShow P before (entries f es) → PairsShow ms xs
       → MembersShow P (named_after w before ms) (entries f (inserted string_cmp es xs))
   pairs_shown before es [] [] h s = h

@@ -4,13 +4,12 @@ use Rattle.serde_json.specs.Data.{Data, boolean, number, string, array, object, 
 use Rattle.serde_json.specs.Find.{get_member, as_array, as_object}
 use Rattle.sentry_tables.specs.Cell.{Cell, absent, present, sequence, mapping, fields, choice, Cells, no_cells, cell, Entries, no_entries, entry, same_cell}
 use Rattle.sentry_tables.specs.Kind.{Rule, must, may, may_null, may_strict, default, always, draw, at_once, Kind, scalar, list, map, values, table, tagged, tagged_map, Rows, no_rows, row, Cases, no_cases, case, keys, words, tag, others}
-use Rattle.sentry_tables.specs.Shows.{is_object, members_in, ObjectShows, IsSequence, IsMapping, AreFields, IsChoice, ItemsShow, MembersShow, ArrayShows, ShowsOption, RowShows, OrElse, word_at, word_of, Shows, RowsShow, CaseShows}
+use Rattle.sentry_tables.specs.Shows.{is_object, members_in, ObjectShows, IsSequence, IsMapping, AreFields, IsChoice, ItemsShow, MembersShow, ArrayShows, ShowsOption, RowShows, OrElse, word_at, word_of, Shows, RowsShow, CaseShows, values_key, values_in, unless_null}
 use Rattle.sentry_tables.specs.Norm.{cells_of, other_of, entries_of, which, chosen, each_cell, each_entry, optional_norm, row_norm, is_null_of, norm, rows_norm, case_norm}
 use Rattle.sentry_tables.specs.Written.{is_null, items_tree, members_tree, optional_tree, row_tree, put_given, tree, rows_tree, case_tree}
 use Rattle.sentry_tables.specs.Meets.{RowMeets, IsProper}
 use Rattle.sentry_tables.specs.Lawful.{IsMoment, RuleLaws, IsLawful, RowsLawful, CasesLawful}
 use Rattle.sentry_json.specs.Sound.{IsSound, AreSound, MembersAreSound}
-use Rattle.sentry_tables.specs.Shows.{values_key, values_in, unless_null}
 use Rattle.sentry_tables.proofs.Normal.{again}
 use Rattle.sentry_tables.proofs.Shown.{SoundIf, ItemsSoundIf, found_sound, array_sound, values_sound, not_null_sound, object_holds, MembersSoundIf, object_sound, row_met, shown_proper}
 use Rattle.sentry_tables.proofs.Nulls.{shown_null}

@@ -13,7 +13,7 @@ use Rattle.sentry_tables.specs.Fields.{Field, field, rows_of, table_of, fields_b
 use Rattle.sentry_tables.specs.Norm.{norm}
 use Rattle.sentry_tables.specs.Written.{is_null, tree, in_order}
 use Rattle.sentry_tables.specs.Meets.{IsPlain, IsReadable, IsStored}
-use Rattle.sentry_tables.specs.Lawful.{is_ascii, ScalarLaws, RefusesNull, IsNormal, IsMoment, IsLawful, CasesLawful}
+use Rattle.sentry_tables.specs.Lawful.{ScalarLaws, RefusesNull, IsNormal, IsMoment, IsLawful, CasesLawful}
 use Rattle.sentry_tables.specs.Laws.{TextShows, HasLaws}
 use Rattle.sentry_tables.proofs.Basic.{lawful_reader, reader_refuses_null, text_laws, truth_laws, truth_refuses_null, unsigned_laws, signed_laws, signed_refuses_null, pair_laws, any_laws}
 use Rattle.sentry_tables.proofs.Nulls.{list_refuses_null}
@@ -270,17 +270,14 @@ sample =
     (cell absent (cell (present (sequence no_cells)) (cell browser (cell (present places) (cell (moment 0 5) no_cells))))))))))
     (member (codes "note") (number (unsigned 3)) no_members)
 
-utf8 : (s : List ℕ) → is_ascii s ≡ true → IsUtf8 s
-utf8 = ascii_text
-
 browser_stored : IsStored (tagged sample_cases) browser
-browser_stored = ((utf8 (codes "a") refl, tt), refl)
+browser_stored = ((ascii_text (codes "a") refl, tt), refl)
 
 other_stored : IsStored (tagged sample_cases) other
-other_stored = (tt, (((tt, tt), (tt, tt)), (utf8 (codes "x") refl, tt, tt)))
+other_stored = (tt, (((tt, tt), (tt, tt)), (ascii_text (codes "x") refl, tt, tt)))
 
 contexts_stored : IsStored (tagged_map sample_cases (codes "other")) contexts
-contexts_stored = ((utf8 (codes "browser") refl, (refl, tt), (utf8 (codes "else") refl, tt, tt)), (browser_stored, (other_stored, tt)))
+contexts_stored = ((ascii_text (codes "browser") refl, (refl, tt), (ascii_text (codes "else") refl, tt, tt)), (browser_stored, (other_stored, tt)))
 
 places_stored : IsStored (values place_kind) places
 places_stored = (((tt, (omega arith, tt)), refl), tt)
@@ -288,7 +285,7 @@ places_stored = (((tt, (omega arith, tt)), refl), tt)
 sample_stored : IsStored sample_kind sample
 sample_stored = (
   (omega arith, (tt, (contexts_stored, ((tt, tt), (tt, (tt, (tt, (browser_stored, (places_stored, ((omega arith, omega arith), tt)))))))))),
-  (((tt, tt), (omega arith, tt)), (utf8 (codes "note") refl, tt, tt)),
+  (((tt, tt), (omega arith, tt)), (ascii_text (codes "note") refl, tt, tt)),
 )
 
 browser_plain : IsPlain (tagged sample_cases) browser

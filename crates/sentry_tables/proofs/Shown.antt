@@ -1,23 +1,21 @@
 -- What a sound tree shows is stored, plain and readable.
-use Rattle.std.proofs.Common.{◌≡◌, ℕ, zero, suc, List, [], ◌∷◌, ◌++◌, Bool, true, false, cond, Option, Some, None, option_and_then, refl, sym, ap₂, subst}
+use Rattle.std.proofs.Common.{◌≡◌, ℕ, zero, suc, List, [], ◌∷◌, ◌++◌, Bool, true, false, cond, Option, Some, None, option_and_then, refl, sym, ap₂, subst, Ordering, Less, Equal, Greater, nat_cmp, IsUtf8}
 use Rattle.std.proofs.lemmas.Bool.{false≢true}
 use Rattle.std.specs.Prelude.{⊤}
 use Rattle.serde_json.specs.Data.{Data, null, boolean, number, string, array, object, Items, no_items, item, Members, no_members, member}
 use Rattle.serde_json.specs.Find.{get_member, as_array, as_object}
 use Rattle.sentry_tables.specs.Cell.{Cell, present, sequence, mapping, fields, choice, Cells, no_cells, cell, Entries, no_entries, entry}
 use Rattle.sentry_tables.specs.Kind.{Scalar, Rule, must, may, may_null, may_strict, default, always, draw, at_once, Other, ignored, kept, Kind, scalar, list, map, values, table, tagged, tagged_map, Rows, no_rows, row, Cases, no_cases, case, keys, words, others}
-use Rattle.sentry_tables.specs.Shows.{is_object, members_in, ObjectShows, IsPresent, IsSequence, IsMapping, AreFields, IsChoice, ItemsShow, MembersShow, ArrayShows, ShowsOption, RowShows, OrElse, word_at, word_of, Shows, RowsShow, CaseShows}
+use Rattle.sentry_tables.specs.Shows.{is_object, members_in, ObjectShows, IsPresent, IsSequence, IsMapping, AreFields, IsChoice, ItemsShow, MembersShow, ArrayShows, ShowsOption, RowShows, OrElse, word_at, word_of, Shows, RowsShow, CaseShows, values_key, values_in, unless_null}
 use Rattle.sentry_tables.specs.Meets.{AllCells, AllEntries, IsKept, IsOptional, RowMeets, Demand, proper_demand, readable_demand, entry_keys, Meets, RowsMeet, CaseMeets, AreOrderedTexts, AllLater, IsProper, IsReadable}
 use Rattle.sentry_tables.specs.Lawful.{ScalarLaws, IsNormal, IsMoment, RuleLaws, IsLawful, RowsLawful, CasesLawful}
 use Rattle.std.specs.Ordering.{match_ordering}
-use Rattle.std.proofs.Common.{Ordering, Less, Equal, Greater, nat_cmp, IsUtf8}
 use Rattle.std.specs.Cmp.Lexicographic.{slice_cmp}
 use Rattle.sentry_json.specs.Sound.{IsSound, AreSound, MembersAreSound, IsOrdered, AllAfter}
 use Rattle.sentry_json.specs.Keys.{is_among, beside}
 use Rattle.sentry_json.proofs.Beside.{all_after}
 use Rattle.sentry_json.proofs.Sound.{sound_regular, sound_texts, sound_without_float}
 use Rattle.sentry_tables.proofs.Proper.{proper}
-use Rattle.sentry_tables.specs.Shows.{values_key, values_in, unless_null}
 use Rattle.sentry_tables.proofs.Members.{StandsApart-others, MayStand}
 
 -- ---- parts of a sound tree are sound

@@ -13,7 +13,8 @@ IsEmpty (sequence cs) = cs ≡ no_cells
 IsEmpty (mapping es) = es ≡ no_entries
 IsEmpty _ = ⊥
 
--- no value where a row may have none; what stands for an absent one where the row names that; else what is empty
+-- no value where a row may have none; what stands for an absent one where the row names that; else
+-- what is empty
 abbrev pub IsRowDefault : Cell → Rule → Cell → Type 0
 IsRowDefault now must c = IsEmpty c
 IsRowDefault now may c = c ≡ absent

@@ -4,7 +4,8 @@ use Rattle.serde_json.specs.Data.{Data, Members, no_members}
 use Rattle.sentry_json.specs.Keys.{beside}
 use Rattle.sentry_tables.specs.Cell.{Cell}
 
--- A kind of value that no table takes apart, as a text, a number or an id: each crate makes its own.
+-- A kind of value that no table takes apart, as a text, a number or an id: each crate makes its
+-- own.
 pub record Scalar : Type 1 where
   -- the tree shows the value
   pub shows : Data → Cell → Type 0
@@ -40,7 +41,8 @@ pub data Rule : Type 1 where
   -- absent is the moment that is handed in, null is refused; always written
   at_once : Rule
 
--- What becomes of the members that no row names: they are ignored, or kept, but for those of these keys.
+-- What becomes of the members that no row names: they are ignored, or kept, but for those of these
+-- keys.
 pub data Other : Type 0 where
   ignored : Other
   kept : List (List ℕ) → Other
@@ -58,7 +60,8 @@ mutual
     table : Rows → Other → Kind
     -- an object whose text at the key `type` picks the case
     tagged : Cases → Kind
-    -- an object of any keys, each member of which is tagged: of a member without a tag the key is the tag, where it is a word of the cases, and else this word is
+    -- an object of any keys, each member of which is tagged: of a member without a tag the key is
+    -- the tag, where it is a word of the cases, and else this word is
     tagged_map : Cases → List ℕ → Kind
 
   -- in the order of the keys

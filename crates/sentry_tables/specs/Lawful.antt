@@ -1,11 +1,11 @@
--- What tables need for the laws: scalars that read back, distinct keys, defaults that are their own normal form.
-use Rattle.std.specs.Prelude.{◌≡◌, ◌⊎◌, ◌<◌, ◌≤◌, ◌^◌, ℕ, List, [], ◌∷◌, Bool, true, false, ⊤}
+-- What tables need for the laws: scalars that read back, distinct keys, defaults that are their own
+-- normal form.
+use Rattle.std.specs.Prelude.{◌≡◌, ◌⊎◌, ◌<◌, ◌≤◌, ◌^◌, ℕ, List, [], ◌∷◌, Bool, true, false, ⊤, ◌&&◌, nat_lt}
 use Rattle.serde_json.specs.Data.{Data, null, depth}
 use Rattle.sentry_json.specs.Sound.{IsSound}
 use Rattle.sentry_json.specs.Keys.{is_among}
 use Rattle.sentry_tables.specs.Cell.{Cell, moment}
 use Rattle.sentry_tables.specs.Kind.{Scalar, Rule, must, may, may_null, may_strict, default, always, draw, at_once, Other, ignored, kept, Kind, scalar, list, map, values, table, tagged, tagged_map, Rows, no_rows, row, Cases, no_cases, case, keys, words, tag}
-use Rattle.std.specs.Prelude.{◌&&◌, nat_lt}
 use Rattle.sentry_tables.specs.Shows.{Shows}
 use Rattle.sentry_tables.specs.Norm.{norm}
 use Rattle.sentry_tables.specs.Written.{is_null}
@@ -32,7 +32,8 @@ pub record ScalarLaws (s : Scalar) : Type 0 where
   pub null_norm : (c : Cell) → s.stored c × s.plain c → s.is_null (s.norm c) ≡ s.is_null c
   -- what is written can be printed and read
   pub sound : (c : Cell) → s.stored c × s.plain c → IsSound (s.tree c)
-  -- what is shown is stored, plain and readable, is null of null alone, and is written as its normal form is
+  -- what is shown is stored, plain and readable, is null of null alone, and is written as its
+  -- normal form is
   pub shown_stored : (d : Data) (c : Cell) → IsSound d → s.shows d c → s.stored c
   pub shown_plain : (d : Data) (c : Cell) → IsSound d → s.shows d c → s.plain c
   pub shown_readable : (d : Data) (c : Cell) → IsSound d → s.shows d c → s.readable c
@@ -54,7 +55,8 @@ RefusesNull K = (now c : Cell) → Shows K now null c → ⊥
 abbrev pub IsNormal : Kind → Cell → Type 0
 IsNormal K c = IsStored K c × IsPlain K c × IsReadable K c × (norm K c ≡ c)
 
--- Defaults, what is drawn, and each moment, are normal; null is refused but where it stands for no value.
+-- Defaults, what is drawn, and each moment, are normal; null is refused but where it stands for no
+-- value.
 abbrev pub RuleLaws : Rule → Kind → Type 0
 RuleLaws must K = ⊤
 RuleLaws may K = ⊤

@@ -15,12 +15,14 @@ use Rattle.sentry_tables.specs.Drawn.{NothingDrawn, NothingDrawnInText}
 
 -- ---- of trees
 
--- At every moment the written tree of a stored, plain and readable value shows its normal form, and nothing else.
+-- At every moment the written tree of a stored, plain and readable value shows its normal form, and
+-- nothing else.
 abbrev pub ReadsBack : Kind → Type 0
 ReadsBack K = (c now : Cell) → IsStored K c → IsPlain K c → IsReadable K c
     → Shows K now (tree K c) (norm K c) × ((x : Cell) → Shows K now (tree K c) x → x ≡ norm K c)
 
--- The normal form is its own normal form, is stored and plain, is readable where the value is, and its tree nests no deeper.
+-- The normal form is its own normal form, is stored and plain, is readable where the value is, and
+-- its tree nests no deeper.
 pub record IsStableAt (K : Kind) (c : Cell) : Type 0 where
   pub again : norm K (norm K c) ≡ norm K c
   pub stored : IsStored K (norm K c)
@@ -96,7 +98,8 @@ IsTimelessText K = (line : List ℕ) (now later c : Cell) → TextShows K now li
 abbrev pub TextShowsOne : Kind → Type 0
 TextShowsOne K = (now : Cell) (line : List ℕ) (c x : Cell) → NothingDrawnInText K line → TextShows K now line c → TextShows K now line x → c ≡ x
 
--- Nothing is drawn of the written text of a stored, plain value, where its tree isn't too deep to be read.
+-- Nothing is drawn of the written text of a stored, plain value, where its tree isn't too deep to
+-- be read.
 abbrev pub TextDrawsNothing : Kind → Type 0
 TextDrawsNothing K = (c : Cell) → IsStored K c → IsPlain K c → depth (tree K c) ≤ 127 → NothingDrawnInText K (compact_text (tree K c))
 

@@ -29,7 +29,8 @@ abbrev pub StandsApart : Other → List (List ℕ) → Members → Type 0
 StandsApart ignored ks other = ⊤
 StandsApart (kept reserved) ks other = IsClear (reserved ++ ks) other
 
--- members are kept only where the table keeps them; keys are in order, numbers in range, texts UTF-8
+-- members are kept only where the table keeps them; keys are in order, numbers in range, texts
+-- UTF-8
 abbrev pub IsKept : Other → Members → Type 0
 IsKept ignored other = other ≡ no_members
 IsKept (kept reserved) other = IsRegular (object other) × HasTexts (object other)
@@ -53,7 +54,8 @@ abbrev pub entry_keys : Entries → List (List ℕ)
 entry_keys no_entries = []
 entry_keys (entry k c es) = k ∷ entry_keys es
 
--- what is asked of the scalars in a value, of the keys of a map, and of the members beside rows of these keys
+-- what is asked of the scalars in a value, of the keys of a map, and of the members beside rows of
+-- these keys
 pub record Demand : Type 1 where
   pub scalar : Scalar → Cell → Type 0
   pub keys : List (List ℕ) → Type 0

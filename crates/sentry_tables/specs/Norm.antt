@@ -1,4 +1,5 @@
--- The normal form of a value, field by field: it changes scalars alone, and what no value stands for.
+-- The normal form of a value, field by field: it changes scalars alone, and what no value stands
+-- for.
 use Rattle.std.specs.Prelude.{ℕ, zero, suc, Bool, false, cond}
 use Rattle.serde_json.specs.Data.{Members, no_members}
 use Rattle.sentry_tables.specs.Cell.{Cell, absent, present, sequence, mapping, fields, choice, Cells, no_cells, cell, Entries, no_entries, entry}

@@ -3,12 +3,11 @@
 ghost use Rattle.std.specs.Prelude.{◌≡◌, ◌↔◌, IfOk, IsTrue, OnOk};
 ghost use Rattle.serde_json.specs.View.{view};
 ghost use Rattle.sentry_tables.specs.Cell.{Cell, same_cell};
-ghost use Rattle.sentry_tables.specs.Kind.{Kind};
+ghost use Rattle.sentry_tables.specs.Kind.{Kind, may, may_strict};
 ghost use Rattle.sentry_tables.specs.Norm.{norm, is_null_of};
 ghost use Rattle.sentry_tables.specs.Meets.{IsPlain, IsStored};
 ghost use Rattle.sentry_tables.specs.Cells.{option_cell};
 ghost use Rattle.sentry_tables.specs.Made.{made, row_made};
-ghost use Rattle.sentry_tables.specs.Kind.{may, may_strict};
 ghost use Rattle.sentry_tables.specs.Writes.{written, WritesTree};
 
 use crate::member::Member;

@@ -1,12 +1,15 @@
-//! Field tables: one theory of reading and writing for all protocol types; and the values of fields.
+//! Field tables: one theory of reading and writing for all protocol types; and the values of
+//! fields.
 //!
-//! A kind is a scalar, a list, a map, or a table of rows: key, rule and kind. `specs/` says which trees show which
-//! values, what is written for a value, and its normal form; `specs/Laws.antt` states eighteen laws, and `proofs/Laws.antt`
-//! proves them for each lawful kind. The crates above add scalars and tables, and state the laws at their own kinds.
+//! A kind is a scalar, a list, a map, or a table of rows: key, rule and kind. `specs/` says which
+//! trees show which values, what is written for a value, and its normal form; `specs/Laws.antt`
+//! states eighteen laws, and `proofs/Laws.antt` proves them for each lawful kind. The crates above
+//! add scalars and tables, and state the laws at their own kinds.
 //!
-//! A field's type with one JSON form is a [`Member`]; a [`Codec`] is a form that is chosen per field. [`spelled`] has the
-//! form of values that are JSON strings. [`read`] reads values from JSON trees, and [`draw`] draws absent ones. [`line`]
-//! reads a value from a line of JSON, and [`text`] writes a value as compact text.
+//! A field's type with one JSON form is a [`Member`]; a [`Codec`] is a form that is chosen per
+//! field. [`spelled`] has the form of values that are JSON strings. [`read`] reads values from JSON
+//! trees, and [`draw`] draws absent ones. [`line`] reads a value from a line of JSON, and [`text`]
+//! writes a value as compact text.
 #![tactic(auto)]
 
 pub mod any;

@@ -75,8 +75,8 @@ const LONG: usize = 16384;
 
 /// A reader of lines of JSON, which keeps its working memory from line to line.
 ///
-/// A line is read in one pass onto a tape ([`Tape::parse`]). One that the tape doesn't take, such as
-/// a damaged one, is read into a tree, and [`read_tree`] decides whether it is taken.
+/// A line is read in one pass onto a tape ([`Tape::parse`]). One that the tape doesn't take, such
+/// as a damaged one, is read into a tree, and [`read_tree`] decides whether it is taken.
 #[derive(Drop)]
 pub struct LineReader<'a> {
     alloc: Global,
@@ -163,8 +163,8 @@ impl<'a> LineReader<'a> {
         self.read_by(line, Plainly)
     }
 
-    /// Reads the values of a line that is an object of one member, an array at `key`. The tape holds
-    /// one value at a time.
+    /// Reads the values of a line that is an object of one member, an array at `key`. The tape
+    /// holds one value at a time.
     ///
     /// `None` if it isn't such a line, if one of its items is not a value of the type, or if an
     /// allocation fails: [`LineReader::read`] decides then.

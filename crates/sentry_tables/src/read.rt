@@ -196,8 +196,8 @@ fn read_many<T: FromTree, N: Node>(
     Ok(pairs.into_iter().collect(alloc)?)
 }
 
-// Reads the members of an object into a map one by one. Of members with equal keys, the last counts:
-// they are read from the last to the first.
+// Reads the members of an object into a map one by one. Of members with equal keys, the last
+// counts: they are read from the last to the first.
 #[inline(always)]
 fn read_each<T: FromTree, N: Node>(
     alloc: Global,

@@ -2,11 +2,10 @@
 use Rattle.std.proofs.Common.{◌≡◌, ℕ, List, [], ◌∷◌, length, String, Global, false, refl}
 use Rattle.std.specs.Prelude.{◌==◌, bytes_eq, IsUtf8, ⊤, true}
 use Rattle.sentry_tables.specs.Kinds.{text_kind}
-use Rattle.serde_json.specs.Data.{no_members, member, string}
+use Rattle.serde_json.specs.Data.{no_members, member, string, Members}
 use Rattle.sentry_tables.specs.Cell.{Cell, text}
 use Rattle.sentry_tables.specs.Kind.{Kind, default, list, map, values}
 use Rattle.sentry_tables.specs.Cells.{list_cell, map_cell, empty_list, empty_map}
-use Rattle.serde_json.specs.Data.{Members}
 use Rattle.sentry_tables.specs.Meets.{IsPlain, IsStored}
 use Rattle.sentry_writing.specs.Given.{row_given, Took, GivesRow}
 use Rattle.sentry_tables.specs.Writes.{written}

@@ -1,8 +1,7 @@
 -- The members that a table's rows give to a sink.
-use Rattle.std.specs.Prelude.{List, ℕ}
+use Rattle.std.specs.Prelude.{List, ℕ, [], ◌∷◌, ◌≡◌, ◌↔◌, Bool, IsTrue}
 use Rattle.serde_json.specs.Data.{Data, string, object, Members, no_members, member, put}
 use Rattle.sentry_tables.specs.Cell.{Cell, Cells}
-use Rattle.std.specs.Prelude.{[], ◌∷◌, ◌≡◌, ◌↔◌, Bool, IsTrue}
 use Rattle.sentry_tables.specs.Fields.{Field}
 use Rattle.sentry_tables.specs.Kind.{Rule, Kind, Rows, tag}
 use Rattle.sentry_tables.specs.Meets.{RowMeets, IsPlain, IsStored}

@@ -5,12 +5,14 @@ use Rattle.sentry_json.specs.Sound.{AllAfter, IsOrdered}
 use Rattle.sentry_tables.specs.Written.{put_all}
 use Rattle.sentry_writing.specs.Given.{both}
 
--- Whatever is given later in order, what is put among the members that were left is what was handed on, and then what is put among those that are left now.
+-- Whatever is given later in order, what is put among the members that were left is what was handed
+-- on, and then what is put among those that are left now.
 unfoldable pub Merges : (Members → Type 0) → Members → Members → Members → Type 0
 Merges HandedOn before after ms =
     (es : Members) × HandedOn es × ((ns : Members) → IsOrdered (both ms ns) → put_all (both ms ns) before ≡ both es (put_all ns after))
 
--- What is left that goes before the key was handed on: the member of that key, and those of later keys, are then put among the rest.
+-- What is left that goes before the key was handed on: the member of that key, and those of later
+-- keys, are then put among the rest.
 unfoldable pub ClearsWay : (Members → Type 0) → List ℕ → Members → Members → Type 0
 ClearsWay HandedOn key before after =
     (es : Members) × HandedOn es × ((d : Data) (ns : Members) → AllAfter key ns → put_all (member key d ns) before ≡ both es (member key d (put_all ns after)))

@@ -1,8 +1,8 @@
 //! Types that are written row by row as a JSON object.
 
-ghost use Rattle.std.specs.Prelude.{◌≡◌, ◌++◌, ℕ, List, OnOk, IfOk, None, true, map as map_list};
-ghost use Rattle.serde_json.specs.Data.{Members, object};
-ghost use Rattle.serde_json.specs.View.{view, members_view};
+ghost use Rattle.std.specs.Prelude.{◌≡◌, List, OnOk, IfOk, None, true};
+ghost use Rattle.serde_json.specs.Data.{object};
+ghost use Rattle.serde_json.specs.View.{view};
 ghost use Rattle.sentry_tables.specs.Fields.{Field, table_of, fields_by, rows_of, cells_by};
 ghost use Rattle.sentry_tables.specs.Kind.{keys};
 ghost use Rattle.sentry_tables.specs.Written.{put_all, rows_given, in_order};
@@ -15,7 +15,7 @@ use crate::sink::Sink;
 use crate::text::TextRows;
 use crate::tree::TreeRows;
 use sentry_json::Writer;
-use serde_json::{Map, Value};
+use serde_json::Value;
 use std::alloc::{AllocError, Global};
 
 /// A type whose values are written as the rows of an object.
