@@ -14,8 +14,8 @@ pub(crate) struct Fraction {
     pub ghost small: { billionths < 10 ^ 9 },
 }
 
-// Returns three, six or nine places, the fewest that hold all that are not 0, as a number, and their
-// count: clocks mostly tell milliseconds or microseconds.
+// Returns three, six or nine places, the fewest that hold all that are not 0, as a number, and
+// their count: clocks mostly tell milliseconds or microseconds.
 fn in_thousands(billionths: u32) -> (u32, usize)
     requires some { 0 < billionths }
     requires small { billionths < 10 ^ 9 }

@@ -21,8 +21,8 @@ const LOWEST: [u8; 16] = *b"0000-00-00\x0000:00";
 // How far above it a byte may lie.
 const ABOVE: [u8; 16] = [9, 9, 9, 9, 0, 9, 9, 0, 9, 9, 255, 9, 9, 0, 5, 9];
 
-// Returns whether digits and separators stand where a date and a time have them, with a minute and a
-// second below 60.
+// Returns whether digits and separators stand where a date and a time have them, with a minute and
+// a second below 60.
 #[inline(always)]
 fn has_form(text: &[u8]) -> bool
     requires { length text.now ≡ 19 }
@@ -105,7 +105,8 @@ const WORTH: [u32; 9] = [
     1,
 ];
 
-// Reads the digits of a fraction: the nanoseconds that the first nine write, and how many there are.
+// Reads the digits of a fraction: the nanoseconds that the first nine write, and how many digits
+// there are.
 #[inline(always)]
 fn fraction_digits(text: &[u8]) -> (u32, usize)
     ensures value { result.0 ≡ texts.nanoseconds (front_digits text.now) }

@@ -41,12 +41,6 @@ natural_wrote bound n r old new w = one_token (written (unsigned_kind bound) (wh
 pub u8_wrote : {E : Type 0} (n : ℕ) (r : Result (Unit {0}) E) (old new : Written) → Writes r old new (Token.number (decimal n)) → OnOk r (WritesTree (written (unsigned_kind (2 ^ 8)) (whole (pos n))) old new)
 u8_wrote n r old new w = natural_wrote (2 ^ 8) n r old new w
 
-pub u16_wrote : {E : Type 0} (n : ℕ) (r : Result (Unit {0}) E) (old new : Written) → Writes r old new (Token.number (decimal n)) → OnOk r (WritesTree (written (unsigned_kind (2 ^ 16)) (whole (pos n))) old new)
-u16_wrote n r old new w = natural_wrote (2 ^ 16) n r old new w
-
-pub u32_wrote : {E : Type 0} (n : ℕ) (r : Result (Unit {0}) E) (old new : Written) → Writes r old new (Token.number (decimal n)) → OnOk r (WritesTree (written (unsigned_kind (2 ^ 32)) (whole (pos n))) old new)
-u32_wrote n r old new w = natural_wrote (2 ^ 32) n r old new w
-
 pub u64_wrote : {E : Type 0} (n : ℕ) (r : Result (Unit {0}) E) (old new : Written) → Writes r old new (Token.number (decimal n)) → OnOk r (WritesTree (written (unsigned_kind (2 ^ 64)) (whole (pos n))) old new)
 u64_wrote n r old new w = natural_wrote (2 ^ 64) n r old new w
 

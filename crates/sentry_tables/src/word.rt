@@ -32,7 +32,10 @@ pub trait Word: Clone {
 fn read_word<T: Word>(text: &str) -> Result<T, TreeError>
     ensures { ReadsSpelling (enumeration T.of_word T.word) (word_cell T.word) text.now result }
 {
-    T::of_word(text).ok_or(TreeError::Misfit)
+    match T::of_word(text) {
+        Some(value) => Ok(value),
+        None => Err(TreeError::Misfit),
+    }
 }
 
 /// The form of a [`Word`]: a JSON string.

@@ -1,7 +1,7 @@
 //! Laws of small texts: each text is read from what writes it and from nothing else, what is
 //! printed is read back, and each type's form as a tree has the laws of field tables.
 
-ghost use Rattle.std.specs.Prelude.{◌≡◌, ◌<◌, ◌^◌, ◌↔◌, true, ℕ, List, Some, decimal};
+ghost use Rattle.std.specs.Prelude.{◌≡◌, ◌<◌, ◌^◌, ◌↔◌, true, ℕ, List, Some, decimal, IsUtf8, None, Ok};
 ghost use Rattle.std.specs.Cmp.Lexicographic.{slice_cmp};
 ghost use Rattle.std.specs.Ordering.{nat_cmp};
 ghost use Rattle.sentry_tables.specs.Cell.{Cell};
@@ -17,9 +17,7 @@ ghost use Rattle.sentry_text.specs.declared.log_severity_number.LogSeverityNumbe
 ghost use Rattle.sentry_text.specs.declared.project_id.ProjectId.{ProjectId as ProjectIds};
 ghost use Rattle.sentry_text.specs.declared.project_id.OrganizationId.{OrganizationId as OrganizationIds};
 ghost use Rattle.sentry_text.specs.declared.project_id.ParseProjectIdError.{ParseProjectIdError as ParseProjectIdErrors};
-ghost use Rattle.std.specs.Prelude.{◌≡◌, ℕ, List, IsUtf8};
 ghost use Rattle.sentry_text.specs.Crontab.{SplitsInto};
-ghost use Rattle.std.specs.Prelude.{◌≡◌, ◌<◌, ◌^◌, ◌↔◌, ℕ, true, List, Some};
 ghost use Rattle.sentry_text.specs.declared.addr.Addr.{Addr as Addresses};
 ghost use Rattle.sentry_text.specs.declared.addr.RegVal.{RegVal as Registers};
 ghost use Rattle.sentry_text.specs.declared.ip.IpAddress.{IpAddress};
@@ -32,7 +30,6 @@ ghost use Rattle.sentry_text.specs.Ip.{IsIpAddress, IsStoredIp, IsStoredIpAddres
 ghost use Rattle.sentry_text.specs.Address.{IsAddress, address_of, address_text};
 ghost use Rattle.sentry_text.specs.AddressTree.{address_kind};
 ghost use Rattle.sentry_text.specs.IpTree.{IsIpCell, ip_kind, IsIpAddressCell, ip_address_kind};
-ghost use Rattle.std.specs.Prelude.{◌≡◌, ◌↔◌, true, ℕ, List, None, Ok, IsUtf8};
 ghost use Rattle.url.specs.declared.scheme.SchemeType.TheVariants.{SpecialNotFile};
 ghost use Rattle.url.specs.Canonical.{IsCanonical};
 ghost use Rattle.url.specs.Parser.{parse_url};

@@ -1,9 +1,9 @@
 //! Laws of enumerations: each spelling is listed once, words that are printed or written read back,
 //! and each JSON form has the laws of field tables and rejects null.
 
-ghost use Rattle.std.specs.Prelude.{◌≡◌, ◌↔◌, true, Bool, ℕ, List, Some};
+ghost use Rattle.std.specs.Prelude.{◌≡◌, ◌↔◌, true, Bool, ℕ, List, Some, codes, bytes_eq};
 ghost use Rattle.std.specs.Ordering.{nat_cmp};
-ghost use Rattle.sentry_tables.specs.Lawful.{RefusesNull};
+ghost use Rattle.sentry_tables.specs.Lawful.{RefusesNull, IsNormal};
 ghost use Rattle.sentry_tables.specs.Laws.{HasLaws};
 ghost use Rattle.sentry_words.specs.Sampled.{sampled_word, sampled_of, sampled_kind};
 ghost use Rattle.sentry_words.specs.Lookup.{HasEachOnce};
@@ -23,9 +23,7 @@ ghost use Rattle.sentry_words.specs.declared.monitor_interval_unit.MonitorInterv
 ghost use Rattle.sentry_words.specs.MonitorIntervalUnit.{interval_unit_word, interval_unit_words, interval_unit_of, interval_unit_kind};
 ghost use Rattle.sentry_words.specs.declared.monitor_check_in_status.MonitorCheckInStatus.{MonitorCheckInStatus as MonitorCheckInStatuses};
 ghost use Rattle.sentry_words.specs.MonitorCheckInStatus.{check_in_status_word, check_in_status_words, check_in_status_of, check_in_status_kind};
-ghost use Rattle.std.specs.Prelude.{◌≡◌, ◌↔◌, ℕ, true, List, Some, codes, bytes_eq};
 ghost use Rattle.std.specs.List.{IsDistinct};
-ghost use Rattle.sentry_tables.specs.Lawful.{IsNormal, RefusesNull};
 ghost use Rattle.sentry_tables.specs.Norm.{norm};
 ghost use Rattle.sentry_words.specs.declared.unit.Unit.{Unit as Units};
 ghost use Rattle.sentry_words.specs.Units.{units, spellings, found, known, other, unit_cell, unit_of, unit_text, unit_kind};
