@@ -25,7 +25,8 @@ pub record IsNormalText (bytes : List ℕ) (now : Cell) (text : List ℕ) : Type
 abbrev pub left_model : Cell → List EnvelopeItem → Model
 left_model header items = model (put_id (first_id_of items) header) items
 
--- Of an envelope that the bytes spell at the moment, the filter by kinds leaves these items below this header, and the sums are those of what it takes out.
+-- Of an envelope that the bytes spell at the moment, the filter by kinds leaves these items below
+-- this header, and the sums are those of what it takes out.
 pub record Leaves (bytes : List ℕ) (now : Cell) (kinds : ℕ) (keep keep_headers : Bool) (sums : List ℕ) (header : Cell) (left : List EnvelopeItem) : Type 0 where
   pub whole : Cell
   pub items : List EnvelopeItem

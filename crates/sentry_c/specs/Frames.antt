@@ -7,7 +7,8 @@ use Rattle.sentry_framing.specs.ItemWords.{item_words}
 use Rattle.sentry_c.specs.Places.{Stands}
 use Rattle.sentry_c.specs.declared.frames.SentryFrame.{SentryFrame}
 
--- an item may begin at the offset: at 0, which stands for the header line, at the end, or after a line feed
+-- an item may begin at the offset: at 0, which stands for the header line, at the end, or after a
+-- line feed
 abbrev pub MayBegin : List ℕ → ℕ → Type 0
 MayBegin bytes offset = (offset ≡ 0) ⊎ ((offset ≡ length bytes) ⊎ ((offset ≤ length bytes) × (slice_index bytes (offset - 1) ≡ newline)))
 
@@ -21,7 +22,8 @@ pub record IsPlaced (bytes : List ℕ) (found : SentryFrame) (frame : Frame) : T
   pub header : Stands bytes found.header_offset found.header_length frame.header
   pub payload : Stands bytes found.payload_offset found.payload_length frame.payload
 
--- The first frame of what is left stands at these places, its header is of this type, and the next item begins at an offset.
+-- The first frame of what is left stands at these places, its header is of this type, and the next
+-- item begins at an offset.
 pub record FindsFrame (bytes : List ℕ) (offset : ℕ) (found : SentryFrame) (next : ℕ) : Type 0 where
   pub body : List ℕ
   pub begins : BodyFrom bytes offset body

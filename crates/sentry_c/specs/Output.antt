@@ -1,7 +1,8 @@
 -- Texts in the caller's room.
 use Rattle.std.specs.Prelude.{◌≡◌, ◌<◌, ◌≤◌, ◌++◌, ℕ, List, length, drop}
 
--- a text of which P holds stands at the front of the room, whose rest is as it was, and its length is told
+-- a text of which P holds stands at the front of the room, whose rest is as it was, and its length
+-- is told
 pub record Puts (P : List ℕ → Type 0) (old new : List ℕ) (told : ℕ) : Type 0 where
   pub text : List ℕ
   pub meant : P text

@@ -19,7 +19,8 @@ pub record IsPair (category_number reason_number : ℕ) (category : Category) (r
 abbrev pub HasPair : ℕ → ℕ → Type 0
 HasPair category_number reason_number = (category : Category) × (reason : Reason) × IsPair category_number reason_number category reason
 
--- The text is that of an envelope with no header fields, whose one item is the report of what is held, at the moment of these seconds and nanoseconds.
+-- The text is that of an envelope with no header fields, whose one item is the report of what is
+-- held, at the moment of these seconds and nanoseconds.
 pub record IsReportText (held : Quantities) (secs nanos : ℕ) (text : List ℕ) : Type 0 where
   pub given : Report
   pub secs_are : given.timestamp.secs ≡ secs

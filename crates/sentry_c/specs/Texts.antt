@@ -24,7 +24,8 @@ abbrev pub optional_len : ℕ → Option (List ℕ) → ℕ
 optional_len label None = 0
 optional_len label (Some part) = label + length part
 
--- an optional part at the end of a text of so many bytes: without one the place is empty, and the flag 0
+-- an optional part at the end of a text of so many bytes: without one the place is empty, and the
+-- flag 0
 abbrev pub IsOptionalEnd : ℕ → SentryPlace → ℕ → Option (List ℕ) → Type 0
 IsOptionalEnd total place flag None = (place.offset ≡ 0) × (place.length ≡ 0) × (flag ≡ 0)
 IsOptionalEnd total place flag (Some part) = (place.offset ≡ total - length part) × (place.length ≡ length part) × (flag ≡ 1)

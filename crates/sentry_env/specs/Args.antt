@@ -1,4 +1,5 @@
--- The words of a call of the program: `-k` or not, then `-f` and a path or not, then words that name kinds.
+-- The words of a call of the program: `-k` or not, then `-f` and a path or not, then words that
+-- name kinds.
 use Rattle.std.specs.Prelude.{◌≡◌, ℕ, Bool, true, false, List, [], ◌∷◌, ◌++◌, Option, Some, None, map, codes}
 use Rattle.sentry_framing.specs.declared.kind.ItemKind.{ItemKind}
 use Rattle.sentry_framing.specs.ItemWords.{kind_of_word}

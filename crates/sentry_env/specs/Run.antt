@@ -31,18 +31,21 @@ pub record Due : Type 0 where
 abbrev pub dues : List ℕ → List ℕ → Outcome → Due
 dues out table outcome = record { out = out; table = table; outcome = outcome }
 
--- what is due for kept items, with a table: their text, below this header with the id of the first event or transaction among them; no text where no item is kept
+-- what is due for kept items, with a table: their text, below this header with the id of the first
+-- event or transaction among them; no text where no item is kept
 abbrev pub kept_due : Cell → List EnvelopeItem → List ℕ → Due
 kept_due header [] table = dues [] table NothingLeft
 kept_due header (item ∷ items) table = dues (envelope_text profile (model (put_id (first_id_of (item ∷ items)) header) (item ∷ items))) table Written
 
--- The items of these kinds are taken out, and this is due for what is kept, with the table of what is handed over.
+-- The items of these kinds are taken out, and this is due for what is kept, with the table of what
+-- is handed over.
 pub record TakesOut (kinds : List ItemKind) (keep_headers : Bool) (header : Cell) (items : List EnvelopeItem) (due : Due) : Type 0 where
   pub answers : List Bool
   pub by_kind : AnswersFor kinds items answers
   pub due_is : due ≡ kept_due (header_left keep_headers header) (kept (chosen items answers)) (table_of (losses_of_items (handed items answers)))
 
--- What is due for an envelope with this header and these items: without kinds its own text, and no table.
+-- What is due for an envelope with this header and these items: without kinds its own text, and no
+-- table.
 abbrev pub IsDue : List ItemKind → Bool → Cell → List EnvelopeItem → Due → Type 0
 IsDue [] keep_headers header items due = due ≡ dues (envelope_text profile (model header items)) [] Written
 IsDue (kind ∷ kinds) keep_headers header items due = TakesOut (kind ∷ kinds) keep_headers header items due
@@ -73,7 +76,8 @@ pub record WritesAll (set : Settings) (old new : Streams) (outcome : Outcome) : 
   pub table_gets : Gets old.table new.table due.table
   pub outcome_is : outcome ≡ due.outcome
 
--- the input is read, and a write fails: of the text that is due for the output, and then nothing is written of the table, or of the table after all of that text
+-- the input is read, and a write fails: of the text that is due for the output, and then nothing is
+-- written of the table, or of the table after all of that text
 pub record WritesPart (set : Settings) (old new : Streams) : Type 0 where
   pub due : Due
   pub reads : Reads old.input new.input (IsDueFor set due)

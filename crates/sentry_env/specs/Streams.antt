@@ -5,7 +5,8 @@ use Rattle.sentry_items.specs.Counted.{AppendsFront, reader_failures, reader_ins
 use Rattle.sentry_items.specs.declared.counted.CountedReader.{CountedReader}
 use Rattle.sentry_items.specs.declared.counted.CountedWriter.{CountedWriter}
 
--- the bytes that a reader has left or a writer holds, where they are known, and how many of its calls failed
+-- the bytes that a reader has left or a writer holds, where they are known, and how many of its
+-- calls failed
 pub record Stream : Type 0 where
   pub bytes : Option (List ℕ)
   pub failures : ℕ

@@ -17,7 +17,8 @@ abbrev pub line_of : Category → Option Reason → ℕ → List ℕ
 line_of category reason quantity =
     if quantity == 0 then [] else category_word category ++ 32 ∷ (reason_text reason ++ 32 ∷ (decimal quantity ++ 10 ∷ []))
 
--- the lines of a category, with the sums that a function gives: for no reason first, and then for each reason
+-- the lines of a category, with the sums that a function gives: for no reason first, and then for
+-- each reason
 unfoldable pub lines_by : (Category → Option Reason → ℕ) → Category → List ℕ
 lines_by sum category = line_of category None (sum category None) ++ flat_map (λ reason. line_of category (Some reason) (sum category (Some reason))) reasons
 

@@ -1,4 +1,5 @@
--- How an id fills an absent cell of a header: of a table with rows in the order of their keys, at the row that holds ids.
+-- How an id fills an absent cell of a header: of a table with rows in the order of their keys, at
+-- the row that holds ids.
 use Rattle.std.proofs.Common.{◌≡◌, ◌≤◌, ℕ, zero, suc, List, Bool, true, false, cond, Option, Some, None, nat_cmp, Less, Greater, refl, sym, ap, ap₂, ◌∙◌, subst, arith, true≢false}
 use Rattle.std.proofs.lemmas.Bool.{and_parts}
 use Rattle.std.proofs.lemmas.Cmp.{nat_list_cmp_total}
@@ -26,7 +27,8 @@ abbrev pub fill_place : ℕ → Cell → Cell → Cell
 fill_place n id (fields cs other) = fields (fill_cells n id cs) other
 fill_place n id h = h
 
--- an optional row of ids: the id is normal, no value of its kind is null, and the id's tree is no array and no object
+-- an optional row of ids: the id is normal, no value of its kind is null, and the id's tree is no
+-- array and no object
 abbrev pub IsIdOf : Rule → Kind → Cell → Type 0
 IsIdOf may K id = IsNormal K id × ((c : Cell) → is_null_of K c ≡ false) × (depth (tree K id) ≡ 0)
 IsIdOf _ K id = ⊥

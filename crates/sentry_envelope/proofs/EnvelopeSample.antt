@@ -1,5 +1,6 @@
--- Envelopes with Sentry's header, of attachments, recordings, events of a few rows and logs of these: each form of item, each rule of rows, an
--- id that fills the header and is drawn. The premises of the laws can be met.
+-- Envelopes with Sentry's header, of attachments, recordings, events of a few rows and logs of
+-- these: each form of item, each rule of rows, an id that fills the header and is drawn. The
+-- premises of the laws can be met.
 use Rattle.std.proofs.Common.{◌≡◌, ◌≤◌, ℕ, List, [], ◌∷◌, true, Some, codes, refl, sym, ◌∙◌, subst, arith, IsUtf8}
 use Rattle.std.proofs.lemmas.Option.{same_Some}
 use Rattle.serde_json.specs.Data.{Data, string, array, object, no_items, item, Members, no_members, member, depth}

@@ -45,7 +45,8 @@ any_id_fills _ is = absurd is
 
 -- ---- the row of an id
 
--- a row of ids that are drawn where they are absent: what is stored in it is an id, and its own normal form
+-- a row of ids that are drawn where they are absent: what is stored in it is an id, and its own
+-- normal form
 abbrev IsIdRow : Rule → Kind → Type 0
 IsIdRow (draw Drawn) K = (c : Cell) → IsStored K c → IsUuid c × (norm K c ≡ c)
 IsIdRow _ K = ⊥

@@ -14,7 +14,8 @@ use Rattle.sentry_envelope.specs.declared.envelope.Contents.TheVariants as varia
 use Rattle.sentry_envelope.specs.declared.envelope.Envelope.{Envelope}
 use Rattle.sentry_envelope.proofs.ConservationLemmas.{parts_conserved}
 
--- what a filter is asked about has the losses of the items: `Raw`, which stands for a raw envelope, has none
+-- what a filter is asked about has the losses of the items: `Raw`, which stands for a raw envelope,
+-- has none
 losses_asked : (contents : Contents) → losses_of_items (asked_in contents) ≡ losses_of_items (items_in contents)
 losses_asked (variants.Items items) = refl
 losses_asked (variants.Raw bytes) = refl

@@ -41,7 +41,8 @@ pub record HasRefusedPayload (P : Profile) (body : List ℕ) : Type 0 where
 abbrev pub IsFirstFault : Profile → List ℕ → EnvelopeError → Type 0
 IsFirstFault P body x = IsFault (reads P) body x ⊎ ((x ≡ InvalidItemPayload) × HasRefusedPayload P body)
 
--- some number of frames stand in all checks, bytes remain, and this is the first check of them that fails
+-- some number of frames stand in all checks, bytes remain, and this is the first check of them that
+-- fails
 pub record BodyIsAtFault (P : Profile) (body : List ℕ) (x : EnvelopeError) : Type 0 where
   pub frames : List Frame
   pub rest : List ℕ

@@ -27,7 +27,8 @@ abbrev pub EnvelopesReadBack : Profile → Type 0
 EnvelopesReadBack P = (e : Envelope) (now : Cell) → IsEnvelopeStored P e → IsEnvelopePlain P e → IsEnvelopeReadable P e → IsEnvelopeSized P e
     → Spells P (envelope_text P e) now (envelope_norm P e) × ((x : Envelope) → Spells P (envelope_text P e) now x → x ≡ envelope_norm P e)
 
--- The normal form is its own normal form, is stored and plain, and is readable where the envelope is.
+-- The normal form is its own normal form, is stored and plain, and is readable where the envelope
+-- is.
 pub record IsEnvelopeStable (P : Profile) (e : Envelope) : Type 0 where
   pub again : envelope_norm P (envelope_norm P e) ≡ envelope_norm P e
   pub stored : IsEnvelopeStored P (envelope_norm P e)
@@ -37,8 +38,9 @@ pub record IsEnvelopeStable (P : Profile) (e : Envelope) : Type 0 where
 abbrev pub EnvelopesAreStable : Profile → Type 0
 EnvelopesAreStable P = (e : Envelope) → IsEnvelopeStored P e → IsEnvelopePlain P e → IsEnvelopeStable P e
 
--- An envelope that reads back, and whose normal form does: *stored*, *plain* and *readable* are asked of it (its normal form then has
--- them too, by `stable`), *sized* of the normal form, which is what is written.
+-- An envelope that reads back, and whose normal form does: *stored*, *plain* and *readable* are
+-- asked of it (its normal form then has them too, by `stable`), *sized* of the normal form, which
+-- is what is written.
 pub record IsFit (P : Profile) (e : Envelope) : Type 0 where
   pub stored : IsEnvelopeStored P e
   pub plain : IsEnvelopePlain P e

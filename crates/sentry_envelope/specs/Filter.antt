@@ -1,4 +1,5 @@
--- What a filter does to an envelope: the answers that it gives, the items that stay, and the calls that are made of it.
+-- What a filter does to an envelope: the answers that it gives, the items that stay, and the calls
+-- that are made of it.
 use Rattle.std.specs.Prelude.{◌≡◌, Bool, true, false, not, List, [], ◌∷◌, ◌++◌, filter, map, length, if◌then◌else◌, Option, Some, None, is_some}
 use Rattle.std.specs.List.{list_any, filter_map}
 use Rattle.std.specs.Option.{IsSomeAnd}
@@ -93,7 +94,8 @@ pub record Asks {F : Type 0} (ask : F → EnvelopeItem → Bool → F → Type 0
   pub run : Run ask hand first (asks items answers) last
   pub left_is : left ≡ chosen items answers
 
--- for some answers, one an item, the calls lead a filter from one state to another, and these items are kept
+-- for some answers, one an item, the calls lead a filter from one state to another, and these items
+-- are kept
 pub record Filters {F : Type 0} (ask : F → EnvelopeItem → Bool → F → Type 0) (hand : F → EnvelopeItem → F → Type 0) (items : List EnvelopeItem) (first last : F) (left : List EnvelopeItem) : Type 0 where
   pub answers : List Bool
   pub complete : length answers ≡ length items
@@ -118,7 +120,8 @@ structured_in (variants.Raw bytes) = None
 abbrev pub header_left : Bool → Cell → Cell
 header_left keep_headers header = if keep_headers then header else no_fields
 
--- a structured envelope of these items, in order, with this header, but that its id is that of the first event or transaction among the items
+-- a structured envelope of these items, in order, with this header, but that its id is that of the
+-- first event or transaction among the items
 pub record IsMadeOf (header : Cell) (items : List EnvelopeItem) (envelope : Envelope) : Type 0 where
   pub items_are : structured_in envelope.contents ≡ Some items
   pub header_is : header_of envelope ≡ put_id (first_id_of items) header
@@ -128,11 +131,13 @@ LeavesOf contents header envelope [] answer = answer ≡ None
 LeavesOf (variants.Items items) header envelope (item ∷ rest) answer = IsSomeAnd answer (IsMadeOf header (item ∷ rest))
 LeavesOf (variants.Raw bytes) header envelope (item ∷ rest) answer = answer ≡ Some envelope
 
--- what is left of an envelope where these items are kept: nothing without an item, the whole where it has only bytes, and else an envelope of the kept items
+-- what is left of an envelope where these items are kept: nothing without an item, the whole where
+-- it has only bytes, and else an envelope of the kept items
 abbrev pub Leaves : Cell → Envelope → List EnvelopeItem → Option Envelope → Type 0
 Leaves header envelope left answer = LeavesOf envelope.contents header envelope left answer
 
--- a filter goes over an envelope, from one state to another, and leaves this answer, with this header but for its id
+-- a filter goes over an envelope, from one state to another, and leaves this answer, with this
+-- header but for its id
 pub record FiltersEnvelope {F : Type 0} (header : Cell) (ask : F → EnvelopeItem → Bool → F → Type 0) (hand : F → EnvelopeItem → F → Type 0) (envelope : Envelope) (first last : F) (answer : Option Envelope) : Type 0 where
   pub left : List EnvelopeItem
   pub filters : Filters ask hand (asked_items envelope) first last left

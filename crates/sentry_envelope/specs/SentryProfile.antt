@@ -35,7 +35,8 @@ form_of kinds.Logs = container_form log_content_type log_kind
 form_of kinds.Metrics = container_form metric_content_type metric_kind
 form_of k = json_form (payload_kind k)
 
--- the id that a value of a type gives its envelope: an event or a transaction its own, and any other none
+-- the id that a value of a type gives its envelope: an event or a transaction its own, and any
+-- other none
 abbrev pub gives_of : ItemKind → Cell → Cell
 gives_of kinds.Event c = held_at (codes "event_id") (payload_kind kinds.Event) c
 gives_of kinds.Transaction c = held_at (codes "event_id") (payload_kind kinds.Transaction) c

@@ -43,7 +43,8 @@ pub record Frame : Type 0 where
   pub header : List ℕ
   pub payload : List ℕ
 
--- What a header says of its payload: None where it is no item header, else the length if it states one.
+-- What a header says of its payload: None where it is no item header, else the length if it states
+-- one.
 abbrev pub Reading : Type 0
 Reading = List ℕ → Option (Option ℕ)
 
@@ -57,7 +58,8 @@ abbrev pub CutsPayload : Option ℕ → List ℕ → List ℕ → List ℕ → T
 CutsPayload None bytes payload tail = (bytes ≡ payload ++ tail) × HasNoNewline payload × ((next : List ℕ) × EndsLine tail next)
 CutsPayload (Some n) bytes payload tail = (bytes ≡ payload ++ tail) × (length payload ≡ n)
 
--- After a header: the end, with empty payload; or NL, a payload, the end; or NL, a payload, NL, a body.
+-- After a header: the end, with empty payload; or NL, a payload, the end; or NL, a payload, NL, a
+-- body.
 abbrev pub Follows : List ℕ → List ℕ → List ℕ → Type 0
 Follows after payload body =
     ((after ≡ []) × (payload ≡ []) × (body ≡ []))

@@ -23,13 +23,15 @@ HoldsNoTree (replay_recording b) = ⊤
 HoldsNoTree (value k c) = HasNoTrees k
 HoldsNoTree raw = ⊤
 
--- the address of a user that the item tells, where it tells one, has numbers in range, as every address of a program
+-- the address of a user that the item tells, where it tells one, has numbers in range, as every
+-- address of a program
 abbrev pub HasStoredAddress : EnvelopeItem → Type 0
 HasStoredAddress (item.SessionUpdate s) = IsStoredAddress s.attributes
 HasStoredAddress (item.SessionAggregates g) = IsStoredAddress g.attributes
 HasStoredAddress _ = ⊤
 
--- two reports are alike by their moments and sums, and any other two items where they are of one type and hold the same
+-- two reports are alike by their moments and sums, and any other two items where they are of one
+-- type and hold the same
 abbrev pub AreAlike : EnvelopeItem → EnvelopeItem → Type 0
 AreAlike (item.ClientReport a) (item.ClientReport b) = AreReportsAlike a b
 AreAlike a b = item_held a ≡ item_held b

@@ -36,8 +36,9 @@ attachment_header word a =
 unfoldable pub attachment_text : Attached → List ℕ
 attachment_text a = compact_text (object (attachment_header (codes "attachment") a)) ++ newline ∷ a.buffer
 
--- ---- the normal form: absent types are filled, and a custom type that spells a known one becomes that one
+-- ---- the normal form
 
+-- absent types are filled, and a custom type that spells a known one becomes that one
 abbrev pub attached_norm : Attached → Attached
 attached_norm a = record a {
   content_type = Some (attached_content_type a);

@@ -16,7 +16,8 @@ use Rattle.sentry_items.specs.declared.container.ItemContainer.TheVariants as co
 use Rattle.sentry_items.specs.declared.listed.Listed.{Listed}
 use Rattle.sentry_items.specs.declared.listed.Lent.{Lent}
 
--- the kind of a container's payload: an object with a required array `items`; other keys are ignored
+-- the kind of a container's payload: an object with a required array `items`; other keys are
+-- ignored
 abbrev pub container_kind : Kind → Kind
 container_kind K = table (row (codes "items") must (list K) no_rows) ignored
 

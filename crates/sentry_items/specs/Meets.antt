@@ -4,7 +4,8 @@ use Rattle.sentry_tables.specs.Meets.{IsPlain, IsStored}
 use Rattle.sentry_items.specs.Attached.{IsAttachedStored}
 use Rattle.sentry_items.specs.View.{ItemView, attachment, replay_recording, value, raw, payload_kind}
 
--- its trees hold no floats, and no member that no row names clashes with a row; bytes are always plain
+-- its trees hold no floats, and no member that no row names clashes with a row; bytes are always
+-- plain
 abbrev pub IsItemPlain : ItemView → Type 0
 IsItemPlain (attachment a) = ⊤
 IsItemPlain (replay_recording b) = ⊤

@@ -19,7 +19,8 @@ sessions_in g = g.exited + g.errored + g.abnormal + g.crashed
 
 -- ---- bytes of logs and metrics
 
--- a tree of JSON: null 0, a truth value 1, a number 8, a text its bytes, an array its items, an object its keys and values
+-- a tree of JSON: null 0, a truth value 1, a number 8, a text its bytes, an array its items, an
+-- object its keys and values
 abbrev mutual
   pub data_size : Data → ℕ
   data_size null = 0

@@ -70,7 +70,8 @@ kind_held (replay_recording b) = Some kinds.ReplayRecording
 kind_held (value k c) = Some k
 kind_held raw = None
 
--- the kind of the JSON in the payloads of a type; of a type whose payload is other bytes it is one that no tree shows
+-- the kind of the JSON in the payloads of a type; of a type whose payload is other bytes it is one
+-- that no tree shows
 abbrev pub payload_kind : ItemKind → Kind
 payload_kind kinds.Event = event_kind
 payload_kind kinds.SessionUpdate = session_kind

@@ -69,7 +69,8 @@ after_all [] sums = refl
 after_all (Ask item answer ∷ made) sums = after_all made sums
 after_all (Hand item ∷ made) sums = after_all made (fold add_loss sums (losses_of_item item)) ∙ sym (fold-append add_loss sums (losses_of_item item) (losses_of_items (filter_map item_of_hand made)))
 
--- a filter with sums in it, which are unchanged by an ask, and to which each hand adds the losses of its item
+-- a filter with sums in it, which are unchanged by an ask, and to which each hand adds the losses
+-- of its item
 module _ {F : Type 0} (ask : F → EnvelopeItem → Bool → F → Type 0) (hand : F → EnvelopeItem → F → Type 0) (sums_in : F → LossSums)
     (on_ask : (first : F) (item : EnvelopeItem) (answer : Bool) (next : F) → ask first item answer next → sums_in next ≡ sums_in first)
     (on_hand : (first : F) (item : EnvelopeItem) (next : F) → hand first item next → sums_in next ≡ fold add_loss (sums_in first) (losses_of_item item)) where

@@ -59,7 +59,8 @@ flushed category reason answers = sum_by (λ given. report_sum category reason g
 abbrev pub answers_of : List Entry → List StepAnswer
 answers_of history = map (λ entry. entry.1) history
 
--- what is held after a history: all that was recorded since the last report; without a report, what was held at the start and all that was recorded
+-- what is held after a history: all that was recorded since the last report; without a report, what
+-- was held at the start and all that was recorded
 unfoldable pub held_after : Quantities → List Entry → Quantities
 held_after start history category reason =
     if list_any is_flush history then accepted category reason (after_last is_flush history) else start category reason + accepted category reason history
@@ -88,7 +89,8 @@ IsConserved start history =
 abbrev pub Holds : Ledger → Quantities → List Entry → Type 0
 Holds ledger start history = (category : Category) (reason : Reason) → quantity_held ledger category reason ≡ held_after start history category reason
 
--- a ledger answers steps, one after another: they and their answers are a history, after which it holds what that says
+-- a ledger answers steps, one after another: they and their answers are a history, after which it
+-- holds what that says
 pub record AnswersSteps (old new : Ledger) (steps : List Step) (answers : List StepAnswer) : Type 0 where
   pub complete : length answers ≡ length steps
   pub history : IsHistory (quantity_held old) (zip steps answers)

@@ -30,7 +30,8 @@ pub record Records (old new : Ledger) (reason : Reason) (losses : List ItemLoss)
   pub answered : AnswersSteps old new (adds reason losses) answers
   pub refused_are : refused ≡ min (count_by is_refused answers) (2 ^ 64 - 1)
 
--- a filter goes over an envelope as it does without a ledger, and the losses of the items that it is handed are recorded
+-- a filter goes over an envelope as it does without a ledger, and the losses of the items that it
+-- is handed are recorded
 pub record FiltersRecorded {F : Type 0} (ask : F → EnvelopeItem → Bool → F → Type 0) (hand : F → EnvelopeItem → F → Type 0) (envelope : Envelope) (first last : F) (left : Option Envelope)
     (reason : Reason) (old new : Ledger) (refused : ℕ) : Type 0 where
   pub filters : FiltersEnvelope no_fields ask hand envelope first last left

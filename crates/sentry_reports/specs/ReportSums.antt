@@ -9,7 +9,8 @@ use Rattle.sentry_reports.specs.declared.item.Item.{Item}
 use Rattle.sentry_reports.specs.declared.kept_sums.TheConstants.{PAIRS}
 use Rattle.sentry_reports.specs.declared.reason.Reason.{Reason}
 
--- the sum of the quantities of the items of a category and a reason, without bound, cut once at what 64 bits hold
+-- the sum of the quantities of the items of a category and a reason, without bound, cut once at
+-- what 64 bits hold
 unfoldable pub report_sum : Category → Reason → List Item → ℕ
 report_sum category reason items = shown category (Some reason) (losses_reported items)
 
