@@ -1,6 +1,7 @@
 -- The types of attachments: five known words, and any other text.
-use Rattle.std.specs.Prelude.{◌≡◌, ℕ, zero, suc, List, [], ◌∷◌, true, Some, codes, cond, IsUtf8}
+use Rattle.std.specs.Prelude.{◌≡◌, ℕ, zero, suc, List, [], ◌∷◌, true, Some, codes, cond}
 use Rattle.sentry_json.specs.Keys.{is_among}
+use Rattle.sentry_tables.specs.Basic.{IsText}
 use Rattle.sentry_tables.specs.Cell.{Cell, text, choice}
 use Rattle.sentry_tables.specs.Kind.{Kind}
 use Rattle.sentry_tables.specs.Spelling.{Spelling, read_to, spelled_kind}
@@ -29,10 +30,6 @@ abbrev pub attachment_type_text : Cell → List ℕ
 attachment_type_text (choice n c) = word_in c
 attachment_type_text _ = []
 
-abbrev pub IsUtf8Text : Cell → Type 0
-IsUtf8Text (text word) = IsUtf8 word
-IsUtf8Text _ = ⊥
-
 abbrev pub IsKnownWord : Cell → Type 0
 IsKnownWord (text word) = is_among word attachment_words ≡ true
 IsKnownWord _ = ⊥
@@ -40,7 +37,7 @@ IsKnownWord _ = ⊥
 -- what Rust's type holds: a known type, or a text as a custom one
 abbrev pub IsAttachmentType : Cell → Type 0
 IsAttachmentType (choice zero c) = IsKnownWord c
-IsAttachmentType (choice (suc zero) c) = IsUtf8Text c
+IsAttachmentType (choice (suc zero) c) = IsText c
 IsAttachmentType _ = ⊥
 
 -- a custom text that is a known word is the known type
