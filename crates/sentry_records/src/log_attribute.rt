@@ -236,12 +236,18 @@ fn read_typed<N: Node>(alloc: Global, word: &str, value: &N) -> Result<Value, Tr
     ensures { ReadsTyped word.now (N.data_of value.now) result }
 {
     match word {
-        "string" => {
-            let text = value.as_str().ok_or(TreeError::Misfit)?;
-            Ok(Value::try_from_str(alloc, text)?)
-        }
-        "integer" => value.as_i64().map(Value::from).ok_or(TreeError::Misfit),
-        "boolean" => value.as_bool().map(Value::from).ok_or(TreeError::Misfit),
+        "string" => match value.as_str() {
+            Some(text) => Ok(Value::try_from_str(alloc, text)?),
+            None => Err(TreeError::Misfit),
+        },
+        "integer" => match value.as_i64() {
+            Some(whole) => Ok(Value::from(whole)),
+            None => Err(TreeError::Misfit),
+        },
+        "boolean" => match value.as_bool() {
+            Some(truth) => Ok(Value::from(truth)),
+            None => Err(TreeError::Misfit),
+        },
         _ => Err(TreeError::Misfit),
     }
 }
