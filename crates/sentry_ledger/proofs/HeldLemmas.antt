@@ -1,6 +1,5 @@
 -- What a ledger holds, and what the items of a report of it sum to.
 use Rattle.std.proofs.Common.{arith, ◌≡◌, ℕ, zero, suc, ◌+◌, ◌-◌, ◌^◌, ◌<◌, ◌≤◌, ◌≢◌, ◌⊎◌, inl, inr, min, Bool, true, false, ◌&&◌, if◌then◌else◌, List, [], ◌∷◌, length, sum_by, ◌==◌, get_or, set, replicate, Option, Some, refl, ap, sym, ◌∙◌, get_or-set_same, get_or-set_other}
-use Rattle.std.specs.Bool.{⊤}
 use Rattle.std.proofs.lemmas.Bool.{eqb-true, ne_eqb, eq-eqb}
 use Rattle.std.proofs.lemmas.Bool.Decides.{eqb_tells}
 use Rattle.std.proofs.lemmas.List.{get_or-replicate, map-append}
@@ -17,6 +16,7 @@ use Rattle.sentry_reports.specs.declared.kept_sums.TheConstants.{PAIRS}
 use Rattle.sentry_reports.specs.declared.reason.Reason.{Reason}
 use Rattle.sentry_reports.proofs.ReportSums.{pair_below, same_place, other_place, pair_at}
 use Rattle.sentry_reports.proofs.Sums.{share, share_here, share_elsewhere}
+use Rattle.sentry_reports.proofs.Words.{CountsUp, categories_count_up, reasons_count_up}
 use Rattle.sentry_ledger.specs.Held.{Quantities, reason_for, recorded_loss, items_of_pair, items_of_category, items_held}
 
 -- ---- recording
@@ -47,16 +47,11 @@ no_row c r = get_or-replicate PAIRS (pair_place c r) 0 0 (pair_below c r)
 
 -- ---- sums over lists in order
 
--- the index of each element is one above that of the element before it
-abbrev pub InOrder : {A : Type 0} → (A → ℕ) → ℕ → List A → Type 0
-InOrder index i [] = ⊤
-InOrder index i (x ∷ xs) = (index x ≡ i) × InOrder index (suc i) xs
-
 -- what is taken of an element at one index alone
 abbrev at_index : {A : Type 0} → (A → ℕ) → ℕ → (A → ℕ) → A → ℕ
 at_index index t quantity x = if index x == t then quantity x else 0
 
-sum_past : {A : Type 0} (index : A → ℕ) (quantity : A → ℕ) (t i : ℕ) (xs : List A) → InOrder index i xs → t < i → sum_by (at_index index t quantity) xs ≡ 0
+sum_past : {A : Type 0} (index : A → ℕ) (quantity : A → ℕ) (t i : ℕ) (xs : List A) → CountsUp index i xs → t < i → sum_by (at_index index t quantity) xs ≡ 0
 sum_past index quantity t i [] ordered past = refl
 sum_past index quantity t i (x ∷ xs) ordered past =
     let other : index x ≢ t = omega (arith, ordered.0) in
@@ -64,7 +59,7 @@ sum_past index quantity t i (x ∷ xs) ordered past =
     sum_by-cons (at_index index t quantity) x xs
     ∙ (ap (λ (b : Bool). (if b then quantity x else 0) + sum_by (at_index index t quantity) xs) (ne_eqb (index x) t other) ∙ omega (arith, rest))
 
-sum_at : {A : Type 0} (index : A → ℕ) (quantity : A → ℕ) (t i k : ℕ) (xs : List A) (x : A) → InOrder index i xs → t ≡ i + k → slice_get xs k ≡ Some x
+sum_at : {A : Type 0} (index : A → ℕ) (quantity : A → ℕ) (t i k : ℕ) (xs : List A) (x : A) → CountsUp index i xs → t ≡ i + k → slice_get xs k ≡ Some x
     → sum_by (at_index index t quantity) xs ≡ quantity x
 sum_at index quantity t i k [] x ordered at found = cc
 sum_at index quantity t i zero (y ∷ ys) x ordered at found =
@@ -85,12 +80,6 @@ sum_nothing [] = refl
 sum_nothing (x ∷ xs) = sum_nothing xs
 
 -- ---- pairs in order
-
-categories_ordered : InOrder category_index 0 categories
-categories_ordered = (refl, (refl, (refl, (refl, (refl, (refl, (refl, (refl, (refl, (refl, (refl, (refl, tt))))))))))))
-
-reasons_ordered : InOrder reason_index 0 reasons
-reasons_ordered = (refl, (refl, (refl, (refl, (refl, (refl, (refl, (refl, (refl, tt)))))))))
 
 -- nothing is held exactly where each quantity in the row is 0
 pub zeros_hold_nothing : (row : List ℕ) → length row ≡ PAIRS → EachIndex row (λ k. get_or row k 0 ≡ 0) → (c : Category) (r : Reason) → get_or row (pair_place c r) 0 ≡ 0
@@ -154,7 +143,7 @@ of_category held c r d =
     ∙ (ap (λ (f : Reason → ℕ). sum_by f reasons) (λ i. λ s. of_pair held c r d s i) ∙ go (category_index d == category_index c))
   where
     go : (b : Bool) → sum_by (λ (s : Reason). if b then at_index reason_index (reason_index r) (held d) s else 0) reasons ≡ (if b then held d r else 0)
-    go true = sum_at reason_index (held d) (reason_index r) 0 (reason_index r) reasons r reasons_ordered (omega arith) (reason_in_place r)
+    go true = sum_at reason_index (held d) (reason_index r) 0 (reason_index r) reasons r reasons_count_up (omega arith) (reason_in_place r)
     go false = sum_nothing reasons
 
 -- the items of what is held sum to what is held
@@ -163,7 +152,7 @@ unfolding items_held
 lost_held held c r =
     lost-flat_map c (Some r) (items_of_category held) categories
     ∙ (ap (λ (f : Category → ℕ). sum_by f categories) (λ i. λ d. of_category held c r d i)
-    ∙ sum_at category_index (λ (e : Category). held e r) (category_index c) 0 (category_index c) categories c categories_ordered (omega arith) (category_in_place c))
+    ∙ sum_at category_index (λ (e : Category). held e r) (category_index c) 0 (category_index c) categories c categories_count_up (omega arith) (category_in_place c))
 
 pub sum_held : (held : Quantities) (c : Category) (r : Reason) → held c r ≤ 2 ^ 64 - 1 → report_sum c r (items_held held) ≡ held c r
 unfolding report_sum

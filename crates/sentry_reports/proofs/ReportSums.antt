@@ -1,7 +1,6 @@
 -- The row of a report's sums: it keeps the sum of each pair, item by item.
 use Rattle.std.proofs.Common.{rules, arith, Bool, nat_eq, ◌≡◌, ℕ, zero, suc, ◌+◌, ◌-◌, ◌/◌, ◌%◌, ◌^◌, ◌<◌, ◌≢◌, ◌⊎◌, inl, inr, min, true, false, List, [], ◌∷◌, ◌++◌, length, Some, ◌==◌, get_or, set, replicate, take, refl, ap, sym, ◌∙◌, get_or-set_same, get_or-set_other, length-set}
 use Rattle.std.proofs.lemmas.List.{ext_get_or, get_or-replicate, map-append, take_more}
-use Rattle.std.specs.Prelude.{⊤}
 use Rattle.std.specs.Cmp.Lexicographic.{pointwise}
 use Rattle.std.proofs.lemmas.List.Sums.{sum_by_push}
 use Rattle.std.proofs.lemmas.Bool.Decides.{eqb_tells}
@@ -15,6 +14,7 @@ use Rattle.sentry_reports.specs.declared.category.Category.{Category}
 use Rattle.sentry_reports.specs.declared.item.Item.{Item}
 use Rattle.sentry_reports.specs.declared.kept_sums.TheConstants.{PAIRS}
 use Rattle.sentry_reports.specs.declared.reason.Reason.{Reason}
+use Rattle.sentry_reports.proofs.Words.{CountsUp, categories_count_up, reasons_count_up}
 use Rattle.sentry_reports.proofs.Sums.{share, category_below, reason_below, share_here, share_elsewhere}
 
 pub pair_below : (c : Category) (r : Reason) → pair_place c r < PAIRS
@@ -89,12 +89,7 @@ keeps_next sums items i d at sum within here is keeps = record {
 
 -- ---- the sums of all pairs
 
--- the elements have these indices, which count up from a number on
-abbrev CountsUp : {A : Type 0} → (A → ℕ) → ℕ → List A → Type 0
-CountsUp index start [] = ⊤
-CountsUp index start (x ∷ xs) = (index x ≡ start) × CountsUp index (suc start) xs
-
--- so each index is that of an element
+-- where indices count up, each is that of an element
 element_at : {A : Type 0} (index : A → ℕ) (start : ℕ) (xs : List A) (i : ℕ) → CountsUp index start xs → i < length xs → (x : A) × (index x ≡ start + i)
 element_at index start [] i counts h = absurd (omega (arith, h))
 element_at index start (x ∷ xs) zero counts h = (x, omega (arith, counts.0))
@@ -104,12 +99,12 @@ element_at index start (x ∷ xs) (suc i) counts h =
 
 category_at : (i : ℕ) → i < 12 → (c : Category) × (category_index c ≡ i)
 category_at i h =
-    let found = element_at category_index 0 categories i (search rules) h in
+    let found = element_at category_index 0 categories i categories_count_up h in
     (found.0, omega (arith, found.1))
 
 reason_at : (i : ℕ) → i < 9 → (r : Reason) × (reason_index r ≡ i)
 reason_at i h =
-    let found = element_at reason_index 0 reasons i (search rules) h in
+    let found = element_at reason_index 0 reasons i reasons_count_up h in
     (found.0, omega (arith, found.1))
 
 -- each place in the row is that of a pair

@@ -1,5 +1,6 @@
 -- The words and the indices of categories and reasons.
-use Rattle.std.proofs.Common.{◌≡◌, Some, refl, sym, ap, ◌∙◌}
+use Rattle.std.proofs.Common.{◌≡◌, ℕ, suc, List, [], ◌∷◌, Some, refl, sym, ap, ◌∙◌}
+use Rattle.std.specs.Bool.{⊤}
 use Rattle.std.proofs.lemmas.Option.{same_Some}
 use Rattle.std.specs.Prelude.{slice_get}
 use Rattle.sentry_tables.specs.Laws.{HasLaws}
@@ -11,6 +12,17 @@ use Rattle.sentry_reports.specs.declared.category.Category.TheVariants as catego
 use Rattle.sentry_reports.specs.declared.reason.Reason.{Reason}
 use Rattle.sentry_reports.specs.declared.reason.Reason.TheVariants as reason
 use Rattle.sentry_reports.specs.Categories.{categories, category_index, category_in_place, category_word, category_of, category_spelling, category_kind, reasons, reason_index, reason_in_place, reason_word, reason_of, reason_spelling, reason_kind}
+
+-- the elements have these indices, which count up from a number on
+abbrev pub CountsUp : {A : Type 0} → (A → ℕ) → ℕ → List A → Type 0
+CountsUp index start [] = ⊤
+CountsUp index start (x ∷ xs) = (index x ≡ start) × CountsUp index (suc start) xs
+
+pub categories_count_up : CountsUp category_index 0 categories
+categories_count_up = (refl, (refl, (refl, (refl, (refl, (refl, (refl, (refl, (refl, (refl, (refl, (refl, tt))))))))))))
+
+pub reasons_count_up : CountsUp reason_index 0 reasons
+reasons_count_up = (refl, (refl, (refl, (refl, (refl, (refl, (refl, (refl, (refl, tt)))))))))
 
 category_words_read : ReadsItsWords category_of category_word
 category_words_read category.Error = (refl, refl)
