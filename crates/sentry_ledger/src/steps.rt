@@ -1,11 +1,11 @@
 //! Histories of a ledger: lists of steps and their answers.
 
-ghost use Rattle.std.specs.Prelude.{◌≡◌, ◌+◌, IfOk, OnErr};
+ghost use Rattle.std.specs.Prelude.{◌≡◌, ◌+◌, ◌∷◌, [], IfOk, OnErr};
 ghost use Rattle.std.specs.List.{zip};
 ghost use Rattle.sentry_reports.specs.declared.category.Category.{Category as Categories};
 ghost use Rattle.sentry_reports.specs.declared.reason.Reason.{Reason as Reasons};
 ghost use Rattle.sentry_ledger.specs.Held.{quantity_held};
-ghost use Rattle.sentry_ledger.specs.Histories.{AnswersSteps, accepted, flushed};
+ghost use Rattle.sentry_ledger.specs.Histories.{AnswersSteps, Holds, IsAnswered, accepted, flushed};
 
 use crate::ledger::Ledger;
 use sentry_moments::Moment;
@@ -37,12 +37,6 @@ pub enum StepAnswer {
 }
 
 impl Ledger {
-    ghost use Rattle.std.specs.Prelude.{◌≡◌, ◌+◌, ◌∷◌, []};
-    ghost use Rattle.sentry_reports.specs.declared.category.Category.{Category as Categories};
-    ghost use Rattle.sentry_reports.specs.declared.reason.Reason.{Reason as Reasons};
-    ghost use Rattle.sentry_ledger.specs.Held.{quantity_held};
-    ghost use Rattle.sentry_ledger.specs.Histories.{Holds, IsAnswered, accepted, flushed};
-
     fn answer(&mut self, alloc: Global, step: &Step) -> StepAnswer
         ensures answered { IsAnswered (quantity_held self.old) (step.now, result) }
         ensures held { Holds self.new (quantity_held self.old) ((step.now, result) ∷ []) }
