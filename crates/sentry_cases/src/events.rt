@@ -5,7 +5,7 @@ use crate::envelopes::said_envelope;
 use crate::form::{by_line_at, by_tree_at, cloned_at};
 use crate::said::{as_tree, list, shown, text};
 use sentry_types::protocol::v7::{
-    Envelope, EnvelopeItem, Event, FromTreeAt, Member, Span, Transaction, TreeError, Value,
+    Envelope, EnvelopeItem, Event, FromTreeAt, Member, Span, Transaction, Value,
 };
 use std::alloc::{AllocError, Global};
 use std::borrow::CowStr;

@@ -186,20 +186,6 @@ fn beside_tape_at<F: ReadCodecAt<T>, T: Drop>(
     agreed(alloc, told, answered::<F, T>(alloc, &by_tape))
 }
 
-// As `beside_line`, at the moment of reading.
-fn beside_line_at<T: FromTreeAt>(
-    alloc: Global,
-    line: &[u8],
-    told: Value,
-) -> Result<Value, AllocError> {
-    let told = beside_tape_at::<Own, T>(alloc, line, told)?;
-    agreed(
-        alloc,
-        told,
-        answered::<Own, T>(alloc, &by_line_at(alloc, line)),
-    )
-}
-
 // The value that a line shows in a form at the moment of reading, as a tree of values.
 fn by_tree_as_at<F: ReadCodecAt<T>, T: Drop>(alloc: Global, line: &[u8]) -> Result<T, TreeError> {
     F::from_node(alloc, &&read_tree(alloc, line)?, now(), &mut ids())
@@ -223,7 +209,12 @@ pub fn cloned_at<T: FromTreeAt, C: FnOnce(&T) -> Result<T, AllocError>>(
     requires { C.IsAlwaysCallable clone }
 {
     let told = answered_by(alloc, &by_tree_at::<T>(alloc, line), clone)?;
-    beside_line_at::<T>(alloc, line, told)
+    let told = beside_tape_at::<Own, T>(alloc, line, told)?;
+    agreed(
+        alloc,
+        told,
+        answered::<Own, T>(alloc, &by_line_at(alloc, line)),
+    )
 }
 
 // A tree that a clone writes too, in a list.
