@@ -9,7 +9,7 @@ use crate::equal::of_two_trees;
 use crate::ledger::of_history;
 use crate::made::{of_custom, of_new, of_other_unit, of_parts};
 use crate::numbers::of_numbers;
-use crate::said::{text, unknown};
+use crate::said::{known, text};
 use crate::texts::of_text;
 use sentry_types::protocol::v7::{Value, read_tree};
 use sentry_types::{Auth, Dsn};
@@ -35,8 +35,8 @@ fn of_list(alloc: Global, name: &str, items: &[Value]) -> Result<Value, AllocErr
     {
         return of_two_trees(alloc, name, one, other);
     }
-    if let Some(answer) = of_parts(alloc, name, items)? {
-        return Ok(answer);
+    if let Some(answer) = of_parts(alloc, name, items) {
+        return answer;
     }
     match name {
         "Auth::from_pairs" => {
@@ -49,8 +49,8 @@ fn of_list(alloc: Global, name: &str, items: &[Value]) -> Result<Value, AllocErr
 }
 
 fn of_string(alloc: Global, name: &str, given: &str) -> Result<Value, AllocError> {
-    if let Some(answer) = of_bytes(alloc, name, given.as_bytes())? {
-        return Ok(answer);
+    if let Some(answer) = of_bytes(alloc, name, given.as_bytes()) {
+        return answer;
     }
     match name {
         "AttachmentType::Custom" => of_custom(alloc, given),
@@ -65,10 +65,7 @@ fn of_string(alloc: Global, name: &str, given: &str) -> Result<Value, AllocError
             said_auth,
         ),
         "ledger" => of_history(alloc, given),
-        _ => match of_text(alloc, name, given)? {
-            Some(answer) => Ok(answer),
-            None => unknown(alloc),
-        },
+        _ => known(alloc, of_text(alloc, name, given)),
     }
 }
 
@@ -100,10 +97,7 @@ fn of_hex(alloc: Global, name: &str, given: &str) -> Result<Value, AllocError> {
             said_auth,
         );
     }
-    match of_bytes(alloc, name, bytes.as_slice())? {
-        Some(answer) => Ok(answer),
-        None => unknown(alloc),
-    }
+    known(alloc, of_bytes(alloc, name, bytes.as_slice()))
 }
 
 /// The answer to a name and what is given: a line of JSON itself after `tree`, `tape`, `flat` and
@@ -113,10 +107,7 @@ pub fn answer(alloc: Global, name: &str, given: &str) -> Result<Value, AllocErro
         return of_hex(alloc, name, given);
     }
     if name.starts_with("tree ") || matches!(name, "tape" | "flat" | "apart") {
-        return match of_bytes(alloc, name, given.as_bytes())? {
-            Some(answer) => Ok(answer),
-            None => unknown(alloc),
-        };
+        return known(alloc, of_bytes(alloc, name, given.as_bytes()));
     }
     of_json(alloc, name, given)
 }

@@ -34,32 +34,32 @@ pub fn said_bytes(alloc: Global, bytes: &[u8]) -> Result<Value, AllocError> {
 }
 
 /// The answer to a name and bytes, where the name asks about bytes.
-pub fn of_bytes(alloc: Global, name: &str, bytes: &[u8]) -> Result<Option<Value>, AllocError> {
+pub fn of_bytes(alloc: Global, name: &str, bytes: &[u8]) -> Option<Result<Value, AllocError>> {
     if let Some(name) = name.strip_prefix("tree ") {
         return of_tree(alloc, name, bytes);
     }
     if let Some(words) = name.strip_prefix("filter ") {
-        return Ok(Some(of_filter(alloc, words, bytes)?));
+        return Some(of_filter(alloc, words, bytes));
     }
     if let Some(words) = name.strip_prefix("recorded ") {
-        return Ok(Some(of_recorded(alloc, words, bytes)?));
+        return Some(of_recorded(alloc, words, bytes));
     }
     if let Some(words) = name.strip_prefix("asked ") {
-        return Ok(Some(of_answers(alloc, words, bytes)?));
+        return Some(of_answers(alloc, words, bytes));
     }
     if let Some(words) = name.strip_prefix("built ") {
-        return Ok(Some(of_built(alloc, words, bytes)?));
+        return Some(of_built(alloc, words, bytes));
     }
-    Ok(Some(match name {
-        "tape" => of_tape(alloc, bytes)?,
-        "flat" => of_flat(alloc, bytes)?,
-        "apart" => of_apart(alloc, bytes)?,
-        "raw" => said_of(alloc, begun(alloc, "raw", bytes), said_raw)?,
-        "envelope" => said_of(alloc, read(alloc, bytes), said_steady)?,
-        "rewritten" => said_of(alloc, read(alloc, bytes), said_envelope)?,
-        "frames" => of_frames(alloc, bytes)?,
-        "containers" => said_of(alloc, read(alloc, bytes), said_containers)?,
-        "losses" => said_of(alloc, read(alloc, bytes), said_losses)?,
-        _ => return Ok(None),
-    }))
+    Some(match name {
+        "tape" => of_tape(alloc, bytes),
+        "flat" => of_flat(alloc, bytes),
+        "apart" => of_apart(alloc, bytes),
+        "raw" => said_of(alloc, begun(alloc, "raw", bytes), said_raw),
+        "envelope" => said_of(alloc, read(alloc, bytes), said_steady),
+        "rewritten" => said_of(alloc, read(alloc, bytes), said_envelope),
+        "frames" => of_frames(alloc, bytes),
+        "containers" => said_of(alloc, read(alloc, bytes), said_containers),
+        "losses" => said_of(alloc, read(alloc, bytes), said_losses),
+        _ => return None,
+    })
 }

@@ -96,18 +96,18 @@ fn owned_transaction(
 
 /// What is written of the event, or the span or the transaction, that a line shows, or what a call
 /// makes of it.
-pub fn of_event(alloc: Global, name: &str, line: &[u8]) -> Result<Option<Value>, AllocError> {
-    Ok(Some(match name {
-        "Event" => cloned_at(alloc, line, Event::clone)?,
-        "Span" => cloned_at(alloc, line, Span::clone)?,
-        "Transaction" => cloned_at(alloc, line, Transaction::clone)?,
-        "Event::fmt" => printed::<Event<'static>>(alloc, line)?,
-        "Span::fmt" => printed::<Span>(alloc, line)?,
-        "Transaction::fmt" => printed::<Transaction<'static>>(alloc, line)?,
-        "EnvelopeItem::event" => taken(alloc, by_line_at(alloc, line), said_event)?,
-        "EnvelopeItem::transaction" => taken(alloc, by_line_at(alloc, line), said_transaction)?,
-        "Event::into_owned" => taken(alloc, by_line_at(alloc, line), owned_event)?,
-        "Transaction::into_owned" => taken(alloc, by_line_at(alloc, line), owned_transaction)?,
-        _ => return Ok(None),
-    }))
+pub fn of_event(alloc: Global, name: &str, line: &[u8]) -> Option<Result<Value, AllocError>> {
+    Some(match name {
+        "Event" => cloned_at(alloc, line, Event::clone),
+        "Span" => cloned_at(alloc, line, Span::clone),
+        "Transaction" => cloned_at(alloc, line, Transaction::clone),
+        "Event::fmt" => printed::<Event<'static>>(alloc, line),
+        "Span::fmt" => printed::<Span>(alloc, line),
+        "Transaction::fmt" => printed::<Transaction<'static>>(alloc, line),
+        "EnvelopeItem::event" => taken(alloc, by_line_at(alloc, line), said_event),
+        "EnvelopeItem::transaction" => taken(alloc, by_line_at(alloc, line), said_transaction),
+        "Event::into_owned" => taken(alloc, by_line_at(alloc, line), owned_event),
+        "Transaction::into_owned" => taken(alloc, by_line_at(alloc, line), owned_transaction),
+        _ => return None,
+    })
 }

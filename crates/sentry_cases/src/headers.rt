@@ -42,10 +42,10 @@ fn said_sampling(alloc: Global, trace: &DynamicSamplingContext) -> Result<Value,
 }
 
 /// The fields of the header, or of the sampling context, that a line shows.
-pub fn of_fields(alloc: Global, name: &str, line: &[u8]) -> Result<Option<Value>, AllocError> {
-    Ok(Some(match name {
-        "EnvelopeHeaders" => said_of(alloc, read_line(alloc, line), said_header)?,
-        "DynamicSamplingContext" => said_of(alloc, read_line(alloc, line), said_sampling)?,
-        _ => return Ok(None),
-    }))
+pub fn of_fields(alloc: Global, name: &str, line: &[u8]) -> Option<Result<Value, AllocError>> {
+    Some(match name {
+        "EnvelopeHeaders" => said_of(alloc, read_line(alloc, line), said_header),
+        "DynamicSamplingContext" => said_of(alloc, read_line(alloc, line), said_sampling),
+        _ => return None,
+    })
 }

@@ -75,15 +75,15 @@ fn said_code(alloc: Global, id: &CodeId) -> Result<Value, AllocError> {
 }
 
 /// What the text of an id is read as.
-pub fn of_id(alloc: Global, name: &str, given: &str) -> Result<Option<Value>, AllocError> {
-    Ok(Some(match name {
-        "SpanId" => of_span(alloc, given)?,
-        "TraceId" => of_trace(alloc, given)?,
-        "DebugId" => of_debug(alloc, given)?,
-        "ProjectId" => said_of(alloc, ProjectId::from_str(alloc, given), said_project)?,
-        "ProjectId::new" => said_of(alloc, ProjectId::new(alloc, given), shown)?,
-        "OrganizationId" => of_organization(alloc, given)?,
-        "CodeId" => said_of(alloc, CodeId::new(alloc, given), said_code)?,
-        _ => return Ok(None),
-    }))
+pub fn of_id(alloc: Global, name: &str, given: &str) -> Option<Result<Value, AllocError>> {
+    Some(match name {
+        "SpanId" => of_span(alloc, given),
+        "TraceId" => of_trace(alloc, given),
+        "DebugId" => of_debug(alloc, given),
+        "ProjectId" => said_of(alloc, ProjectId::from_str(alloc, given), said_project),
+        "ProjectId::new" => said_of(alloc, ProjectId::new(alloc, given), shown),
+        "OrganizationId" => of_organization(alloc, given),
+        "CodeId" => said_of(alloc, CodeId::new(alloc, given), said_code),
+        _ => return None,
+    })
 }

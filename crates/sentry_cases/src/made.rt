@@ -100,23 +100,27 @@ fn said_log(alloc: Global, log: &Log) -> Result<Value, AllocError> {
     list(alloc, [written, said_losses(alloc, log)])
 }
 
-// What a log of this body and these attributes writes, and what is lost with it.
-fn of_log(
+// A log of this body and these attributes.
+fn log_of(
     alloc: Global,
-    body: String,
+    body: &str,
     attributes: Map<String, LogAttribute>,
-) -> Result<Value, AllocError> {
-    let log = Log {
+) -> Result<Log, AllocError> {
+    let body = String::from_str(alloc, body)?;
+    Ok(Log {
         level: LogLevel::Info,
         body,
         trace_id: None,
         timestamp: now(),
         severity_number: None,
         attributes,
-    };
-    let told = said_log(alloc, &log);
-    drop(log);
-    told
+    })
+}
+
+// What a log of this body and these members as attributes writes, and what is lost with it.
+fn of_log(alloc: Global, body: &str, members: &Map<String, Value>) -> Result<Value, AllocError> {
+    let attributes = attributes(alloc, members)?;
+    said_of(alloc, log_of(alloc, body, attributes), said_log)
 }
 
 // So many arrays, each the one item of the next.
@@ -131,11 +135,8 @@ fn nested(alloc: Global, depth: u64) -> Result<Value, AllocError> {
 // What a log writes whose attribute is so many nested arrays, and what is lost with it.
 fn of_nested(alloc: Global, depth: u64) -> Result<Value, AllocError> {
     let attribute = LogAttribute(nested(alloc, depth)?);
-    of_log(
-        alloc,
-        String::new(alloc),
-        one_entry(alloc, "deep", attribute)?,
-    )
+    let attributes = one_entry(alloc, "deep", attribute)?;
+    said_of(alloc, log_of(alloc, "", attributes), said_log)
 }
 
 // The sums of a report that are above 0: category, reason and sum.
@@ -192,8 +193,8 @@ pub fn of_report(alloc: Global, trees: &[Value]) -> Result<Value, AllocError> {
 }
 
 /// What is made of some parts.
-pub fn of_parts(alloc: Global, name: &str, parts: &[Value]) -> Result<Option<Value>, AllocError> {
-    Ok(Some(match (name, parts) {
+pub fn of_parts(alloc: Global, name: &str, parts: &[Value]) -> Option<Result<Value, AllocError>> {
+    Some(match (name, parts) {
         (
             "Attachment",
             [
@@ -208,32 +209,31 @@ pub fn of_parts(alloc: Global, name: &str, parts: &[Value]) -> Result<Option<Val
                 alloc,
                 attachment_of(alloc, buffer, content_type, filename, ty),
                 said_clone,
-            )?
+            )
         }
         ("Log", [Value::String(body), Value::Object(members)]) => {
-            of_log(alloc, body.clone()?, attributes(alloc, members)?)?
+            of_log(alloc, body.as_str(), members)
         }
         ("Log of nested arrays", [Value::Number(depth)]) => {
-            of_nested(alloc, depth.as_u64().unwrap_or(0))?
+            of_nested(alloc, depth.as_u64().unwrap_or(0))
         }
         ("User with other members", [Value::String(id), Value::Object(members)]) => {
-            of_user(alloc, id.as_str(), members)?
+            of_user(alloc, id.as_str(), members)
         }
         ("Event whose user has another member", [Value::String(key)]) => {
-            of_other_member(alloc, key.as_str())?
+            of_other_member(alloc, key.as_str())
         }
         ("Event whose context has another member", [Value::String(name), Value::String(key)]) =>
-            of_other_context(alloc, name.as_str(), key.as_str())?,
+            of_other_context(alloc, name.as_str(), key.as_str()),
         ("Metric of another unit", [Value::String(unit), metric]) => {
-            of_other_metric(alloc, unit.as_str(), metric)?
+            of_other_metric(alloc, unit.as_str(), metric)
         }
         ("Context with other members", [Value::String(name), Value::Object(members)]) => {
-            let made = context_of(alloc, name.as_str(), members.copy()?);
-            said_of(alloc, made, said_context)?
+            of_members(alloc, name.as_str(), members)
         }
-        ("Report::new", items) => of_report(alloc, items)?,
-        _ => return Ok(None),
-    }))
+        ("Report::new", items) => of_report(alloc, items),
+        _ => return None,
+    })
 }
 
 // A map of one value, under this key.
@@ -269,6 +269,16 @@ fn context_of(alloc: Global, name: &str, other: Map<String, Value>) -> Result<Co
 // The tree of a context, and whether it is plain.
 fn said_context(alloc: Global, context: &Context) -> Result<Value, AllocError> {
     list(alloc, [context.to_tree(alloc), as_tree(context.is_plain())])
+}
+
+// What is said of a context of this type with other members.
+fn of_members(
+    alloc: Global,
+    name: &str,
+    members: &Map<String, Value>,
+) -> Result<Value, AllocError> {
+    let other = members.copy()?;
+    said_of(alloc, context_of(alloc, name, other), said_context)
 }
 
 // A user with other members.

@@ -40,12 +40,12 @@ fn of_rate(alloc: Global, given: &str) -> Result<Value, AllocError> {
 }
 
 /// What a text of a moment or of a sampling value is read as.
-pub fn of_moment_text(alloc: Global, name: &str, given: &str) -> Result<Option<Value>, AllocError> {
-    Ok(Some(match name {
-        "Moment::from_rfc3339" => of_moment(alloc, Moment::from_rfc3339(given))?,
-        "Moment::from_decimal" => of_moment(alloc, Moment::from_decimal(given))?,
-        "SampleRand" => of_rand(alloc, &given.parse::<SampleRand>())?,
-        "SampleRate" => of_rate(alloc, given)?,
-        _ => return Ok(None),
-    }))
+pub fn of_moment_text(alloc: Global, name: &str, given: &str) -> Option<Result<Value, AllocError>> {
+    Some(match name {
+        "Moment::from_rfc3339" => of_moment(alloc, Moment::from_rfc3339(given)),
+        "Moment::from_decimal" => of_moment(alloc, Moment::from_decimal(given)),
+        "SampleRand" => of_rand(alloc, &given.parse::<SampleRand>()),
+        "SampleRate" => of_rate(alloc, given),
+        _ => return None,
+    })
 }

@@ -1,7 +1,7 @@
 //! What numbers are made into.
 
 use crate::moments::{of_moment, of_rand};
-use crate::said::{as_tree, list, none, refused, shown, unknown};
+use crate::said::{as_tree, known, list, none, refused, shown, unknown};
 use crate::words::of_place;
 use sentry_types::protocol::v7::{
     Addr, Decimal, IpAddress, LogSeverityNumber, Moment, OrganizationId, RegVal, SampleRand,
@@ -57,10 +57,7 @@ fn of_one(alloc: Global, name: &str, number: u64) -> Result<Value, AllocError> {
         "LogSeverityNumber" => of_severity(alloc, number),
         "OrganizationId::from" => shown(alloc, &OrganizationId::from(number)),
         "Addr::from" => of_unsigned(alloc, number),
-        _ => match of_place(alloc, name, number as usize)? {
-            Some(answer) => Ok(answer),
-            None => unknown(alloc),
-        },
+        _ => known(alloc, of_place(alloc, name, number as usize)),
     }
 }
 

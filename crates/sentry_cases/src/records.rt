@@ -9,15 +9,15 @@ use sentry_types::protocol::v7::{
 };
 use std::alloc::{AllocError, Global};
 
-fn of_session(alloc: Global, name: &str, line: &[u8]) -> Result<Option<Value>, AllocError> {
-    Ok(Some(match name {
-        "DynamicSamplingContext" => cloned(alloc, line, DynamicSamplingContext::clone)?,
-        "SessionAttributes" => cloned(alloc, line, SessionAttributes::clone)?,
-        "SessionUpdate" => cloned_at(alloc, line, SessionUpdate::clone)?,
-        "SessionAggregateItem" => cloned(alloc, line, SessionAggregateItem::clone)?,
-        "SessionAggregates" => cloned(alloc, line, SessionAggregates::clone)?,
-        _ => return Ok(None),
-    }))
+fn of_session(alloc: Global, name: &str, line: &[u8]) -> Option<Result<Value, AllocError>> {
+    Some(match name {
+        "DynamicSamplingContext" => cloned(alloc, line, DynamicSamplingContext::clone),
+        "SessionAttributes" => cloned(alloc, line, SessionAttributes::clone),
+        "SessionUpdate" => cloned_at(alloc, line, SessionUpdate::clone),
+        "SessionAggregateItem" => cloned(alloc, line, SessionAggregateItem::clone),
+        "SessionAggregates" => cloned(alloc, line, SessionAggregates::clone),
+        _ => return None,
+    })
 }
 
 // What is written of the attribute that is the tree of a line.
@@ -26,22 +26,23 @@ fn of_attribute(alloc: Global, line: &[u8]) -> Result<Value, AllocError> {
     answered_by(alloc, &read, LogAttribute::clone)
 }
 
+fn of_other_record(alloc: Global, name: &str, line: &[u8]) -> Option<Result<Value, AllocError>> {
+    Some(match name {
+        "MonitorSchedule" => cloned(alloc, line, MonitorSchedule::clone),
+        "MonitorConfig" => cloned(alloc, line, MonitorConfig::clone),
+        "MonitorCheckIn" => cloned(alloc, line, MonitorCheckIn::clone),
+        "Log" => cloned(alloc, line, Log::clone),
+        "Metric" => cloned(alloc, line, Metric::clone),
+        "LogAttribute" => cloned(alloc, line, LogAttribute::clone),
+        "LogAttribute::from" => of_attribute(alloc, line),
+        "UserReport" => cloned(alloc, line, UserReport::clone),
+        "Report" => cloned_at(alloc, line, Report::clone),
+        "Item" => own::<Item>(alloc, line),
+        _ => return None,
+    })
+}
+
 /// What is written of the record that a line shows.
-pub fn of_record(alloc: Global, name: &str, line: &[u8]) -> Result<Option<Value>, AllocError> {
-    if let Some(answer) = of_session(alloc, name, line)? {
-        return Ok(Some(answer));
-    }
-    Ok(Some(match name {
-        "MonitorSchedule" => cloned(alloc, line, MonitorSchedule::clone)?,
-        "MonitorConfig" => cloned(alloc, line, MonitorConfig::clone)?,
-        "MonitorCheckIn" => cloned(alloc, line, MonitorCheckIn::clone)?,
-        "Log" => cloned(alloc, line, Log::clone)?,
-        "Metric" => cloned(alloc, line, Metric::clone)?,
-        "LogAttribute" => cloned(alloc, line, LogAttribute::clone)?,
-        "LogAttribute::from" => of_attribute(alloc, line)?,
-        "UserReport" => cloned(alloc, line, UserReport::clone)?,
-        "Report" => cloned_at(alloc, line, Report::clone)?,
-        "Item" => own::<Item>(alloc, line)?,
-        _ => return Ok(None),
-    }))
+pub fn of_record(alloc: Global, name: &str, line: &[u8]) -> Option<Result<Value, AllocError>> {
+    of_session(alloc, name, line).or_else(|| of_other_record(alloc, name, line))
 }

@@ -79,6 +79,14 @@ pub fn unknown(alloc: Global) -> Result<Value, AllocError> {
     text(alloc, "unknown")
 }
 
+/// The answer to a name, if it asks for something.
+pub fn known(
+    alloc: Global,
+    answer: Option<Result<Value, AllocError>>,
+) -> Result<Value, AllocError> {
+    answer.unwrap_or_else(|| unknown(alloc))
+}
+
 /// The answer where nothing is found.
 pub fn none(alloc: Global) -> Result<Value, AllocError> {
     text(alloc, "!")

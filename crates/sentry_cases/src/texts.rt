@@ -45,29 +45,23 @@ fn said_thread_id(alloc: Global, id: &ThreadId) -> Result<Value, AllocError> {
     list(alloc, [id.to_tree(alloc), shown(alloc, id)])
 }
 
-fn of_other_text(alloc: Global, name: &str, given: &str) -> Result<Option<Value>, AllocError> {
-    Ok(Some(match name {
-        "Addr" => of_address(alloc, given)?,
-        "RegVal" => of_register(alloc, given)?,
-        "IpAddress" => printed::<IpAddress>(alloc, given)?,
-        "validate" => Value::from(validate(given)),
-        "MonitorSchedule::from_crontab" => of_crontab(alloc, given)?,
-        "ThreadId::from_text" => said_of(alloc, ThreadId::from_text(alloc, given), said_thread_id)?,
-        "CrontabParseError" => shown(alloc, &CrontabParseError::new(alloc, given)?)?,
-        _ => return Ok(None),
-    }))
+fn of_other_text(alloc: Global, name: &str, given: &str) -> Option<Result<Value, AllocError>> {
+    Some(match name {
+        "Addr" => of_address(alloc, given),
+        "RegVal" => of_register(alloc, given),
+        "IpAddress" => printed::<IpAddress>(alloc, given),
+        "validate" => as_tree(validate(given)),
+        "MonitorSchedule::from_crontab" => of_crontab(alloc, given),
+        "ThreadId::from_text" => said_of(alloc, ThreadId::from_text(alloc, given), said_thread_id),
+        "CrontabParseError" => said_of(alloc, CrontabParseError::new(alloc, given), shown),
+        _ => return None,
+    })
 }
 
 /// What a text is read as, where the name is that of a reader.
-pub fn of_text(alloc: Global, name: &str, given: &str) -> Result<Option<Value>, AllocError> {
-    if let Some(answer) = of_word(alloc, name, given)? {
-        return Ok(Some(answer));
-    }
-    if let Some(answer) = of_id(alloc, name, given)? {
-        return Ok(Some(answer));
-    }
-    if let Some(answer) = of_moment_text(alloc, name, given)? {
-        return Ok(Some(answer));
-    }
-    of_other_text(alloc, name, given)
+pub fn of_text(alloc: Global, name: &str, given: &str) -> Option<Result<Value, AllocError>> {
+    of_word(alloc, name, given)
+        .or_else(|| of_id(alloc, name, given))
+        .or_else(|| of_moment_text(alloc, name, given))
+        .or_else(|| of_other_text(alloc, name, given))
 }

@@ -1,5 +1,6 @@
 //! Words and units.
 
+use crate::asked::said_of;
 use crate::said::{as_tree, list, none, printed, refused, shown, text};
 use sentry_types::IndexedEnum;
 use sentry_types::protocol::v7::{
@@ -35,6 +36,16 @@ fn of_unit(alloc: Global, unit: &Unit) -> Result<Value, AllocError> {
     list(alloc, [text(alloc, unit.as_str()), as_tree(other)])
 }
 
+fn unit_of(alloc: Global, given: &str) -> Result<Unit, AllocError> {
+    Ok(Unit::from(String::from_str(alloc, given)?))
+}
+
+// What is said of the clone of the unit that is made of a `Cow`.
+fn of_cow(alloc: Global, given: &str) -> Result<Value, AllocError> {
+    let unit = Unit::from(CowStr::Owned(String::from_str(alloc, given)?));
+    said_of(alloc, unit.clone(), of_unit)
+}
+
 // A type of attachments, and whether it is one of its own.
 fn of_attachment_type(alloc: Global, given: &str) -> Result<Value, AllocError> {
     let ty = AttachmentType::from_text(alloc, given)?;
@@ -54,29 +65,26 @@ where
 }
 
 /// What a word or a unit is read as.
-pub fn of_word(alloc: Global, name: &str, given: &str) -> Result<Option<Value>, AllocError> {
-    Ok(Some(match name {
-        "Level" => of_level(alloc, given)?,
-        "LogLevel" => word::<LogLevel>(alloc, given)?,
-        "MetricType" => word::<MetricType>(alloc, given)?,
-        "Orientation" => word::<Orientation>(alloc, given)?,
-        "MonitorIntervalUnit" => word::<MonitorIntervalUnit>(alloc, given)?,
+pub fn of_word(alloc: Global, name: &str, given: &str) -> Option<Result<Value, AllocError>> {
+    Some(match name {
+        "Level" => of_level(alloc, given),
+        "LogLevel" => word::<LogLevel>(alloc, given),
+        "MetricType" => word::<MetricType>(alloc, given),
+        "Orientation" => word::<Orientation>(alloc, given),
+        "MonitorIntervalUnit" => word::<MonitorIntervalUnit>(alloc, given),
         "MonitorCheckInStatus" => {
             let status = MonitorCheckInStatus::from_word(given);
-            list(alloc, [text(alloc, status.as_str())])?
+            list(alloc, [text(alloc, status.as_str())])
         }
-        "SpanStatus" => word::<SpanStatus>(alloc, given)?,
-        "SessionStatus" => word::<SessionStatus>(alloc, given)?,
-        "SpanStatus::fmt" => printed::<SpanStatus>(alloc, given)?,
-        "SessionStatus::fmt" => printed::<SessionStatus>(alloc, given)?,
-        "AttachmentType" => of_attachment_type(alloc, given)?,
-        "Unit" => of_unit(alloc, &Unit::from(String::from_str(alloc, given)?))?,
-        "Unit::from(Cow)" => {
-            let cow = CowStr::Owned(String::from_str(alloc, given)?);
-            of_unit(alloc, &Unit::from(cow).clone()?)?
-        }
-        _ => return Ok(None),
-    }))
+        "SpanStatus" => word::<SpanStatus>(alloc, given),
+        "SessionStatus" => word::<SessionStatus>(alloc, given),
+        "SpanStatus::fmt" => printed::<SpanStatus>(alloc, given),
+        "SessionStatus::fmt" => printed::<SessionStatus>(alloc, given),
+        "AttachmentType" => of_attachment_type(alloc, given),
+        "Unit" => said_of(alloc, unit_of(alloc, given), of_unit),
+        "Unit::from(Cow)" => of_cow(alloc, given),
+        _ => return None,
+    })
 }
 
 fn said_place(alloc: Global, word: &str, index: usize) -> Result<Value, AllocError> {
@@ -84,16 +92,16 @@ fn said_place(alloc: Global, word: &str, index: usize) -> Result<Value, AllocErr
 }
 
 /// The word of a place in a list of variants, and the variant's index.
-pub fn of_place(alloc: Global, name: &str, place: usize) -> Result<Option<Value>, AllocError> {
-    Ok(Some(match name {
+pub fn of_place(alloc: Global, name: &str, place: usize) -> Option<Result<Value, AllocError>> {
+    Some(match name {
         "Category::VARIANTS" => match Category::VARIANTS.get(place) {
-            Some(found) => said_place(alloc, found.as_str(), found.as_index())?,
-            None => none(alloc)?,
+            Some(found) => said_place(alloc, found.as_str(), found.as_index()),
+            None => none(alloc),
         },
         "Reason::VARIANTS" => match Reason::VARIANTS.get(place) {
-            Some(found) => said_place(alloc, found.as_str(), found.as_index())?,
-            None => none(alloc)?,
+            Some(found) => said_place(alloc, found.as_str(), found.as_index()),
+            None => none(alloc),
         },
-        _ => return Ok(None),
-    }))
+        _ => return None,
+    })
 }
