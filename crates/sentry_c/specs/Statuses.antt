@@ -3,7 +3,7 @@ use Rattle.std.specs.Prelude.{◌≡◌, ℕ, ℤ, pos, List}
 use Rattle.sentry_framing.specs.declared.error.EnvelopeError.{EnvelopeError}
 use Rattle.sentry_framing.specs.declared.error.EnvelopeError.TheVariants as refusals
 use Rattle.sentry_keys.specs.Auth.{HasNoKey, HasUnreadableVersion}
-use Rattle.sentry_keys.specs.AuthText.{IsSentry, header_pairs}
+use Rattle.sentry_keys.specs.AuthText.{BeginsWithSentry, header_pairs}
 use Rattle.sentry_keys.specs.Dsn.{IsRefused, UnlessMemory}
 use Rattle.sentry_keys.specs.declared.auth.ParseAuthError.{ParseAuthError}
 use Rattle.sentry_keys.specs.declared.auth.ParseAuthError.TheVariants as auth
@@ -45,9 +45,9 @@ pub record IsDsnRefusal (text : List ℕ) (status : ℤ) : Type 0 where
 
 -- what is refused as a header, by the error
 abbrev pub RefusesHeader : List ℕ → ParseAuthError → Type 0
-RefusesHeader text auth.NonSentryAuth = IsSentry text → ⊥
-RefusesHeader text auth.InvalidVersion = IsSentry text × HasUnreadableVersion (header_pairs text)
-RefusesHeader text auth.MissingPublicKey = IsSentry text × HasNoKey (header_pairs text)
+RefusesHeader text auth.NonSentryAuth = BeginsWithSentry text → ⊥
+RefusesHeader text auth.InvalidVersion = BeginsWithSentry text × HasUnreadableVersion (header_pairs text)
+RefusesHeader text auth.MissingPublicKey = BeginsWithSentry text × HasNoKey (header_pairs text)
 RefusesHeader text auth.Memory = Unit {0}
 
 -- The status is that of an error that refuses the text as a header.

@@ -1,7 +1,7 @@
 -- The parts of small texts as places in their printed form.
 use Rattle.std.specs.Prelude.{◌≡◌, ◌⊎◌, ℕ, ◌+◌, ◌-◌, List, [], length, Option, Some, None, unwrap_or}
 use Rattle.sentry_keys.specs.Auth.{IsAuth, Parts, Time}
-use Rattle.sentry_keys.specs.AuthText.{IsSentry, auth_text, header_pairs}
+use Rattle.sentry_keys.specs.AuthText.{BeginsWithSentry, auth_text, header_pairs}
 use Rattle.sentry_keys.specs.Dsn.{DsnParts, IsDsnText, dsn_text, port_of}
 use Rattle.sentry_keys.specs.DsnOrganization.{NamesOrganization}
 use Rattle.sentry_keys.specs.DsnScheme.{scheme_index}
@@ -77,7 +77,7 @@ pub record ShowsAuth (shown : SentryAuth) (parts : Parts) : Type 0 where
 
 -- a header tells these parts
 abbrev pub IsHeader : List ℕ → Parts → Type 0
-IsHeader given parts = IsSentry given × IsAuth (header_pairs given) parts
+IsHeader given parts = BeginsWithSentry given × IsAuth (header_pairs given) parts
 
 -- the printed form of the authentication that a header tells
 pub record IsAuthPrinted (given printed : List ℕ) : Type 0 where

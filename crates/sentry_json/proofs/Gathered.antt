@@ -13,20 +13,20 @@ use Rattle.sentry_json.proofs.Beside.{beside_named, beside_put}
 use Rattle.sentry_json.specs.Sound.{IsOrdered}
 use Rattle.sentry_json.proofs.Regular.{put_ordered}
 use Rattle.sentry_json.specs.Keys.{is_among, beside}
-use Rattle.sentry_json.specs.Nodes.{items_by, named_after, named_by}
+use Rattle.sentry_json.specs.Nodes.{items_data, named_after, named_by}
 use Rattle.sentry_json.specs.declared.object.Named.{Named}
 
-pub more_items : {N : Type 0} (f : N → Data) (xs : List N) (x : N) (vs : List Value) (v : Value) → items_by f xs ≡ items_view vs → f x ≡ view v → items_by f (xs ++ x ∷ []) ≡ items_view (vs ++ v ∷ [])
+pub more_items : {N : Type 0} (f : N → Data) (xs : List N) (x : N) (vs : List Value) (v : Value) → items_data f xs ≡ items_view vs → f x ≡ view v → items_data f (xs ++ x ∷ []) ≡ items_view (vs ++ v ∷ [])
 more_items f [] x [] v h s = ap (λ d. item d no_items) s
 more_items f [] x (w ∷ vs) v h s = absurd cc
 more_items f (y ∷ xs) x [] v h s = absurd cc
 more_items f (y ∷ xs) x (w ∷ vs) v h s =
     let a : f y ≡ view w = cc in
-    let b : items_by f xs ≡ items_view vs = cc in
+    let b : items_data f xs ≡ items_view vs = cc in
     let r = more_items f xs x vs v b s in cc
 
-pub more_items_at : {N : Type 0} (f : N → Data) (xs new : List N) (x : N) (vs : List Value) (i : ℕ) (v : Value) → i < length vs → v ≡ get_or vs i v → new ≡ xs ++ x ∷ [] → items_by f xs ≡ items_view (take i vs) → f x ≡ view v
-    → items_by f new ≡ items_view (take (i + 1) vs)
+pub more_items_at : {N : Type 0} (f : N → Data) (xs new : List N) (x : N) (vs : List Value) (i : ℕ) (v : Value) → i < length vs → v ≡ get_or vs i v → new ≡ xs ++ x ∷ [] → items_data f xs ≡ items_view (take i vs) → f x ≡ view v
+    → items_data f new ≡ items_view (take (i + 1) vs)
 more_items_at f xs new x vs i v lt at made h s = rw (take_more vs i v lt, ← at, made) (more_items f xs x (take i vs) v h s)
 
 -- the data of some nodes, and then those of ds
@@ -34,7 +34,7 @@ abbrev pub items_before : {N : Type 0} → (N → Data) → List N → Items →
 items_before f [] ds = ds
 items_before f (x ∷ xs) ds = item (f x) (items_before f xs ds)
 
-pub items_before_none : {N : Type 0} (f : N → Data) (xs : List N) → items_before f xs no_items ≡ items_by f xs
+pub items_before_none : {N : Type 0} (f : N → Data) (xs : List N) → items_before f xs no_items ≡ items_data f xs
 items_before_none f [] = refl
 items_before_none f (x ∷ xs) = ap (item (f x)) (items_before_none f xs)
 

@@ -4,7 +4,7 @@ use Rattle.std.proofs.lemmas.List.{drop_at}
 use Rattle.serde_json.specs.Data.{Data, array, object, Items, no_items, item, no_members, put}
 use Rattle.sentry_json.specs.Line.{tree_of}
 use Rattle.sentry_json.specs.Lists.{list_at, VisitsAll}
-use Rattle.sentry_json.specs.Nodes.{items_by}
+use Rattle.sentry_json.specs.Nodes.{items_data}
 use Rattle.sentry_json.specs.Spelled.{Spells, SpellsString, IsSpaced}
 use Rattle.sentry_json.specs.Tokens.{width, text_of, value_of, items_of, members_of, tokens_value}
 use Rattle.sentry_json.specs.declared.tape.token.Token.{Token}
@@ -20,7 +20,7 @@ abbrev pub and_then : List Data → Items → Items
 and_then [] js = js
 and_then (d ∷ ds) js = item d (and_then ds js)
 
-and_none : (ds : List Data) → and_then ds no_items ≡ items_by (λ d. d) ds
+and_none : (ds : List Data) → and_then ds no_items ≡ items_data (λ d. d) ds
 and_none [] = refl
 and_none (d ∷ ds) = ap (item d) (and_none ds)
 
@@ -33,7 +33,7 @@ abbrev pub Mean : List Token → List Data → Type 0
 Mean done items = (ts : List Token) → items_of (done ++ ts) ≡ and_then items (items_of ts)
 
 -- and there are no others
-pub all_mean : (all : List Token) (items : List Data) → Mean all items → items_of all ≡ items_by (λ d. d) items
+pub all_mean : (all : List Token) (items : List Data) → Mean all items → items_of all ≡ items_data (λ d. d) items
 all_mean all items mean = ap items_of (sym (append-nil all)) ∙ mean [] ∙ ap (and_then items) items_end ∙ and_none items
 
 pub means_next : (done : List Token) (items : List Data) (first : Token) (inside : List Token) → width first ≡ length inside → Mean done items → Mean (done ++ (first ∷ inside)) (items ++ value_of first inside ∷ [])
@@ -49,7 +49,7 @@ visited_next visits first (e ∷ es) d last after (next, one_more, more) one = (
 -- ---- the line
 
 -- an object of one key and an array
-one_member : (key : List ℕ) (k : Token) (all : List Token) (items : List Data) → text_of k ≡ Some key → items_of all ≡ items_by (λ d. d) items
+one_member : (key : List ℕ) (k : Token) (all : List Token) (items : List Data) → text_of k ≡ Some key → items_of all ≡ items_data (λ d. d) items
     → tokens_value (token.Object (length (k ∷ token.Array (length all) ∷ all)) ∷ k ∷ token.Array (length all) ∷ all) ≡ list_at key items
 one_member key k all items named are =
     let list = token.Array (length all) in
@@ -67,7 +67,7 @@ one_member key k all items named are =
 pub list_line : (line text front brace first behind colon_at colon value inside list close rest end : List ℕ) (k : Token) (key : List ℕ) (all : List Token) (items : List Data)
     → text ≡ line → IsUtf8 line → IsSpaced text front → front ≡ 123 ∷ brace → IsSpaced brace first → SpellsString first behind k → text_of k ≡ Some key
     → IsSpaced behind colon_at → colon_at ≡ 58 ∷ colon → IsSpaced colon value → value ≡ 91 ∷ inside
-    → Spells (91 ∷ inside) list (token.Array (length all)) all 126 → items_of all ≡ items_by (λ d. d) items
+    → Spells (91 ∷ inside) list (token.Array (length all)) all 126 → items_of all ≡ items_data (λ d. d) items
     → IsSpaced list close → close ≡ 125 ∷ rest → IsSpaced rest end → end ≡ [] → tree_of line ≡ Some (list_at key items)
 list_line line text front brace first behind colon_at colon value inside list close rest end k key all items same utf8 at_front opens at_key name named at_colon is_colon at_value is_list spelled are at_close closes at_end none =
     let before_key = skipped true true brace brace first [] 126 at_key (begins true brace 126) in

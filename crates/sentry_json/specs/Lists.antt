@@ -2,11 +2,11 @@
 use Rattle.std.specs.Prelude.{◌≡◌, ℕ, List, [], ◌∷◌, Some}
 use Rattle.serde_json.specs.Data.{Data, array, object, no_members, member}
 use Rattle.sentry_json.specs.Line.{tree_of}
-use Rattle.sentry_json.specs.Nodes.{items_by}
+use Rattle.sentry_json.specs.Nodes.{items_data}
 
 -- an object of one member, the array of these items
 abbrev pub list_at : List ℕ → List Data → Data
-list_at key items = object (member key (array (items_by (λ d. d) items)) no_members)
+list_at key items = object (member key (array (items_data (λ d. d) items)) no_members)
 
 -- a visitor comes from the first state to the last by the items, one after the other
 abbrev pub VisitsAll : {S : Type 0} → (S → Data → S → Type 0) → S → List Data → S → Type 0

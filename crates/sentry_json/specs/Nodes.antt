@@ -5,9 +5,9 @@ use Rattle.sentry_json.specs.declared.object.Named.{Named}
 use Rattle.sentry_json.specs.declared.object.Object.{Object}
 
 -- the data of a list of nodes
-abbrev pub items_by : {N : Type 0} → (N → Data) → List N → Items
-items_by data_of [] = no_items
-items_by data_of (x ∷ xs) = item (data_of x) (items_by data_of xs)
+abbrev pub items_data : {N : Type 0} → (N → Data) → List N → Items
+items_data data_of [] = no_items
+items_data data_of (x ∷ xs) = item (data_of x) (items_data data_of xs)
 
 -- the members that come, put one after the other among those before
 abbrev pub named_after : {N : Type 0} → (N → Data) → Members → List (Named N) → Members
@@ -19,5 +19,5 @@ abbrev pub named_by : {N : Type 0} → (N → Data) → List (Named N) → Membe
 named_by data_of ms = named_after data_of no_members ms
 
 -- the tree of an object whose members were walked
-abbrev pub tree_of : {N : Type 0} → (N → Data) → Object N → Data
-tree_of data_of o = object (named_by data_of o.members.items)
+abbrev pub object_data : {N : Type 0} → (N → Data) → Object N → Data
+object_data data_of o = object (named_by data_of o.members.items)

@@ -6,7 +6,7 @@ ghost use Rattle.serde_json.specs.Find as find;
 ghost use Rattle.serde_json.specs.View.{view, number_view};
 ghost use Rattle.sentry_json.specs.Sound.{IsRanged};
 ghost use Rattle.sentry_json.specs.Keys.{are_distinct};
-ghost use Rattle.sentry_json.specs.Nodes.{items_by, named_by};
+ghost use Rattle.sentry_json.specs.Nodes.{items_data, named_by};
 
 use crate::object::Named;
 use serde_json::{Number, Value};
@@ -72,7 +72,7 @@ pub trait Node: Sized + Drop {
     ///
     /// `AllocError` if an allocation fails.
     fn items(&self, alloc: Global) -> Result<Option<Vec<Self>>, AllocError>
-        ensures { IfOk result (λ o. option_map (λ v. items_by data_of v.items) o
+        ensures { IfOk result (λ o. option_map (λ v. items_data data_of v.items) o
             ≡ find.as_array (data_of self.now)) };
 
     /// Returns the members of an object, in the order of the tree; `None` for other nodes.

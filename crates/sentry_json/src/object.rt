@@ -4,7 +4,7 @@ ghost use Rattle.std.specs.Prelude.{◌≡◌, map, option_map, IfOk};
 ghost use Rattle.serde_json.specs.Find as find;
 ghost use Rattle.serde_json.specs.View.{members_view};
 ghost use Rattle.sentry_json.specs.Keys.{beside};
-ghost use Rattle.sentry_json.specs.Nodes.{named_by, tree_of};
+ghost use Rattle.sentry_json.specs.Nodes.{named_by, object_data};
 
 use crate::keys::{is_among, is_same};
 use crate::node::Node;
@@ -43,7 +43,7 @@ impl<'n, N: Node> Object<'n, N> {
     /// Returns the node at a key; `None` if absent.
     pub fn get(&self, key: &str) -> Option<&N>
         ensures { option_map (λ node. N.data_of node.now) result
-            ≡ find.get key.now (tree_of N.data_of self.now) }
+            ≡ find.get key.now (object_data N.data_of self.now) }
     {
         let mut left = self.members.len();
         while left > 0 {

@@ -12,7 +12,7 @@ use Rattle.sentry_moments.proofs.DecimalReadBack.{decimal_reads_back}
 use Rattle.sentry_moments.proofs.Places.{is_cut}
 use Rattle.sentry_keys.specs.Auth.{Pair, Time, Parts, timestamp_key, client_key, version_key, key_key, secret_key, IsVersion, IsTime, Tell, IsAuth}
 use Rattle.sentry_keys.specs.AuthClean.{IsClean, AreClean}
-use Rattle.sentry_keys.specs.AuthText.{first_two, item_pair, list_pairs, header_pairs, IsSentry, part_text, time_text, auth_text}
+use Rattle.sentry_keys.specs.AuthText.{first_two, item_pair, list_pairs, header_pairs, BeginsWithSentry, part_text, time_text, auth_text}
 use Rattle.sentry_keys.proofs.AuthLaws.{one_auth}
 use Rattle.sentry_keys.proofs.AuthTexts.{lacks, lacks_append, lacks_comma, lacks_equals, cut_at, uncut, before_none, AreVisible, visible_append, visible_digits, visible_lacks, digits_lack_points, trims_nothing}
 
@@ -130,7 +130,7 @@ read_pairs : (a : Parts) → AreClean a → header_pairs (auth_text a) ≡ pairs
 unfolding pairs_of
 read_pairs a h = ap list_pairs (text_is a) ∙ listed (further a) key_key key_key a.key key_name (clean_kept a.key h.key) (further_kept a h)
 
-pub begins : (a : Parts) → IsSentry (auth_text a)
+pub begins : (a : Parts) → BeginsWithSentry (auth_text a)
 begins a = refl
 
 is_version : (n : ℕ) → n < 2 ^ 16 → IsVersion (decimal n) n

@@ -39,8 +39,8 @@ abbrev pub list_pairs : List ℕ → List Pair
 list_pairs items = filter_map item_pair (slice_split (λ b. b == 44) items)
 
 -- the text begins with the word `sentry`, in any case, and a space, or is that word
-abbrev pub IsSentry : List ℕ → Type 0
-IsSentry text = map to_ascii_lowercase (before_first (λ b. b == 32) text) ≡ codes "sentry"
+abbrev pub BeginsWithSentry : List ℕ → Type 0
+BeginsWithSentry text = map to_ascii_lowercase (before_first (λ b. b == 32) text) ≡ codes "sentry"
 
 -- the pairs that follow the word
 abbrev pub header_pairs : List ℕ → List Pair
@@ -48,10 +48,10 @@ header_pairs text = list_pairs (after_first (λ b. b == 32) text)
 
 -- What reading a header answers.
 abbrev pub ReadsHeader : List ℕ → Result Auth ParseAuthError → Type 0
-ReadsHeader text (Ok auth) = IsSentry text × IsAuth (header_pairs text) (parts_of auth)
-ReadsHeader text (Err NonSentryAuth) = IsSentry text → ⊥
-ReadsHeader text (Err InvalidVersion) = IsSentry text × HasUnreadableVersion (header_pairs text)
-ReadsHeader text (Err MissingPublicKey) = IsSentry text × HasNoKey (header_pairs text)
+ReadsHeader text (Ok auth) = BeginsWithSentry text × IsAuth (header_pairs text) (parts_of auth)
+ReadsHeader text (Err NonSentryAuth) = BeginsWithSentry text → ⊥
+ReadsHeader text (Err InvalidVersion) = BeginsWithSentry text × HasUnreadableVersion (header_pairs text)
+ReadsHeader text (Err MissingPublicKey) = BeginsWithSentry text × HasNoKey (header_pairs text)
 ReadsHeader text (Err Memory) = Unit {0}
 
 -- ---- what is printed

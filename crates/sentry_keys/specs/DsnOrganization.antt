@@ -11,12 +11,12 @@ abbrev pub sentry : List (List ℕ)
 sentry = codes "sentry" ∷ codes "io" ∷ []
 
 -- `sentry.io`, or `X.sentry.io` for a region X
-abbrev pub IsSentry : List (List ℕ) → Type 0
-IsSentry host = (host ≡ sentry) ⊎ ((region : List ℕ) × (host ≡ region ∷ sentry))
+abbrev pub IsSentryHost : List (List ℕ) → Type 0
+IsSentryHost host = (host ≡ sentry) ⊎ ((region : List ℕ) × (host ≡ region ∷ sentry))
 
 -- `oN.ingest.` and a host of Sentry's
 abbrev pub IsIngestHost : List (List ℕ) → List ℕ → Type 0
-IsIngestHost host n = (rest : List (List ℕ)) × (host ≡ (codes "o" ++ n) ∷ codes "ingest" ∷ rest) × IsSentry rest
+IsIngestHost host n = (rest : List (List ℕ)) × (host ≡ (codes "o" ++ n) ∷ codes "ingest" ∷ rest) × IsSentryHost rest
 
 -- digits alone, of a number of at most 64 bits
 abbrev pub IsDigits : List ℕ → ℕ → Type 0

@@ -7,7 +7,7 @@ ghost use Rattle.sentry_tables.specs.Norm.{norm};
 ghost use Rattle.sentry_keys.specs.Auth.{Pair, Parts, IsAuth, HasUnreadableVersion, HasNoKey};
 ghost use Rattle.sentry_keys.specs.AuthClean.{AreClean};
 ghost use Rattle.sentry_keys.specs.AuthFields.{auth_kind, IsBeside};
-ghost use Rattle.sentry_keys.specs.AuthText.{IsSentry, header_pairs, auth_text};
+ghost use Rattle.sentry_keys.specs.AuthText.{BeginsWithSentry, header_pairs, auth_text};
 
 /// Client authentication in JSON: null is rejected, and the normal form has no timestamp.
 pub fn auth_trees()
@@ -31,7 +31,7 @@ pub fn auths_of_pairs()
 /// version has 16 bits, the timestamp is that of a moment, the public key isn't empty, and each
 /// text has no comma, no `=` and no surrounding white space.
 pub fn auth_texts()
-    ensures word { (a : Parts) → IsSentry (auth_text a) }
+    ensures word { (a : Parts) → BeginsWithSentry (auth_text a) }
     ensures back { (a : Parts) → AreClean a → (b : Parts) → IsAuth (header_pairs (auth_text a)) b ↔
         (b ≡ a) }
 {}

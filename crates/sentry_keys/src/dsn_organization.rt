@@ -2,7 +2,7 @@
 
 ghost use Rattle.std.specs.Prelude.{◌≡◌, ◌↔◌, ◌∷◌, [], ℕ, List, IsTrue, MatchOption};
 ghost use Rattle.sentry_text.specs.ProjectId.{organization_value};
-ghost use Rattle.sentry_keys.specs.DsnOrganization.{labels, sentry, IsSentry, IsIngestHost, IsDigits, NamesOrganization};
+ghost use Rattle.sentry_keys.specs.DsnOrganization.{labels, sentry, IsSentryHost, IsIngestHost, IsDigits, NamesOrganization};
 
 use sentry_text::OrganizationId;
 
@@ -22,7 +22,7 @@ fn is_sentry_io(host: &str) -> bool
 
 // Whether the host is `sentry.io` or `X.sentry.io`, where `X` is one label.
 fn is_sentry(host: &str) -> bool
-    ensures { IsTrue result ↔ IsSentry (labels host.now) }
+    ensures { IsTrue result ↔ IsSentryHost (labels host.now) }
 {
     is_sentry_io(host) || first_label(host).is_some_and(|(_region, rest)| is_sentry_io(rest))
 }

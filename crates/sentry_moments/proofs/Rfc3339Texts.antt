@@ -12,7 +12,7 @@ use Rattle.jiff_core.proofs.SignedLemmas.{signed_arith}
 use Rattle.sentry_json.proofs.Integers.{power_below}
 use Rattle.sentry_moments.specs.Digits.{front_digits, after_digits}
 use Rattle.sentry_moments.specs.Rfc3339.{IsFraction, Absent, Present, nanoseconds, IsZone, Upper, Lower, Ahead, Behind, IsRfc3339, date_text, clock_text}
-use Rattle.sentry_moments.specs.Rfc3339Parts.{IsDateAndTime, IsMoment, fraction}
+use Rattle.sentry_moments.specs.Rfc3339Parts.{IsDateAndTime, IsMomentText, fraction}
 use Rattle.sentry_moments.proofs.Fronts.{front_digits_are, front_and_rest, front_again, after_again as digits_after}
 use Rattle.sentry_moments.proofs.Shifts.{all_digits_append, all_digits_take}
 use Rattle.sentry_moments.proofs.DateAndTimes.{date_and_time_size, one_date_and_time, date_and_time_or_not}
@@ -90,7 +90,7 @@ zone_begins text n (Behind h m a b) = (refl, refl)
 -- ---- the whole text
 
 -- where the parts of a text stand
-pub placed : (text : List ℕ) (secs : ℤ) (nanos : ℕ) → (r : IsMoment text secs nanos) → (19 ≤ length text) × IsDateAndTime (take 19 text) r.day r.second × (fraction (drop 19 text) ≡ Some (nanos, r.zone_text))
+pub placed : (text : List ℕ) (secs : ℤ) (nanos : ℕ) → (r : IsMomentText text secs nanos) → (19 ≤ length text) × IsDateAndTime (take 19 text) r.day r.second × (fraction (drop 19 text) ≡ Some (nanos, r.zone_text))
 placed text secs nanos r =
     let rest = r.fraction_text ++ r.zone_text in
     let long = date_and_time_size r.front r.day r.second r.is_date_and_time in
@@ -103,7 +103,7 @@ placed text secs nanos r =
       rw (after, r.nanoseconds_is) (fraction_again r.fraction_text r.fraction r.zone_text r.is_fraction begins.0 begins.1),
     )
 
-pub named : (text zone_text : List ℕ) (day : ℤ) (second nanos : ℕ) (offset : ℤ) → IsDateAndTime (take 19 text) day second → fraction (drop 19 text) ≡ Some (nanos, zone_text) → IsZone zone_text offset → IsMoment text (day *ℤ pos 86_400 +ℤ pos second -ℤ offset) nanos
+pub named : (text zone_text : List ℕ) (day : ℤ) (second nanos : ℕ) (offset : ℤ) → IsDateAndTime (take 19 text) day second → fraction (drop 19 text) ≡ Some (nanos, zone_text) → IsZone zone_text offset → IsMomentText text (day *ℤ pos 86_400 +ℤ pos second -ℤ offset) nanos
 named text zone_text day second nanos offset date e zone =
     let part = fraction_takes (drop 19 text) nanos zone_text e in
     record {
@@ -122,7 +122,7 @@ named text zone_text day second nanos offset date e zone =
       nanoseconds_is = part.number;
     }
 
-pub same_moment : (text : List ℕ) (s t : ℤ) (m n : ℕ) → IsMoment text s m → IsMoment text t n → (s ≡ t) × (m ≡ n)
+pub same_moment : (text : List ℕ) (s t : ℤ) (m n : ℕ) → IsMomentText text s m → IsMomentText text t n → (s ≡ t) × (m ≡ n)
 same_moment text s t m n a b =
     let first = placed text s m a in
     let other = placed text t n b in
@@ -133,7 +133,7 @@ same_moment text s t m n a b =
 
 -- ---- from 1970 to the end of the year 9999
 
-pub as_rfc3339 : (text : List ℕ) (secs nanos : ℕ) → IsMoment text (pos secs) nanos → secs ≤ 253_402_300_799 → IsRfc3339 text secs nanos
+pub as_rfc3339 : (text : List ℕ) (secs nanos : ℕ) → IsMomentText text (pos secs) nanos → secs ≤ 253_402_300_799 → IsRfc3339 text secs nanos
 as_rfc3339 text secs nanos r bound =
     let d = r.is_date_and_time in
     record {
@@ -153,7 +153,7 @@ as_rfc3339 text secs nanos r bound =
       in_range = (bound, rw r.nanoseconds_is (nanoseconds_small r.fraction_text r.fraction r.is_fraction));
     }
 
-pub as_moment : (text : List ℕ) (secs nanos : ℕ) → IsRfc3339 text secs nanos → IsMoment text (pos secs) nanos
+pub as_moment : (text : List ℕ) (secs nanos : ℕ) → IsRfc3339 text secs nanos → IsMomentText text (pos secs) nanos
 as_moment text secs nanos r = record {
   front = date_text r.civil ++ r.separator ∷ clock_text r.civil;
   fraction = r.fraction;
@@ -181,7 +181,7 @@ one_moment text secs nanos s n a b =
 abbrev pub IsDecided : List ℕ → Type 0
 IsDecided text = ((secs : ℕ) × (nanos : ℕ) × IsRfc3339 text secs nanos) ⊎ ((secs nanos : ℕ) → IsRfc3339 text secs nanos → ⊥)
 
-decided : (text : List ℕ) (s : ℤ) (n : ℕ) → IsMoment text s n → IsDecided text
+decided : (text : List ℕ) (s : ℤ) (n : ℕ) → IsMomentText text s n → IsDecided text
 decided text (pos s) n r =
     elim (cases_lt 253_402_300_799 s) [
       | inl late ↦ inr (λ secs nanos h. omega (arith, signed_arith, (same_moment text (pos secs) (pos s) nanos n (as_moment text secs nanos h) r).0, late, h.in_range.0))

@@ -18,7 +18,7 @@ pub record IsDateAndTime (text : List ℕ) (day : ℤ) (second : ℕ) : Type 0 w
 
 -- the text names the moment this many seconds and nanoseconds after 1970-01-01T00:00:00Z; the
 -- seconds are negative before 1970
-pub record IsMoment (text : List ℕ) (secs : ℤ) (nanos : ℕ) : Type 0 where
+pub record IsMomentText (text : List ℕ) (secs : ℤ) (nanos : ℕ) : Type 0 where
   pub front : List ℕ
   pub fraction : List ℕ
   pub fraction_text : List ℕ

@@ -199,8 +199,8 @@ fn seconds(day: i32, second: u32, offset: i32) -> i64
 // Parses an RFC 3339 text: the seconds since 1970-01-01T00:00:00Z, which are negative before 1970,
 // and the nanoseconds.
 pub(crate) fn read(text: &[u8]) -> Option<(i64, u32)>
-    ensures found { IfSome result (λ p. spec.IsMoment text.now p.0 p.1) }
-    ensures only { (secs : ℤ) (nanos : ℕ) → spec.IsMoment text.now secs nanos →
+    ensures found { IfSome result (λ p. spec.IsMomentText text.now p.0 p.1) }
+    ensures only { (secs : ℤ) (nanos : ℕ) → spec.IsMomentText text.now secs nanos →
         result ≡ Some (secs, nanos) }
     ensures bound { IfSome result (λ p. IsWithin 1_000_000_000_000 p.0 × (p.1 < 1_000_000_000)) }
 {

@@ -9,7 +9,7 @@ use Rattle.sentry_json.proofs.Beside.{among}
 use Rattle.sentry_tables.specs.Cell.{Cell, same_cell}
 use Rattle.sentry_tables.specs.Kind.{map, tagged, tagged_map, Cases, words, tag}
 use Rattle.sentry_tables.specs.Norm.{norm}
-use Rattle.sentry_tables.specs.Shows.{MembersShow, word_at, word_of}
+use Rattle.sentry_tables.specs.Shows.{MembersShow, word_at, tag_word}
 use Rattle.sentry_tables.proofs.ListsShown.{shown_nowhere, mapping_refused}
 use Rattle.sentry_tables.proofs.Sorted.{MapEntry}
 use Rattle.sentry_tables.specs.Cells.{entries, map_cell, empty_map}
@@ -44,29 +44,29 @@ is_usual cases fallback f es b is = rw is (usual_at cases fallback f es)
 
 -- ---- the word of a member
 
-pub tag_there : (k : List ℕ) (ws : List (List ℕ)) (fallback : List ℕ) (d e : Data) → get tag d ≡ Some e → option_and_then as_str (get tag d) ≡ word_of (Some (word_at k ws fallback)) d
+pub tag_there : (k : List ℕ) (ws : List (List ℕ)) (fallback : List ℕ) (d e : Data) → get tag d ≡ Some e → option_and_then as_str (get tag d) ≡ tag_word (Some (word_at k ws fallback)) d
 tag_there k ws fallback d e is = rw is refl
 
-pub key_known : (k : List ℕ) (ws : List (List ℕ)) (fallback : List ℕ) (d : Data) (n : ℕ) → get tag d ≡ None → StandsAt k n ws → Some k ≡ word_of (Some (word_at k ws fallback)) d
+pub key_known : (k : List ℕ) (ws : List (List ℕ)) (fallback : List ℕ) (d : Data) (n : ℕ) → get tag d ≡ None → StandsAt k n ws → Some k ≡ tag_word (Some (word_at k ws fallback)) d
 key_known k ws fallback d n is at = rw (is, among k n ws at) refl
 
-pub key_unknown : (k : List ℕ) (ws : List (List ℕ)) (fallback : List ℕ) (d : Data) → get tag d ≡ None → is_among k ws ≡ false → Some fallback ≡ word_of (Some (word_at k ws fallback)) d
+pub key_unknown : (k : List ℕ) (ws : List (List ℕ)) (fallback : List ℕ) (d : Data) → get tag d ≡ None → is_among k ws ≡ false → Some fallback ≡ tag_word (Some (word_at k ws fallback)) d
 key_unknown k ws fallback d is none = rw (is, none) refl
 
 -- ---- a member
 
 module _ (now : Cell) (cases : Cases) (fallback key : List ℕ) where
-  pub entry_read : {A : Type 0} (f : A → Cell) (word : List ℕ) (n : ℕ) (d : Data) (r : Result A TreeError) → Some word ≡ word_of (Some (word_at key (words cases) fallback)) d → StandsAt word n (words cases) → are_distinct (words cases) ≡ true → ReadsCaseAt now cases f n d r → ReadsEntryAt now cases fallback f key d r
+  pub entry_read : {A : Type 0} (f : A → Cell) (word : List ℕ) (n : ℕ) (d : Data) (r : Result A TreeError) → Some word ≡ tag_word (Some (word_at key (words cases) fallback)) d → StandsAt word n (words cases) → are_distinct (words cases) ≡ true → ReadsCaseAt now cases f n d r → ReadsEntryAt now cases fallback f key d r
   unfolding EntryShownAt EntryRefusedAt
   entry_read f word n d (Ok v) is at once h = rw (← is) (shown_by_word now cases word n d (f v) at h)
   entry_read f word n d (Err Misfit) is at once h = λ c s. refused_by_word now cases word n d c at once h (rw (← is) at s)
   entry_read f word n d (Err Memory) is at once h = tt
 
-  pub unknown_entry : (word : List ℕ) (d : Data) → Some word ≡ word_of (Some (word_at key (words cases) fallback)) d → is_among word (words cases) ≡ false → EntryRefusedAt now cases fallback key d
+  pub unknown_entry : (word : List ℕ) (d : Data) → Some word ≡ tag_word (Some (word_at key (words cases) fallback)) d → is_among word (words cases) ≡ false → EntryRefusedAt now cases fallback key d
   unfolding EntryRefusedAt
   unknown_entry word d is none c s = choice_refused _ c (λ n x t. other_words now word d cases n x none (rw (← is) at t)) s.1
 
-  pub no_entry : (d : Data) → None ≡ word_of (Some (word_at key (words cases) fallback)) d → EntryRefusedAt now cases fallback key d
+  pub no_entry : (d : Data) → None ≡ tag_word (Some (word_at key (words cases) fallback)) d → EntryRefusedAt now cases fallback key d
   unfolding EntryRefusedAt
   no_entry d is c s = choice_refused _ c (λ n x t. no_case_shows cases d now n x (rw (← is) at t)) s.1
 

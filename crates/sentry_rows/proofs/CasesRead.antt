@@ -7,7 +7,7 @@ use Rattle.sentry_json.specs.Keys.{is_among, are_distinct, StandsAt}
 use Rattle.sentry_json.proofs.Beside.{among}
 use Rattle.sentry_tables.specs.Cell.{Cell, choice}
 use Rattle.sentry_tables.specs.Kind.{tagged, Cases, no_cases, case, words}
-use Rattle.sentry_tables.specs.Shows.{Shows, CaseShows, is_object, IsChoice, word_of}
+use Rattle.sentry_tables.specs.Shows.{Shows, CaseShows, is_object, IsChoice, tag_word}
 use Rattle.sentry_tables.specs.Reading.{Shown, Refused, ShownAt, RefusedAt, Only}
 use Rattle.sentry_tables.specs.declared.error.TreeError.{TreeError}
 use Rattle.sentry_tables.specs.declared.error.TreeError.TheVariants.{Misfit, Memory}
@@ -65,7 +65,7 @@ pub past_cases : (cases : Cases) (n : ℕ) (d : Data) → length (words cases) �
 unfolding CaseRefused Refused
 past_cases cases n d h now c s = nothing_shown cases n now d c h s
 
-pub case_read : {A : Type 0} (cases : Cases) (f : A → Cell) (word : List ℕ) (n : ℕ) (d : Data) (v : A) → word_of None d ≡ Some word → StandsAt word n (words cases) → CaseShown cases n d (f v) → Shown (tagged cases) d (f v)
+pub case_read : {A : Type 0} (cases : Cases) (f : A → Cell) (word : List ℕ) (n : ℕ) (d : Data) (v : A) → tag_word None d ≡ Some word → StandsAt word n (words cases) → CaseShown cases n d (f v) → Shown (tagged cases) d (f v)
 unfolding CaseShown Shown
 case_read cases f word n d v is at h now = from (f v) h
   where
@@ -73,7 +73,7 @@ case_read cases f word n d v is at h now = from (f v) h
     from (choice m x) h = (is_object_at now word d cases n x at (h.1 now), rw (is, h.0) (shows_at now word d cases n x at (h.1 now)))
     from _ h = absurd h
 
-pub case_fails : (cases : Cases) (word : List ℕ) (n : ℕ) (d : Data) (e : TreeError) → word_of None d ≡ Some word → StandsAt word n (words cases) → are_distinct (words cases) ≡ true → Only e (CaseRefused cases n d) → Only e (Refused (tagged cases) d)
+pub case_fails : (cases : Cases) (word : List ℕ) (n : ℕ) (d : Data) (e : TreeError) → tag_word None d ≡ Some word → StandsAt word n (words cases) → are_distinct (words cases) ≡ true → Only e (CaseRefused cases n d) → Only e (Refused (tagged cases) d)
 unfolding CaseRefused Refused
 case_fails cases word n d Misfit is at once h = λ now c s. choice_refused _ c (λ m x t. refuses_at now word d cases n m x once at s.0 (h now) (rw is at t)) s.1
 case_fails cases word n d Memory is at once h = tt
@@ -104,7 +104,7 @@ module _ (now : Cell) where
   unfolding CaseRefusedAt RefusedAt
   past_cases_at cases n d h c s = nothing_shown cases n now d c h s
 
-  pub case_read_at : {A : Type 0} (cases : Cases) (f : A → Cell) (word : List ℕ) (n : ℕ) (d : Data) (v : A) → word_of None d ≡ Some word → StandsAt word n (words cases) → CaseShownAt now cases n d (f v) → ShownAt now (tagged cases) d (f v)
+  pub case_read_at : {A : Type 0} (cases : Cases) (f : A → Cell) (word : List ℕ) (n : ℕ) (d : Data) (v : A) → tag_word None d ≡ Some word → StandsAt word n (words cases) → CaseShownAt now cases n d (f v) → ShownAt now (tagged cases) d (f v)
   unfolding CaseShownAt ShownAt
   case_read_at cases f word n d v is at h = from (f v) h
     where
@@ -112,7 +112,7 @@ module _ (now : Cell) where
       from (choice m x) h = (is_object_at now word d cases n x at h.1, rw (is, h.0) (shows_at now word d cases n x at h.1))
       from _ h = absurd h
 
-  pub case_fails_at : (cases : Cases) (word : List ℕ) (n : ℕ) (d : Data) (e : TreeError) → word_of None d ≡ Some word → StandsAt word n (words cases) → are_distinct (words cases) ≡ true → Only e (CaseRefusedAt now cases n d) → Only e (RefusedAt now (tagged cases) d)
+  pub case_fails_at : (cases : Cases) (word : List ℕ) (n : ℕ) (d : Data) (e : TreeError) → tag_word None d ≡ Some word → StandsAt word n (words cases) → are_distinct (words cases) ≡ true → Only e (CaseRefusedAt now cases n d) → Only e (RefusedAt now (tagged cases) d)
   unfolding CaseRefusedAt RefusedAt
   case_fails_at cases word n d Misfit is at once h = λ c s. choice_refused _ c (λ m x t. refuses_at now word d cases n m x once at s.0 h (rw is at t)) s.1
   case_fails_at cases word n d Memory is at once h = tt

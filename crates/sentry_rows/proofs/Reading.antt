@@ -10,7 +10,7 @@ use Rattle.sentry_tables.specs.Shows.{Shows, RowShows, RowsShow, AreFields, memb
 use Rattle.sentry_tables.specs.Reading.{Only, Shown, RowShown, RowRefused, Reads, ReadsRow, Refused, RowShownAt, RowRefusedAt, ReadsAt, ReadsRowAt, ShownAt, RefusedAt}
 use Rattle.sentry_tables.specs.declared.error.TreeError.{TreeError}
 use Rattle.sentry_tables.specs.declared.error.TreeError.TheVariants.{Misfit, Memory}
-use Rattle.sentry_json.specs.Nodes.{tree_of}
+use Rattle.sentry_json.specs.Nodes.{object_data}
 use Rattle.sentry_json.specs.Keys.{beside}
 use Rattle.sentry_rows.specs.declared.reader.Reader.{Reader}
 use Rattle.sentry_rows.specs.Fields.{Keeps, Ends, ReadsField, ReadsFields, ReadsOthers, ReadsKept, ReadsFieldAt, ReadsFieldsAt, read_of}
@@ -62,7 +62,7 @@ module _ {N : Type 0} (data_of : N → Data) where
   default_kept key D K f e read v a b h is k = field_kept key (default D) K f read v a b (default_read key K D f (read_of data_of a) e read is h) k
 
   same_tree : (a b : Reader N) → b.object ≡ a.object → read_of data_of b ≡ read_of data_of a
-  same_tree a b e = ap (tree_of data_of) e
+  same_tree a b e = ap (object_data data_of) e
 
   first_refused : {A : Type 0} (f : Field A) (fs : List (Field A)) (now : Cell) (d : Data) → ((c : Cell) → RowShows f.rule (Shows f.kind now) now (get f.key d) c → ⊥) → (cs : Cells) → RowsShow (rows_of (f ∷ fs)) now d cs → ⊥
   first_refused f fs now d none no_cells h = h

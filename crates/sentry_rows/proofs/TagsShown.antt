@@ -8,13 +8,13 @@ use Rattle.serde_json.specs.Find.{get, as_str}
 use Rattle.sentry_json.specs.Keys.{is_among}
 use Rattle.sentry_tables.specs.Cell.{Cell, choice}
 use Rattle.sentry_tables.specs.Kind.{tagged, Cases, no_cases, case, words, tag}
-use Rattle.sentry_tables.specs.Shows.{CaseShows, IsChoice, word_of}
+use Rattle.sentry_tables.specs.Shows.{CaseShows, IsChoice, tag_word}
 use Rattle.sentry_tables.specs.Reading.{Refused, RefusedAt}
 
-pub word_there : (d e : Data) → get tag d ≡ Some e → as_str e ≡ word_of None d
+pub word_there : (d e : Data) → get tag d ≡ Some e → as_str e ≡ tag_word None d
 word_there d e is = rw is refl
 
-pub word_absent : (d : Data) → get tag d ≡ None → None ≡ word_of None d
+pub word_absent : (d : Data) → get tag d ≡ None → None ≡ tag_word None d
 word_absent d is = rw is refl
 
 -- ---- words that no case has
@@ -39,20 +39,20 @@ no_case_shows (case w rows o cases) d now (suc n) c s = no_case_shows cases d no
 
 -- ---- at every moment
 
-pub another_word : (cases : Cases) (word : List ℕ) (d : Data) → word_of None d ≡ Some word → is_among word (words cases) ≡ false → Refused (tagged cases) d
+pub another_word : (cases : Cases) (word : List ℕ) (d : Data) → tag_word None d ≡ Some word → is_among word (words cases) ≡ false → Refused (tagged cases) d
 unfolding Refused
 another_word cases word d is none now c s = choice_refused _ c (λ m x t. other_words now word d cases m x none (rw is at t)) s.1
 
-pub no_word : (cases : Cases) (d : Data) → word_of None d ≡ None → Refused (tagged cases) d
+pub no_word : (cases : Cases) (d : Data) → tag_word None d ≡ None → Refused (tagged cases) d
 unfolding Refused
 no_word cases d is now c s = choice_refused _ c (λ n x t. no_case_shows cases d now n x (rw is at t)) s.1
 
 -- ---- at a moment
 
-pub another_word_at : (now : Cell) (cases : Cases) (word : List ℕ) (d : Data) → word_of None d ≡ Some word → is_among word (words cases) ≡ false → RefusedAt now (tagged cases) d
+pub another_word_at : (now : Cell) (cases : Cases) (word : List ℕ) (d : Data) → tag_word None d ≡ Some word → is_among word (words cases) ≡ false → RefusedAt now (tagged cases) d
 unfolding RefusedAt
 another_word_at now cases word d is none c s = choice_refused _ c (λ m x t. other_words now word d cases m x none (rw is at t)) s.1
 
-pub no_word_at : (now : Cell) (cases : Cases) (d : Data) → word_of None d ≡ None → RefusedAt now (tagged cases) d
+pub no_word_at : (now : Cell) (cases : Cases) (d : Data) → tag_word None d ≡ None → RefusedAt now (tagged cases) d
 unfolding RefusedAt
 no_word_at now cases d is c s = choice_refused _ c (λ n x t. no_case_shows cases d now n x (rw is at t)) s.1

@@ -1,7 +1,7 @@
 -- What a reader of a table's rows has read.
 use Rattle.std.specs.Prelude.{◌≡◌, ◌⊎◌, List, [], ◌∷◌, ℕ, Some, None, Result, Ok, Err}
 use Rattle.serde_json.specs.Data.{Data, Members}
-use Rattle.sentry_json.specs.Nodes.{tree_of}
+use Rattle.sentry_json.specs.Nodes.{object_data}
 use Rattle.sentry_json.specs.Keys.{beside}
 use Rattle.sentry_tables.specs.Cell.{Cell}
 use Rattle.sentry_tables.specs.Fields.{Field}
@@ -14,7 +14,7 @@ use Rattle.sentry_rows.specs.declared.reader.Reader.{Reader}
 
 -- the tree of a reader, whatever holds it
 abbrev pub read_of : {N : Type 0} → (N → Data) → Reader N → Data
-read_of data_of r = tree_of data_of r.object
+read_of data_of r = object_data data_of r.object
 
 -- what was read stands, or its failure is remembered; the first failure stays
 unfoldable pub Keeps : {A N : Type 0} → Result A TreeError → A → Reader N → Reader N → Type 0

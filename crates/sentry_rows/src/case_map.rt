@@ -2,7 +2,7 @@
 
 ghost use Rattle.std.specs.Prelude.{◌≡◌, ℕ, List, Some, option_map};
 ghost use Rattle.sentry_tables.specs.Kind.{tagged_map, words};
-ghost use Rattle.sentry_tables.specs.Shows.{word_at, word_of};
+ghost use Rattle.sentry_tables.specs.Shows.{word_at, tag_word};
 ghost use Rattle.sentry_tables.specs.Cells.{map_cell, empty_map};
 ghost use Rattle.sentry_tables.specs.Reading.{ReadsAt};
 ghost use Rattle.sentry_moments.specs.Moments.{moment_cell};
@@ -93,7 +93,7 @@ fn entry_word<'a, T: Cased, N: Node>(
     fallback: &'a str,
 ) -> Option<&'a str>
     ensures { option_map (λ word. word.now) result
-        ≡ word_of (Some (word_at key.now (words T.cases) fallback.now)) (N.data_of node.now) }
+        ≡ tag_word (Some (word_at key.now (words T.cases) fallback.now)) (N.data_of node.now) }
 {
     match node.get("type") {
         Some(_) => node.text_at("type"),

@@ -2,7 +2,7 @@
 
 ghost use Rattle.sentry_tables.specs.Kind.{draw};
 ghost use Rattle.sentry_tables.specs.Reading.{ReadsRow};
-ghost use Rattle.sentry_json.specs.Nodes.{tree_of};
+ghost use Rattle.sentry_json.specs.Nodes.{object_data};
 
 use rand_core::Rng;
 use sentry_json::{Node, Object};
@@ -18,7 +18,7 @@ pub(crate) fn or_drawn_as<F: Drawn<T>, T, R: Rng, N: Node>(
     ids: &mut R,
 ) -> Result<T, TreeError>
     ensures { ReadsRow key.now (draw F.IsDrawn) F.kind F.cell_of
-        (tree_of N.data_of object.now) result }
+        (object_data N.data_of object.now) result }
 {
     match object.get(key) {
         Some(member) => F::from_node(alloc, member),

@@ -8,7 +8,7 @@ ghost use Rattle.sentry_tables.specs.Kind.{must, may, may_strict, may_null, defa
 ghost use Rattle.sentry_tables.specs.Cells.{text_cell, cow_cell, option_cell, list_cell, map_cell, empty_list, empty_map};
 ghost use Rattle.sentry_tables.specs.Kinds.{text_kind};
 ghost use Rattle.sentry_tables.specs.Reading.{Only};
-ghost use Rattle.sentry_json.specs.Nodes.{tree_of};
+ghost use Rattle.sentry_json.specs.Nodes.{object_data};
 ghost use Rattle.sentry_rows.specs.Fields.{Keeps, Ends, ReadsField, ReadsOthers};
 
 use crate::draw::or_drawn_as;
@@ -46,7 +46,7 @@ impl<'t, N: Node> Reader<'t, N> {
     /// - `Memory` if an allocation fails.
     #[tactic(auto, using(crate::proofs::RowLemmas::object_there, crate::proofs::RowLemmas::no_object))]
     pub fn new(alloc: Global, node: &'t N) -> Result<Reader<'t, N>, TreeError>
-        ensures object { IfOk result (λ r. tree_of N.data_of r.object ≡ N.data_of node.now) }
+        ensures object { IfOk result (λ r. object_data N.data_of r.object ≡ N.data_of node.now) }
         ensures failed { IfOk result (λ r. r.failed ≡ None) }
         ensures err { IfErr result (λ e.
             Only e (is_some (as_object (N.data_of node.now)) ≡ false)) }

@@ -2,7 +2,7 @@
 
 ghost use Rattle.std.specs.Prelude.{◌≡◌, IfOk, IfErr, map as map_list};
 ghost use Rattle.serde_json.specs.View.{members_view};
-ghost use Rattle.sentry_json.specs.Nodes.{tree_of};
+ghost use Rattle.sentry_json.specs.Nodes.{object_data};
 ghost use Rattle.sentry_json.specs.Keys.{beside};
 ghost use Rattle.sentry_tables.specs.Cell.{text};
 ghost use Rattle.sentry_tables.specs.Kind.{must, may_strict, default as default_rule};
@@ -26,7 +26,7 @@ pub(crate) fn required_as<F: ReadCodec<T>, T, N: Node>(
     object: &Object<'_, N>,
     key: &str,
 ) -> Result<T, TreeError>
-    ensures { ReadsRow key.now must F.kind F.cell_of (tree_of N.data_of object.now) result }
+    ensures { ReadsRow key.now must F.kind F.cell_of (object_data N.data_of object.now) result }
 {
     F::from_node(alloc, object.get(key).ok_or(TreeError::Misfit)?)
 }
@@ -40,7 +40,7 @@ pub(crate) fn optional_strict_as<F: ReadCodec<T>, T, N: Node>(
     key: &str,
 ) -> Result<Option<T>, TreeError>
     ensures { ReadsRow key.now may_strict F.kind (option_cell F.cell_of)
-        (tree_of N.data_of object.now) result }
+        (object_data N.data_of object.now) result }
 {
     let Some(member) = object.get(key) else {
         return Ok(None);
@@ -58,7 +58,7 @@ pub(crate) fn text_or<N: Node>(
     default: &str,
 ) -> Result<String, TreeError>
     ensures { ReadsRow key.now (default_rule (text default.now)) text_kind text_cell
-        (tree_of N.data_of object.now) result }
+        (object_data N.data_of object.now) result }
 {
     match object.get(key) {
         Some(member) => FromTree::from_node(alloc, member),
@@ -86,7 +86,7 @@ pub(crate) fn made_as<F: MadeCodec<T>, T, N: Node>(
     key: &str,
 ) -> Result<T, TreeError>
     ensures { ReadsRow key.now (default_rule F.usual) F.kind F.cell_of
-        (tree_of N.data_of object.now) result }
+        (object_data N.data_of object.now) result }
 {
     match object.get(key) {
         Some(member) => F::from_node(alloc, member),
@@ -103,7 +103,7 @@ pub(crate) fn others<N: Node>(
 ) -> Result<Map<String, Value>, TreeError>
     ensures ok { IfOk result (λ m. members_view m.entries
         ≡ beside (map_list (λ name.
-        name.now) names.now) (members_in (tree_of N.data_of object.now))) }
+        name.now) names.now) (members_in (object_data N.data_of object.now))) }
     ensures err { IfErr result (λ e. e ≡ Memory) }
 {
     Ok(object.members_beside(alloc, names)?)

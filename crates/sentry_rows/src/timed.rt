@@ -6,7 +6,7 @@ ghost use Rattle.sentry_tables.specs.Kind.{at_once, list as list_kind, values as
 ghost use Rattle.sentry_tables.specs.Cells.{list_cell};
 ghost use Rattle.sentry_tables.specs.Reading.{ReadsAt, ReadsRowAt};
 ghost use Rattle.sentry_moments.specs.Moments.{moment_cell};
-ghost use Rattle.sentry_json.specs.Nodes.{tree_of};
+ghost use Rattle.sentry_json.specs.Nodes.{object_data};
 
 use rand_core::Rng;
 use sentry_json::{Node, Object};
@@ -134,7 +134,7 @@ pub(crate) fn now_or_as<F: ReadCodec<Moment>, N: Node>(
     now: Moment,
 ) -> Result<Moment, TreeError>
     ensures { ReadsRowAt (F.cell_of now) key.now at_once F.kind F.cell_of
-        (tree_of N.data_of object.now) result }
+        (object_data N.data_of object.now) result }
 {
     match object.get(key) {
         Some(member) => F::from_node(alloc, member),

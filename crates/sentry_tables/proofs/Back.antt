@@ -9,7 +9,7 @@ use Rattle.sentry_json.specs.Keys.{is_among, beside}
 use Rattle.sentry_json.proofs.Beside.{beside_named}
 use Rattle.sentry_tables.specs.Cell.{Cell, absent, present, sequence, mapping, fields, choice, Cells, no_cells, cell, Entries, no_entries, entry, same_cell}
 use Rattle.sentry_tables.specs.Kind.{Rule, must, may, may_null, may_strict, default, always, draw, at_once, Other, ignored, kept, Kind, scalar, list, map, values, table, tagged, tagged_map, Rows, no_rows, row, Cases, no_cases, case, keys, words, tag, others}
-use Rattle.sentry_tables.specs.Shows.{is_object, ObjectShows, IsSequence, IsMapping, IsChoice, ItemsShow, MembersShow, ArrayShows, unless_null_at, ShowsOption, RowShows, OrElse, word_at, word_or, word_of, Shows, RowsShow, CaseShows}
+use Rattle.sentry_tables.specs.Shows.{is_object, ObjectShows, IsSequence, IsMapping, IsChoice, ItemsShow, MembersShow, ArrayShows, unless_null_at, ShowsOption, RowShows, OrElse, word_at, word_or, tag_word, Shows, RowsShow, CaseShows}
 use Rattle.sentry_tables.specs.Norm.{cells_of, entries_of, which, chosen, each_cell, each_entry, row_norm, is_null_of, norm, rows_norm, case_norm}
 use Rattle.sentry_tables.specs.Written.{is_null, items_tree, members_tree, row_tree, put_given, tree, rows_tree, case_tree}
 use Rattle.sentry_tables.specs.Meets.{AllCells, AllEntries, AreOrderedTexts, entry_keys, RowMeets, proper_demand, readable_demand, RowsMeet, CaseMeets, IsProper, IsReadable}
@@ -125,9 +125,9 @@ tag_found rows cs other d new = no_row rows tag cs (put tag d other) new ∙ get
 -- ---- the written tree shows the normal form
 
 choice_back : (now : Cell) (cases : Cases) (implied : Option (List ℕ))
-    → ((n : ℕ) (c : Cell) → CaseMeets proper_demand cases n c → CaseMeets readable_demand cases n c → CaseShows cases now (word_of implied (object (case_tree cases n c))) (object (case_tree cases n c)) n (case_norm cases n c))
+    → ((n : ℕ) (c : Cell) → CaseMeets proper_demand cases n c → CaseMeets readable_demand cases n c → CaseShows cases now (tag_word implied (object (case_tree cases n c))) (object (case_tree cases n c)) n (case_norm cases n c))
     → (x : Cell) → IsChoice (CaseMeets proper_demand cases) x → IsChoice (CaseMeets readable_demand cases) x
-    → CaseShows cases now (word_of implied (object (case_tree cases (which x) (chosen x)))) (object (case_tree cases (which x) (chosen x))) (which x) (case_norm cases (which x) (chosen x))
+    → CaseShows cases now (tag_word implied (object (case_tree cases (which x) (chosen x)))) (object (case_tree cases (which x) (chosen x))) (which x) (case_norm cases (which x) (chosen x))
 choice_back now cases implied point (choice n c) p q = point n c p q
 choice_back now cases implied point _ p q = absurd p
 
@@ -144,7 +144,7 @@ module _ (now : Cell) where
     back (tagged cases) laws (choice n c) p q = (refl, case_back cases laws None n c p q)
     back (tagged cases) laws _ p q = absurd p
     back (tagged_map cases fallback) laws c p q =
-        mapping_back (λ k e x. (is_object e ≡ true) × IsChoice (CaseShows cases now (word_of (Some (word_at k (words cases) fallback)) e) e) x)
+        mapping_back (λ k e x. (is_object e ≡ true) × IsChoice (CaseShows cases now (tag_word (Some (word_at k (words cases) fallback)) e) e) x)
         (λ x. object (case_tree cases (which x) (chosen x))) (λ x. choice (which x) (case_norm cases (which x) (chosen x)))
         (IsChoice (CaseMeets proper_demand cases)) (IsChoice (CaseMeets readable_demand cases))
         (λ k x h t. (refl, choice_back now cases (Some (word_at k (words cases) fallback)) (case_back cases laws (Some (word_at k (words cases) fallback))) x h t)) (λ es. AreOrderedTexts (entry_keys es)) (λ es. ⊤) c p q
@@ -160,7 +160,7 @@ module _ (now : Cell) where
         )
 
     case_back : (cases : Cases) → CasesLawful cases → (implied : Option (List ℕ)) (n : ℕ) (c : Cell) → CaseMeets proper_demand cases n c → CaseMeets readable_demand cases n c
-        → CaseShows cases now (word_of implied (object (case_tree cases n c))) (object (case_tree cases n c)) n (case_norm cases n c)
+        → CaseShows cases now (tag_word implied (object (case_tree cases n c))) (object (case_tree cases n c)) n (case_norm cases n c)
     case_back no_cases laws implied n c p q = absurd p
     case_back (case w rows o cases) laws implied zero (fields cs other) p q = (
       ap (word_or implied) (tag_found rows cs other (string w) laws.1),

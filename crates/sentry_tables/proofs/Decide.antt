@@ -5,7 +5,7 @@ use Rattle.serde_json.specs.Data.{Data, null, boolean, number, string, array, ob
 use Rattle.serde_json.specs.Find.{get, as_array, as_object}
 use Rattle.sentry_tables.specs.Cell.{Cell, absent, present, sequence, mapping, fields, choice, Cells, no_cells, cell, Entries, no_entries, entry}
 use Rattle.sentry_tables.specs.Kind.{Rule, must, may, may_null, may_strict, default, always, draw, at_once, Other, Kind, scalar, list, map, values, table, tagged, tagged_map, Rows, no_rows, row, Cases, no_cases, case, keys, words, others}
-use Rattle.sentry_tables.specs.Shows.{is_object, members_in, ObjectShows, IsPresent, IsSequence, IsMapping, AreFields, IsChoice, ItemsShow, MembersShow, ArrayShows, ShowsOption, RowShows, OrElse, word_at, word_of, Shows, RowsShow, CaseShows, values_in, unless_null}
+use Rattle.sentry_tables.specs.Shows.{is_object, members_in, ObjectShows, IsPresent, IsSequence, IsMapping, AreFields, IsChoice, ItemsShow, MembersShow, ArrayShows, ShowsOption, RowShows, OrElse, word_at, tag_word, Shows, RowsShow, CaseShows, values_in, unless_null}
 use Rattle.sentry_tables.specs.Lawful.{RuleLaws, IsLawful, RowsLawful, CasesLawful}
 use Rattle.std.proofs.lemmas.Slice.Eq.{bytes_eq-Decides}
 
@@ -149,12 +149,12 @@ module _ (now : Cell) where
         object_decided (λ e. AreFields (λ cs other. RowsShow rows now e cs × (other ≡ others o (keys rows) (members_in e))))
         (λ e. fields_decided (RowsShow rows now e) (others o (keys rows) (members_in e)) (rows_decided rows laws e)) d
     decided (tagged cases) laws d =
-        object_decided (λ e. IsChoice (CaseShows cases now (word_of None e) e))
-        (λ e. choice_decided (CaseShows cases now (word_of None e) e) (case_decided cases laws (word_of None e) e)) d
+        object_decided (λ e. IsChoice (CaseShows cases now (tag_word None e) e))
+        (λ e. choice_decided (CaseShows cases now (tag_word None e) e) (case_decided cases laws (tag_word None e) e)) d
     decided (tagged_map cases fallback) laws d =
-        map_decided (λ k e x. (is_object e ≡ true) × IsChoice (CaseShows cases now (word_of (Some (word_at k (words cases) fallback)) e) e) x)
-        (λ k. object_decided (λ e. IsChoice (CaseShows cases now (word_of (Some (word_at k (words cases) fallback)) e) e))
-        (λ e. choice_decided (CaseShows cases now (word_of (Some (word_at k (words cases) fallback)) e) e) (case_decided cases laws (word_of (Some (word_at k (words cases) fallback)) e) e)))
+        map_decided (λ k e x. (is_object e ≡ true) × IsChoice (CaseShows cases now (tag_word (Some (word_at k (words cases) fallback)) e) e) x)
+        (λ k. object_decided (λ e. IsChoice (CaseShows cases now (tag_word (Some (word_at k (words cases) fallback)) e) e))
+        (λ e. choice_decided (CaseShows cases now (tag_word (Some (word_at k (words cases) fallback)) e) e) (case_decided cases laws (tag_word (Some (word_at k (words cases) fallback)) e) e)))
         (as_object d)
 
     rows_decided : (rows : Rows) → RowsLawful rows → (ms : Data) → Decided (RowsShow rows now ms)

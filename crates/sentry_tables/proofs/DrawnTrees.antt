@@ -3,7 +3,7 @@ use Rattle.std.proofs.Common.{ℕ, List, Option, Some, None}
 use Rattle.serde_json.specs.Data.{Data, Items, no_items, item, Members, no_members, member}
 use Rattle.serde_json.specs.Find.{get, as_array, as_object}
 use Rattle.sentry_tables.specs.Kind.{Rule, must, may, may_null, may_strict, default, always, draw, at_once, Kind, scalar, list, map, values, table, tagged, tagged_map, Rows, no_rows, row, Cases, no_cases, case, words}
-use Rattle.sentry_tables.specs.Shows.{values_in, unless_null, word_at, word_of}
+use Rattle.sentry_tables.specs.Shows.{values_in, unless_null, word_at, tag_word}
 use Rattle.sentry_tables.specs.Drawn.{IfGiven, EachItem, EachMember, InArray, InObject, RowHolds, NothingDrawn, RowsDrawNothing, CasesDrawNothing, IsNoDraw, NeverDraws, RowsNeverDraw, CasesNeverDraw}
 
 -- ---- one level: what holds of each tree
@@ -49,10 +49,10 @@ mutual
   never_drawn (map K) n d = in_object (λ k. NothingDrawn K) (λ k. never_drawn K n) (as_object d)
   never_drawn (values K) n d = in_array (NothingDrawn K) (never_drawn K n) (values_in d)
   never_drawn (table rows o) n d = rows_never rows n d
-  never_drawn (tagged cases) n d = cases_never cases n (word_of None d) d
+  never_drawn (tagged cases) n d = cases_never cases n (tag_word None d) d
   never_drawn (tagged_map cases fallback) n d =
-      in_object (λ k e. CasesDrawNothing cases (word_of (Some (word_at k (words cases) fallback)) e) e)
-      (λ k e. cases_never cases n (word_of (Some (word_at k (words cases) fallback)) e) e)
+      in_object (λ k e. CasesDrawNothing cases (tag_word (Some (word_at k (words cases) fallback)) e) e)
+      (λ k e. cases_never cases n (tag_word (Some (word_at k (words cases) fallback)) e) e)
       (as_object d)
 
   rows_never : (rows : Rows) → RowsNeverDraw rows → (d : Data) → RowsDrawNothing rows d

@@ -6,7 +6,7 @@ use Rattle.serde_json.specs.Data.{Data, null, boolean, number, string, array, ob
 use Rattle.sentry_json.specs.Keys.{is_among}
 use Rattle.sentry_tables.specs.Cell.{Cell, absent, present, sequence, mapping, fields, choice, Cells, no_cells, cell, Entries, no_entries, entry, same_cell}
 use Rattle.sentry_tables.specs.Kind.{Rule, must, may, may_null, may_strict, default, always, draw, at_once, Kind, scalar, list, map, values, table, tagged, tagged_map, Rows, no_rows, row, Cases, no_cases, case, keys, words, tag}
-use Rattle.sentry_tables.specs.Shows.{IsSequence, IsMapping, IsChoice, unless_null_at, word_at, word_or, word_of}
+use Rattle.sentry_tables.specs.Shows.{IsSequence, IsMapping, IsChoice, unless_null_at, word_at, word_or, tag_word}
 use Rattle.sentry_tables.specs.Norm.{cells_of, entries_of, which, chosen, norm}
 use Rattle.sentry_tables.specs.Written.{items_tree, members_tree, row_tree, put_given, tree, rows_tree, case_tree}
 use Rattle.sentry_tables.specs.Meets.{AllCells, AllEntries, RowMeets, proper_demand, RowsMeet, CaseMeets, IsProper}
@@ -82,8 +82,8 @@ record IsCaseDrawn (cases : Cases) (word : Option (List ℕ)) (d : Data) : Type 
   known : is_among is_word (words cases) ≡ true
   nothing : CasesDrawNothing cases word d
 
-choice_drawn : (cases : Cases) (implied : List ℕ) → ((n : ℕ) (c : Cell) → CaseMeets proper_demand cases n c → CasesDrawNothing cases (word_of (Some implied) (object (case_tree cases n c))) (object (case_tree cases n c)))
-    → (x : Cell) → IsChoice (CaseMeets proper_demand cases) x → CasesDrawNothing cases (word_of (Some implied) (object (case_tree cases (which x) (chosen x)))) (object (case_tree cases (which x) (chosen x)))
+choice_drawn : (cases : Cases) (implied : List ℕ) → ((n : ℕ) (c : Cell) → CaseMeets proper_demand cases n c → CasesDrawNothing cases (tag_word (Some implied) (object (case_tree cases n c))) (object (case_tree cases n c)))
+    → (x : Cell) → IsChoice (CaseMeets proper_demand cases) x → CasesDrawNothing cases (tag_word (Some implied) (object (case_tree cases (which x) (chosen x)))) (object (case_tree cases (which x) (chosen x)))
 choice_drawn cases implied point (choice n c) m = point n c m
 choice_drawn cases implied point _ m = absurd m
 
@@ -100,7 +100,7 @@ mutual
   written_drawn (tagged cases) laws (choice n c) m = (case_drawn cases laws None n c m).nothing
   written_drawn (tagged cases) laws _ m = absurd m
   written_drawn (tagged_map cases fallback) laws c m =
-      mapping_drawn (λ k e. CasesDrawNothing cases (word_of (Some (word_at k (words cases) fallback)) e) e)
+      mapping_drawn (λ k e. CasesDrawNothing cases (tag_word (Some (word_at k (words cases) fallback)) e) e)
       (λ x. object (case_tree cases (which x) (chosen x))) (IsChoice (CaseMeets proper_demand cases))
       (λ k x h. choice_drawn cases (word_at k (words cases) fallback) (λ n y p. (case_drawn cases laws (Some (word_at k (words cases) fallback)) n y p).nothing) x h) _ c m
 
@@ -114,16 +114,16 @@ mutual
       )
 
   case_drawn : (cases : Cases) → CasesLawful cases → (implied : Option (List ℕ)) (n : ℕ) (c : Cell) → CaseMeets proper_demand cases n c
-      → IsCaseDrawn cases (word_of implied (object (case_tree cases n c))) (object (case_tree cases n c))
+      → IsCaseDrawn cases (tag_word implied (object (case_tree cases n c))) (object (case_tree cases n c))
   case_drawn no_cases laws implied n c m = absurd m
   case_drawn (case w rows o cases) laws implied zero (fields cs other) m =
       let d : Data = object (rows_tree rows cs (put tag (string w) other)) in
-      let is : word_of implied d ≡ Some w = ap (word_or implied) (tag_found rows cs other (string w) laws.1) in
+      let is : tag_word implied d ≡ Some w = ap (word_or implied) (tag_found rows cs other (string w) laws.1) in
       record {
         is_word = w;
         is = is;
         known = is_among_here w (words cases);
-        nothing = (λ same. rows_drawn rows laws.3 cs (put tag (string w) other) (free_tagged o (keys rows) other (string w) laws.1 m.1) m.0, other_words cases (word_of implied d) w d is laws.0);
+        nothing = (λ same. rows_drawn rows laws.3 cs (put tag (string w) other) (free_tagged o (keys rows) other (string w) laws.1 m.1) m.0, other_words cases (tag_word implied d) w d is laws.0);
       }
   case_drawn (case w rows o cases) laws implied zero _ m = absurd m
   case_drawn (case w rows o cases) laws implied (suc n) c m =

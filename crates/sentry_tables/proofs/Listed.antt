@@ -4,7 +4,7 @@ use Rattle.serde_json.specs.Data.{Data, array, object, no_members, member}
 use Rattle.serde_json.specs.Find.{get}
 use Rattle.serde_json.proofs.Views.{get_member-put}
 use Rattle.sentry_json.specs.Lists.{VisitsAll, VisitsLine, list_at}
-use Rattle.sentry_json.specs.Nodes.{items_by}
+use Rattle.sentry_json.specs.Nodes.{items_data}
 use Rattle.sentry_tables.specs.Cell.{Cell, fields, no_cells, cell}
 use Rattle.sentry_tables.specs.Cells.{cells, list_cell}
 use Rattle.sentry_tables.specs.Kind.{Kind, list, must, ignored, table, no_rows, row}
@@ -15,7 +15,7 @@ use Rattle.sentry_tables.proofs.ListsShown.{shown_when}
 -- values that were kept one by one, each of which its item shows
 visited : {S A : Type 0} (values : S → List A) (K : Kind) (f : A → Cell) (first : S) (items : List Data) (last : S)
     → VisitsAll (λ before d after. (v : A) × (values after ≡ values before ++ v ∷ []) × Shown K d (f v)) first items last
-    → (added : List A) × (values last ≡ values first ++ added) × ((now : Cell) → ItemsShow (Shows K now) (items_by (λ d. d) items) (cells f added))
+    → (added : List A) × (values last ≡ values first ++ added) × ((now : Cell) → ItemsShow (Shows K now) (items_data (λ d. d) items) (cells f added))
 visited values K f first [] last is = ([], ap values (sym is) ∙ sym (append-nil (values first)), λ now. tt)
 visited values K f first (d ∷ ds) last (next, (v, added, shown), more) =
     let rest = visited values K f next ds last more in
@@ -35,5 +35,5 @@ list_shown values K f key line first last empty (items, is, taken) =
     λ now. (
       list_at key items,
       is,
-      (refl, ((subst (λ found. OrElse (λ x. ⊥) (Shows (list K) now) found (list_cell f (values last))) (sym (one_member key (array (items_by (λ d. d) items)))) (subst (λ xs. ItemsShow (Shows K now) (items_by (λ d. d) items) (cells f xs)) (sym same) (all.2 now)), tt), refl)),
+      (refl, ((subst (λ found. OrElse (λ x. ⊥) (Shows (list K) now) found (list_cell f (values last))) (sym (one_member key (array (items_data (λ d. d) items)))) (subst (λ xs. ItemsShow (Shows K now) (items_data (λ d. d) items) (cells f xs)) (sym same) (all.2 now)), tt), refl)),
     )

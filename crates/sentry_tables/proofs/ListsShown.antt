@@ -11,7 +11,7 @@ use Rattle.std.proofs.lemmas.Map.Text.{is_eq-slice_cmp}
 use Rattle.std.proofs.lemmas.Slice.Eq.{bytes_eq-Decides}
 use Rattle.serde_json.specs.Data.{Data, Members, no_members, member, put}
 use Rattle.serde_json.specs.Find.{get_member, as_array, as_object}
-use Rattle.sentry_json.specs.Nodes.{items_by}
+use Rattle.sentry_json.specs.Nodes.{items_data}
 use Rattle.sentry_tables.specs.Cell.{Cell, sequence, mapping, Cells, no_cells, cell, Entries, no_entries, entry}
 use Rattle.sentry_tables.specs.Kind.{Kind, list, map}
 use Rattle.sentry_tables.specs.Shows.{Shows, ItemsShow, MembersShow, IsSequence, IsMapping}
@@ -22,18 +22,18 @@ use Rattle.sentry_tables.specs.declared.error.TreeError.TheVariants.{Misfit, Mem
 
 -- ---- lists
 
-each_more : {V : Type 0} (w : V → Data) {A : Type 0} (P : Data → Cell → Type 0) (f : A → Cell) (vs : List V) (v : V) (xs : List A) (x : A) → ItemsShow P (items_by w vs) (cells f xs) → P (w v) (f x)
-    → ItemsShow P (items_by w (vs ++ v ∷ [])) (cells f (xs ++ x ∷ []))
+each_more : {V : Type 0} (w : V → Data) {A : Type 0} (P : Data → Cell → Type 0) (f : A → Cell) (vs : List V) (v : V) (xs : List A) (x : A) → ItemsShow P (items_data w vs) (cells f xs) → P (w v) (f x)
+    → ItemsShow P (items_data w (vs ++ v ∷ [])) (cells f (xs ++ x ∷ []))
 each_more w P f [] v [] x h s = (s, tt)
 each_more w P f [] v (y ∷ ys) x h s = absurd h
 each_more w P f (u ∷ us) v [] x h s = absurd h
 each_more w P f (u ∷ us) v (y ∷ ys) x h s = (h.0, each_more w P f us v ys x h.1 s)
 
-pub each_more_at : {V : Type 0} (w : V → Data) {A : Type 0} (P : Data → Cell → Type 0) (f : A → Cell) (vs : List V) (i : ℕ) (v : V) (xs ys : List A) (x : A) → i < length vs → v ≡ get_or vs i v → ys ≡ xs ++ x ∷ [] → ItemsShow P (items_by w (take i vs)) (cells f xs) → P (w v) (f x)
-    → ItemsShow P (items_by w (take (i + 1) vs)) (cells f ys)
+pub each_more_at : {V : Type 0} (w : V → Data) {A : Type 0} (P : Data → Cell → Type 0) (f : A → Cell) (vs : List V) (i : ℕ) (v : V) (xs ys : List A) (x : A) → i < length vs → v ≡ get_or vs i v → ys ≡ xs ++ x ∷ [] → ItemsShow P (items_data w (take i vs)) (cells f xs) → P (w v) (f x)
+    → ItemsShow P (items_data w (take (i + 1) vs)) (cells f ys)
 each_more_at w P f vs i v xs ys x lt at made h s = rw (take_more vs i v lt, ← at, made) (each_more w P f (take i vs) v xs x h s)
 
-each_refuses : {V : Type 0} (w : V → Data) (P : Data → Cell → Type 0) (vs : List V) (i : ℕ) (v : V) (cs : Cells) → i < length vs → ((c : Cell) → P (w (get_or vs i v)) c → ⊥) → ItemsShow P (items_by w vs) cs → ⊥
+each_refuses : {V : Type 0} (w : V → Data) (P : Data → Cell → Type 0) (vs : List V) (i : ℕ) (v : V) (cs : Cells) → i < length vs → ((c : Cell) → P (w (get_or vs i v)) c → ⊥) → ItemsShow P (items_data w vs) cs → ⊥
 each_refuses w P [] i v cs lt refused h = absurd (omega arith)
 each_refuses w P (u ∷ us) i v no_cells lt refused h = h
 each_refuses w P (u ∷ us) zero v (cell c cs) lt refused h = refused c h.0
@@ -116,11 +116,11 @@ pub not_array : (K : Kind) (d : Data) → as_array d ≡ None → Refused (list 
 unfolding Refused
 not_array K d is = λ now c h. rw is at h
 
-pub list_shown : {V : Type 0} (w : V → Data) {A : Type 0} (K : Kind) (f : A → Cell) (d : Data) (vs : List V) (xs : List A) → as_array d ≡ Some (items_by w vs) → ((now : Cell) → ItemsShow (Shows K now) (items_by w vs) (cells f xs)) → Shown (list K) d (list_cell f xs)
+pub list_shown : {V : Type 0} (w : V → Data) {A : Type 0} (K : Kind) (f : A → Cell) (d : Data) (vs : List V) (xs : List A) → as_array d ≡ Some (items_data w vs) → ((now : Cell) → ItemsShow (Shows K now) (items_data w vs) (cells f xs)) → Shown (list K) d (list_cell f xs)
 unfolding Shown
 list_shown w K f d vs xs is h = λ now. rw is (h now)
 
-pub list_fails : {V : Type 0} (w : V → Data) (K : Kind) (d : Data) (vs : List V) (i : ℕ) (v : V) (e : TreeError) → as_array d ≡ Some (items_by w vs) → i < length vs → v ≡ get_or vs i v → Only e (Refused K (w v)) → Only e (Refused (list K) d)
+pub list_fails : {V : Type 0} (w : V → Data) (K : Kind) (d : Data) (vs : List V) (i : ℕ) (v : V) (e : TreeError) → as_array d ≡ Some (items_data w vs) → i < length vs → v ≡ get_or vs i v → Only e (Refused K (w v)) → Only e (Refused (list K) d)
 unfolding Refused
 list_fails w K d vs i v Misfit is lt same refused = λ now c h. sequence_refused _ c (λ cs. each_refuses w (Shows K now) vs i v cs lt (rw (← same) (refused now))) (rw is at h)
 list_fails w K d vs i v Memory is lt same refused = tt
@@ -148,11 +148,11 @@ pub not_array_at : (now : Cell) (K : Kind) (d : Data) → as_array d ≡ None �
 unfolding RefusedAt
 not_array_at now K d is = λ c h. rw is at h
 
-pub list_shown_at : {V : Type 0} (w : V → Data) (now : Cell) {A : Type 0} (K : Kind) (f : A → Cell) (d : Data) (vs : List V) (xs : List A) → as_array d ≡ Some (items_by w vs) → (ItemsShow (Shows K now) (items_by w vs) (cells f xs)) → ShownAt now (list K) d (list_cell f xs)
+pub list_shown_at : {V : Type 0} (w : V → Data) (now : Cell) {A : Type 0} (K : Kind) (f : A → Cell) (d : Data) (vs : List V) (xs : List A) → as_array d ≡ Some (items_data w vs) → (ItemsShow (Shows K now) (items_data w vs) (cells f xs)) → ShownAt now (list K) d (list_cell f xs)
 unfolding ShownAt
 list_shown_at w now K f d vs xs is h = rw is h
 
-pub list_fails_at : {V : Type 0} (w : V → Data) (now : Cell) (K : Kind) (d : Data) (vs : List V) (i : ℕ) (v : V) (e : TreeError) → as_array d ≡ Some (items_by w vs) → i < length vs → v ≡ get_or vs i v → Only e (RefusedAt now K (w v)) → Only e (RefusedAt now (list K) d)
+pub list_fails_at : {V : Type 0} (w : V → Data) (now : Cell) (K : Kind) (d : Data) (vs : List V) (i : ℕ) (v : V) (e : TreeError) → as_array d ≡ Some (items_data w vs) → i < length vs → v ≡ get_or vs i v → Only e (RefusedAt now K (w v)) → Only e (RefusedAt now (list K) d)
 unfolding RefusedAt
 list_fails_at w now K d vs i v Misfit is lt same refused = λ c h. sequence_refused _ c (λ cs. each_refuses w (Shows K now) vs i v cs lt (rw (← same) refused)) (rw is at h)
 list_fails_at w now K d vs i v Memory is lt same refused = tt

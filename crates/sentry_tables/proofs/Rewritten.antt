@@ -4,7 +4,7 @@ use Rattle.serde_json.specs.Data.{Data, boolean, number, string, array, object, 
 use Rattle.serde_json.specs.Find.{get_member, as_array, as_object}
 use Rattle.sentry_tables.specs.Cell.{Cell, absent, present, sequence, mapping, fields, choice, Cells, no_cells, cell, Entries, no_entries, entry, same_cell}
 use Rattle.sentry_tables.specs.Kind.{Rule, must, may, may_null, may_strict, default, always, draw, at_once, Kind, scalar, list, map, values, table, tagged, tagged_map, Rows, no_rows, row, Cases, no_cases, case, keys, words, tag, others}
-use Rattle.sentry_tables.specs.Shows.{is_object, members_in, ObjectShows, IsSequence, IsMapping, AreFields, IsChoice, ItemsShow, MembersShow, ArrayShows, ShowsOption, RowShows, OrElse, word_at, word_of, Shows, RowsShow, CaseShows, values_key, values_in, unless_null}
+use Rattle.sentry_tables.specs.Shows.{is_object, members_in, ObjectShows, IsSequence, IsMapping, AreFields, IsChoice, ItemsShow, MembersShow, ArrayShows, ShowsOption, RowShows, OrElse, word_at, tag_word, Shows, RowsShow, CaseShows, values_key, values_in, unless_null}
 use Rattle.sentry_tables.specs.Norm.{cells_of, other_of, entries_of, which, chosen, each_cell, each_entry, optional_norm, row_norm, is_null_of, norm, rows_norm, case_norm}
 use Rattle.sentry_tables.specs.Written.{is_null, items_tree, members_tree, optional_tree, row_tree, put_given, tree, rows_tree, case_tree}
 use Rattle.sentry_tables.specs.Meets.{RowMeets, IsProper}
@@ -119,15 +119,15 @@ module _ (now : Cell) (real : IsMoment now) where
         ap object (object_holds (λ e. AreFields (λ cs other. RowsShow rows now e cs × (other ≡ others o (keys rows) (members_in e))) c) d (rows_tree rows (cells_of c) (other_of c) ≡ rows_tree rows (rows_norm rows (cells_of c)) (other_of c))
         (λ ms is shown. fields_same (λ cs other. RowsShow rows now (object ms) cs × (other ≡ others o (keys rows) ms)) (rows_tree rows) (rows_norm rows) (λ cs other both. rows_same rows laws ms cs other (subst IsSound is sound).1 both.0) c shown) h.0 h.1)
     rewritten (tagged cases) laws d c sound h =
-        ap object (object_holds (λ e. IsChoice (CaseShows cases now (word_of None e) e) c) d (case_tree cases (which c) (chosen c) ≡ case_tree cases (which c) (case_norm cases (which c) (chosen c)))
-        (λ ms is shown. choice_same (CaseShows cases now (word_of None (object ms)) (object ms)) cases (λ n x. case_same cases laws (word_of None (object ms)) ms n x (subst IsSound is sound).1) c shown) h.0 h.1)
+        ap object (object_holds (λ e. IsChoice (CaseShows cases now (tag_word None e) e) c) d (case_tree cases (which c) (chosen c) ≡ case_tree cases (which c) (case_norm cases (which c) (chosen c)))
+        (λ ms is shown. choice_same (CaseShows cases now (tag_word None (object ms)) (object ms)) cases (λ n x. case_same cases laws (tag_word None (object ms)) ms n x (subst IsSound is sound).1) c shown) h.0 h.1)
     rewritten (tagged_map cases fallback) laws d c sound h =
-        ap object (object_same (λ k e x. (is_object e ≡ true) × IsChoice (CaseShows cases now (word_of (Some (word_at k (words cases) fallback)) e) e) x)
+        ap object (object_same (λ k e x. (is_object e ≡ true) × IsChoice (CaseShows cases now (tag_word (Some (word_at k (words cases) fallback)) e) e) x)
         (λ x. object (case_tree cases (which x) (chosen x))) (λ x. choice (which x) (case_norm cases (which x) (chosen x)))
-        (λ k e x whole one. ap object (object_holds (λ f. IsChoice (CaseShows cases now (word_of (Some (word_at k (words cases) fallback)) f) f) x) e
+        (λ k e x whole one. ap object (object_holds (λ f. IsChoice (CaseShows cases now (tag_word (Some (word_at k (words cases) fallback)) f) f) x) e
         (case_tree cases (which x) (chosen x) ≡ case_tree cases (which x) (case_norm cases (which x) (chosen x)))
-        (λ ms same each. choice_same (CaseShows cases now (word_of (Some (word_at k (words cases) fallback)) (object ms)) (object ms)) cases
-        (λ n y. case_same cases laws (word_of (Some (word_at k (words cases) fallback)) (object ms)) ms n y (subst IsSound same whole).1) x each) one.0 one.1))
+        (λ ms same each. choice_same (CaseShows cases now (tag_word (Some (word_at k (words cases) fallback)) (object ms)) (object ms)) cases
+        (λ n y. case_same cases laws (tag_word (Some (word_at k (words cases) fallback)) (object ms)) ms n y (subst IsSound same whole).1) x each) one.0 one.1))
         (as_object d) c (object_sound d sound) h)
 
     rows_same : (rows : Rows) → RowsLawful rows → (ms : Members) (cs : Cells) (other : Members) → MembersAreSound ms → RowsShow rows now (object ms) cs → rows_tree rows cs other ≡ rows_tree rows (rows_norm rows cs) other

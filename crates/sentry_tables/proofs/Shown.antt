@@ -6,7 +6,7 @@ use Rattle.serde_json.specs.Data.{Data, null, boolean, number, string, array, ob
 use Rattle.serde_json.specs.Find.{get_member, as_array, as_object}
 use Rattle.sentry_tables.specs.Cell.{Cell, present, sequence, mapping, fields, choice, Cells, no_cells, cell, Entries, no_entries, entry}
 use Rattle.sentry_tables.specs.Kind.{Scalar, Rule, must, may, may_null, may_strict, default, always, draw, at_once, Other, ignored, kept, Kind, scalar, list, map, values, table, tagged, tagged_map, Rows, no_rows, row, Cases, no_cases, case, keys, words, others}
-use Rattle.sentry_tables.specs.Shows.{is_object, members_in, ObjectShows, IsPresent, IsSequence, IsMapping, AreFields, IsChoice, ItemsShow, MembersShow, ArrayShows, ShowsOption, RowShows, OrElse, word_at, word_of, Shows, RowsShow, CaseShows, values_key, values_in, unless_null}
+use Rattle.sentry_tables.specs.Shows.{is_object, members_in, ObjectShows, IsPresent, IsSequence, IsMapping, AreFields, IsChoice, ItemsShow, MembersShow, ArrayShows, ShowsOption, RowShows, OrElse, word_at, tag_word, Shows, RowsShow, CaseShows, values_key, values_in, unless_null}
 use Rattle.sentry_tables.specs.Meets.{AllCells, AllEntries, IsKept, IsOptional, RowMeets, Demand, proper_demand, readable_demand, entry_keys, Meets, RowsMeet, CaseMeets, AreOrderedTexts, AllLater, IsProper, IsReadable}
 use Rattle.sentry_tables.specs.Lawful.{ScalarLaws, IsNormal, IsMoment, RuleLaws, IsLawful, RowsLawful, CasesLawful}
 use Rattle.std.specs.Ordering.{match_ordering}
@@ -248,12 +248,12 @@ module _ (G : Demand) (own : IsMetByShown G) (now : Cell) (real : IsMoment now) 
         object_holds (λ e. AreFields (λ cs other. RowsShow rows now e cs × (other ≡ others o (keys rows) (members_in e))) c) d (Meets G (table rows o) c)
         (λ ms is shown. let good = subst IsSound is sound in fields_meet _ _ (λ cs other both. (rows_meet rows laws ms cs good.1 both.0, others_meet o (keys rows) ms other good both.1)) c shown) h.0 h.1
     shown_meets (tagged cases) laws d c sound h =
-        object_holds (λ e. IsChoice (CaseShows cases now (word_of None e) e) c) d (Meets G (tagged cases) c)
-        (λ ms is shown. choice_meets _ _ (λ n x. case_meets cases laws (word_of None (object ms)) ms n x (subst IsSound is sound)) c shown) h.0 h.1
+        object_holds (λ e. IsChoice (CaseShows cases now (tag_word None e) e) c) d (Meets G (tagged cases) c)
+        (λ ms is shown. choice_meets _ _ (λ n x. case_meets cases laws (tag_word None (object ms)) ms n x (subst IsSound is sound)) c shown) h.0 h.1
     shown_meets (tagged_map cases fallback) laws d c sound h =
-        object_meets (λ k e x. (is_object e ≡ true) × IsChoice (CaseShows cases now (word_of (Some (word_at k (words cases) fallback)) e) e) x) (IsChoice (CaseMeets G cases))
-        (λ k e x whole one. object_holds (λ f. IsChoice (CaseShows cases now (word_of (Some (word_at k (words cases) fallback)) f) f) x) e (IsChoice (CaseMeets G cases) x)
-        (λ ms same each. choice_meets _ _ (λ n y. case_meets cases laws (word_of (Some (word_at k (words cases) fallback)) (object ms)) ms n y (subst IsSound same whole)) x each) one.0 one.1)
+        object_meets (λ k e x. (is_object e ≡ true) × IsChoice (CaseShows cases now (tag_word (Some (word_at k (words cases) fallback)) e) e) x) (IsChoice (CaseMeets G cases))
+        (λ k e x whole one. object_holds (λ f. IsChoice (CaseShows cases now (tag_word (Some (word_at k (words cases) fallback)) f) f) x) e (IsChoice (CaseMeets G cases) x)
+        (λ ms same each. choice_meets _ _ (λ n y. case_meets cases laws (tag_word (Some (word_at k (words cases) fallback)) (object ms)) ms n y (subst IsSound same whole)) x each) one.0 one.1)
         G.keys keys_meet (as_object d) c (object_sound d sound) h
 
     rows_meet : (rows : Rows) → RowsLawful rows → (ms : Members) (cs : Cells) → MembersAreSound ms → RowsShow rows now (object ms) cs → RowsMeet G rows cs

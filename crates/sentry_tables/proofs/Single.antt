@@ -6,7 +6,7 @@ use Rattle.serde_json.specs.Find.{get, as_array, as_object}
 use Rattle.sentry_json.specs.Keys.{is_among}
 use Rattle.sentry_tables.specs.Cell.{Cell, present, sequence, mapping, fields, choice, Cells, no_cells, cell, Entries, no_entries, entry}
 use Rattle.sentry_tables.specs.Kind.{Rule, must, may, may_null, may_strict, default, always, draw, at_once, Kind, scalar, list, map, values, table, tagged, tagged_map, Rows, no_rows, row, Cases, no_cases, case, keys, words, others}
-use Rattle.sentry_tables.specs.Shows.{is_object, members_in, ObjectShows, IsPresent, IsSequence, IsMapping, AreFields, IsChoice, ItemsShow, MembersShow, ArrayShows, values_in, unless_null, ShowsOption, RowShows, OrElse, word_at, word_of, Shows, RowsShow, CaseShows}
+use Rattle.sentry_tables.specs.Shows.{is_object, members_in, ObjectShows, IsPresent, IsSequence, IsMapping, AreFields, IsChoice, ItemsShow, MembersShow, ArrayShows, values_in, unless_null, ShowsOption, RowShows, OrElse, word_at, tag_word, Shows, RowsShow, CaseShows}
 use Rattle.sentry_tables.specs.Lawful.{IsLawful, RowsLawful, CasesLawful}
 use Rattle.sentry_tables.specs.Drawn.{IfGiven, IsGiven, EachItem, EachMember, InArray, InObject, RowHolds, NothingDrawn, RowsDrawNothing, CasesDrawNothing}
 use Rattle.sentry_tables.proofs.Members.{is_among_here, is_among_later}
@@ -112,11 +112,11 @@ module _ (now : Cell) where
     single (map K) laws d c x q h k = object_single (λ l. NothingDrawn K) (λ l. Shows K now) (λ l. single K laws) (as_object d) c x q h k
     single (values K) laws d c x q h k = array_single (NothingDrawn K) (Shows K now) (single K laws) (values_in d) c x q h k
     single (table rows o) laws d c x q h k = fields_single (RowsShow rows now d) (others o (keys rows) (members_in d)) (λ cs xs. rows_single rows laws d cs xs q) c x h.1 k.1
-    single (tagged cases) laws d c x q h k = choice_single (CaseShows cases now (word_of None d) d) (λ n m y z. case_single cases laws (word_of None d) d n m y z q) c x h.1 k.1
+    single (tagged cases) laws d c x q h k = choice_single (CaseShows cases now (tag_word None d) d) (λ n m y z. case_single cases laws (tag_word None d) d n m y z q) c x h.1 k.1
     single (tagged_map cases fallback) laws d c x q h k =
-        object_single (λ l e. CasesDrawNothing cases (word_of (Some (word_at l (words cases) fallback)) e) e)
-        (λ l e y. (is_object e ≡ true) × IsChoice (CaseShows cases now (word_of (Some (word_at l (words cases) fallback)) e) e) y)
-        (λ l e y z p a b. choice_single (CaseShows cases now (word_of (Some (word_at l (words cases) fallback)) e) e) (λ n m v w. case_single cases laws (word_of (Some (word_at l (words cases) fallback)) e) e n m v w p) y z a.1 b.1)
+        object_single (λ l e. CasesDrawNothing cases (tag_word (Some (word_at l (words cases) fallback)) e) e)
+        (λ l e y. (is_object e ≡ true) × IsChoice (CaseShows cases now (tag_word (Some (word_at l (words cases) fallback)) e) e) y)
+        (λ l e y z p a b. choice_single (CaseShows cases now (tag_word (Some (word_at l (words cases) fallback)) e) e) (λ n m v w. case_single cases laws (tag_word (Some (word_at l (words cases) fallback)) e) e n m v w p) y z a.1 b.1)
         (as_object d) c x q h k
 
     rows_single : (rows : Rows) → RowsLawful rows → (d : Data) (cs xs : Cells) → RowsDrawNothing rows d → RowsShow rows now d cs → RowsShow rows now d xs → cs ≡ xs

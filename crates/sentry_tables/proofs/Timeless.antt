@@ -4,7 +4,7 @@ use Rattle.serde_json.specs.Data.{Data, Items, no_items, item, Members, no_membe
 use Rattle.serde_json.specs.Find.{get, as_array, as_object}
 use Rattle.sentry_tables.specs.Cell.{Cell, absent, present, sequence, mapping, fields, choice, Cells, no_cells, cell, Entries, no_entries, entry}
 use Rattle.sentry_tables.specs.Kind.{Rule, must, may, may_null, may_strict, default, always, draw, at_once, Kind, scalar, list, map, values, table, tagged, tagged_map, Rows, no_rows, row, Cases, no_cases, case, keys, words, others}
-use Rattle.sentry_tables.specs.Shows.{is_object, members_in, ObjectShows, IsPresent, IsSequence, IsMapping, AreFields, IsChoice, ItemsShow, MembersShow, ArrayShows, values_in, unless_null, ShowsOption, RowShows, OrElse, word_at, word_of, Shows, RowsShow, CaseShows}
+use Rattle.sentry_tables.specs.Shows.{is_object, members_in, ObjectShows, IsPresent, IsSequence, IsMapping, AreFields, IsChoice, ItemsShow, MembersShow, ArrayShows, values_in, unless_null, ShowsOption, RowShows, OrElse, word_at, tag_word, Shows, RowsShow, CaseShows}
 
 -- ---- one level
 
@@ -79,11 +79,11 @@ module _ (now later : Cell) where
     timeless (map K) d c h = object_later (λ k. Shows K now) (λ k. Shows K later) (λ k. timeless K) (as_object d) c h
     timeless (values K) d c h = array_later (Shows K now) (Shows K later) (timeless K) (values_in d) c h
     timeless (table rows o) d c h = beside (is_object d ≡ true) _ _ (fields_later (RowsShow rows now d) (RowsShow rows later d) (λ other. other ≡ others o (keys rows) (members_in d)) (rows_later rows d)) c h
-    timeless (tagged cases) d c h = beside (is_object d ≡ true) _ _ (choice_later (CaseShows cases now (word_of None d) d) (CaseShows cases later (word_of None d) d) (case_later cases (word_of None d) d)) c h
+    timeless (tagged cases) d c h = beside (is_object d ≡ true) _ _ (choice_later (CaseShows cases now (tag_word None d) d) (CaseShows cases later (tag_word None d) d) (case_later cases (tag_word None d) d)) c h
     timeless (tagged_map cases fallback) d c h =
-        object_later (λ k e x. (is_object e ≡ true) × IsChoice (CaseShows cases now (word_of (Some (word_at k (words cases) fallback)) e) e) x)
-        (λ k e x. (is_object e ≡ true) × IsChoice (CaseShows cases later (word_of (Some (word_at k (words cases) fallback)) e) e) x)
-        (λ k e x one. beside (is_object e ≡ true) _ _ (choice_later (CaseShows cases now (word_of (Some (word_at k (words cases) fallback)) e) e) (CaseShows cases later (word_of (Some (word_at k (words cases) fallback)) e) e) (case_later cases (word_of (Some (word_at k (words cases) fallback)) e) e)) x one)
+        object_later (λ k e x. (is_object e ≡ true) × IsChoice (CaseShows cases now (tag_word (Some (word_at k (words cases) fallback)) e) e) x)
+        (λ k e x. (is_object e ≡ true) × IsChoice (CaseShows cases later (tag_word (Some (word_at k (words cases) fallback)) e) e) x)
+        (λ k e x one. beside (is_object e ≡ true) _ _ (choice_later (CaseShows cases now (tag_word (Some (word_at k (words cases) fallback)) e) e) (CaseShows cases later (tag_word (Some (word_at k (words cases) fallback)) e) e) (case_later cases (tag_word (Some (word_at k (words cases) fallback)) e) e)) x one)
         (as_object d) c h
 
     rows_later : (rows : Rows) (d : Data) (cs : Cells) → RowsShow rows now d cs → (xs : Cells) × RowsShow rows later d xs

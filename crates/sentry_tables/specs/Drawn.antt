@@ -4,7 +4,7 @@ use Rattle.serde_json.specs.Data.{Data, Items, no_items, item, Members, no_membe
 use Rattle.serde_json.specs.Find.{get, as_array, as_object}
 use Rattle.sentry_json.specs.Line.{tree_of}
 use Rattle.sentry_tables.specs.Kind.{Rule, must, may, may_null, may_strict, default, always, draw, at_once, Kind, scalar, list, map, values, table, tagged, tagged_map, Rows, no_rows, row, Cases, no_cases, case, words}
-use Rattle.sentry_tables.specs.Shows.{values_in, unless_null, word_at, word_of}
+use Rattle.sentry_tables.specs.Shows.{values_in, unless_null, word_at, tag_word}
 
 -- ---- one level, over what holds of what is in it
 
@@ -56,8 +56,8 @@ abbrev mutual
   NothingDrawn (map K) d = InObject (λ k. NothingDrawn K) (as_object d)
   NothingDrawn (values K) d = InArray (NothingDrawn K) (values_in d)
   NothingDrawn (table rows o) d = RowsDrawNothing rows d
-  NothingDrawn (tagged cases) d = CasesDrawNothing cases (word_of None d) d
-  NothingDrawn (tagged_map cases fallback) d = InObject (λ k e. CasesDrawNothing cases (word_of (Some (word_at k (words cases) fallback)) e) e) (as_object d)
+  NothingDrawn (tagged cases) d = CasesDrawNothing cases (tag_word None d) d
+  NothingDrawn (tagged_map cases fallback) d = InObject (λ k e. CasesDrawNothing cases (tag_word (Some (word_at k (words cases) fallback)) e) e) (as_object d)
 
   pub RowsDrawNothing : Rows → Data → Type 0
   RowsDrawNothing no_rows d = ⊤

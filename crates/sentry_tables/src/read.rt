@@ -4,7 +4,7 @@ ghost use Rattle.std.specs.Prelude.{◌≡◌, ◌^◌, None, Some, option_map, 
 ghost use Rattle.serde_json.specs.Data.{Data};
 ghost use Rattle.serde_json.specs.Find.{as_number, as_object};
 ghost use Rattle.serde_json.specs.View.{view};
-ghost use Rattle.sentry_json.specs.Nodes.{items_by, named_by};
+ghost use Rattle.sentry_json.specs.Nodes.{items_data, named_by};
 ghost use Rattle.sentry_tables.specs.Basic.{signed_at, pair_of};
 ghost use Rattle.sentry_tables.specs.Cell.{Cell, whole};
 ghost use Rattle.sentry_tables.specs.Kind.{map as map_kind, values as values_kind};
@@ -129,7 +129,7 @@ impl FromTree for Value {
 
 // `None` unless the items are exactly two integers in the range of `u64`.
 fn two_numbers<N: Node>(items: &[N]) -> Option<(u64, u64)>
-    ensures { option_map pair_cell result ≡ pair_of (items_by N.data_of items.now) }
+    ensures { option_map pair_cell result ≡ pair_of (items_data N.data_of items.now) }
 {
     let (first, after) = items.split_first()?;
     let (second, more) = after.split_first()?;

@@ -3,7 +3,7 @@
 ghost use Rattle.std.specs.Prelude.{◌≡◌, ◌∷◌, IfSome, IsTrue, List, length};
 ghost use Rattle.serde_json.specs.Data.{Data};
 ghost use Rattle.sentry_json.specs.Lists.{VisitsAll, VisitsLine};
-ghost use Rattle.sentry_json.specs.Nodes.{items_by};
+ghost use Rattle.sentry_json.specs.Nodes.{items_data};
 ghost use Rattle.sentry_json.specs.Spelled.{Spells};
 ghost use Rattle.sentry_json.specs.Tokens.{items_of};
 ghost use Rattle.sentry_json.specs.declared.tape.token.Token.{Token};
@@ -72,7 +72,7 @@ fn visit_items<'a, T: Visitor>(
     visitor: &mut T,
 ) -> Option<Rest<'a>>
     ensures { IfSome result (λ rest. (all : List Token) × (items : List Data)
-        × (items_of all ≡ items_by (λ d. d) items)
+        × (items_of all ≡ items_data (λ d. d) items)
         × Spells (91 ∷ inside.entry.text.now) rest.text.now (token.Array (length all)) all 126
         × VisitsAll T.visits visitor.old items visitor.new) }
 {

@@ -1,6 +1,6 @@
 use Rattle.std.proofs.Common.{◌≡◌, Some, take, arith, rules}
 use Rattle.std.proofs.lemmas.List.{take_all}
-use Rattle.sentry_json.specs.Nodes.{items_by}
+use Rattle.sentry_json.specs.Nodes.{items_data}
 use Rattle.serde_json.specs.Find.{as_array}
 use Rattle.sentry_tables.specs.Reading.{Only, Refused}
 use Rattle.sentry_tables.specs.Kind.{list}
@@ -10,7 +10,7 @@ use Rattle.sentry_tables.proofs.read.VecFromTree.from_node.Goals as goal
 pub returns-in_err-from_node : goal.returns-in_err-from_node
 returns-in_err-from_node g c =
     let vs = c.deref-item-items.result.now in
-    let is : as_array (g.N.Node.data_of c.args.node.now) ≡ Some (items_by g.N.Node.data_of vs) = search rules in
+    let is : as_array (g.N.Node.data_of c.args.node.now) ≡ Some (items_data g.N.Node.data_of vs) = search rules in
     let h : Only c.in_err-from_node.field-0.0 (Refused (list g.T.Member.kind) (g.N.Node.data_of c.args.node.now)) = list_fails g.N.Node.data_of _ _ vs c.loop-item.item-index c.item-item.result _ is (omega arith) c.item-item.is c.in_err-from_node.ensures in
     search rules
 
@@ -20,6 +20,6 @@ loop-item-preserved g c = λ now. each_more_at g.N.Node.data_of _ _ c.deref-item
 pub returns : goal.returns
 returns g c =
     let vs = c.deref-item-items.result.now in
-    let is : as_array (g.N.Node.data_of c.args.node.now) ≡ Some (items_by g.N.Node.data_of vs) = search rules in
+    let is : as_array (g.N.Node.data_of c.args.node.now) ≡ Some (items_data g.N.Node.data_of vs) = search rules in
     let ends : take c.loop-item.item-index vs ≡ vs = take_all c.loop-item.item-index vs (omega arith) in
     list_shown g.N.Node.data_of _ _ _ vs _ is (rw ends at c.loop-item.invariant)
