@@ -2,6 +2,7 @@
 
 ghost use Rattle.std.specs.Prelude.{◌≡◌, ◌<◌, ◌≤◌, ◌^◌, ◌/◌, ◌%◌};
 ghost use Rattle.std.specs.Duration.{as_nanos};
+ghost use Rattle.sentry_tables.specs.Lawful.{last_second};
 
 use sentry_types::protocol::v7::Moment;
 use std::rt::Clock;
@@ -17,9 +18,9 @@ pub fn time_since_1970(rt: &impl Clock) -> Duration {
 
 /// Returns the moment this long after 1970; second 0 past the year 9999.
 pub fn moment_after(time: Duration) -> Moment
-    ensures within { as_nanos time / 10 ^ 9 ≤ 253_402_300_799 →
+    ensures within { as_nanos time / 10 ^ 9 ≤ last_second →
         (result.secs ≡ as_nanos time / 10 ^ 9) × (result.nanos ≡ as_nanos time % 10 ^ 9) }
-    ensures beyond { 253_402_300_799 < as_nanos time / 10 ^ 9 → (result.secs ≡ 0) ×
+    ensures beyond { last_second < as_nanos time / 10 ^ 9 → (result.secs ≡ 0) ×
         (result.nanos ≡ 0) }
 {
     moment_at(time.as_secs(), time.subsec_nanos())
@@ -27,9 +28,9 @@ pub fn moment_after(time: Duration) -> Moment
 
 // Returns the moment of these seconds and nanoseconds; second 0 if there is none.
 fn moment_at(secs: u64, nanos: u32) -> Moment
-    ensures within { secs ≤ 253_402_300_799 → nanos < 10 ^ 9 → (result.secs ≡ secs) ×
+    ensures within { secs ≤ last_second → nanos < 10 ^ 9 → (result.secs ≡ secs) ×
         (result.nanos ≡ nanos) }
-    ensures beyond { 253_402_300_799 < secs → (result.secs ≡ 0) × (result.nanos ≡ 0) }
+    ensures beyond { last_second < secs → (result.secs ≡ 0) × (result.nanos ≡ 0) }
 {
     match Moment::new(secs, nanos) {
         Some(moment) => moment,

@@ -44,7 +44,7 @@ pub(crate) enum Contents {
 #[derive(Debug, Drop, Error)]
 pub enum AddRefused {
     /// The envelope is raw, and its items are unknown.
-    #[error("RawEnvelope")]
+    #[error("envelope is raw")]
     RawEnvelope(EnvelopeItem),
     /// An allocation failed.
     #[error("out of memory")]

@@ -22,8 +22,8 @@ pub trait ReadApart: FromTreeAt {
         ensures keys { map (λ key. key.now) result.now ≡ keys_beside }
         ensures apart { is_among (codes "extra") keys_beside ≡ false };
 
-    /// Returns the value with this additional data, if there is some, in place of its own. Of a
-    /// value that was read from an object's other members, it is the value of the whole object.
+    /// Returns the value of a whole object, of which this one was read from the other members and
+    /// `extra` is the object at [`EXTRA`], if there is one.
     fn with_extra(self, extra: Option<Map<String, Value>>) -> Self
         ensures { IsShownWith (codes "extra")
             (option_map (λ m. object (members_view m.entries)) extra) keys_beside

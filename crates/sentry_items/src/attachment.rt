@@ -43,7 +43,7 @@ pub enum AttachmentWriteError {
     #[error("out of memory")]
     Memory,
     /// A write failed; only a proper prefix of the item was written, possibly none of it.
-    #[error("Io")]
+    #[error("write failed")]
     Io,
 }
 

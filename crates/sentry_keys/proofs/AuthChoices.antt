@@ -3,6 +3,7 @@ use Rattle.std.proofs.Common.{◌≡◌, ◌==◌, ◌⊎◌, ◌+◌, ◌*◌, 
 use Rattle.std.specs.Prelude.{unwrap_or}
 use Rattle.std.specs.List.{AllByRecursion, Contains, last_or, before_first}
 use Rattle.std.proofs.lemmas.Bool.{cases_lt}
+use Rattle.sentry_tables.specs.Lawful.{last_second}
 use Rattle.sentry_text.specs.Number.{number_of}
 use Rattle.sentry_text.proofs.NumberTexts.{number_of_iff}
 use Rattle.sentry_moments.specs.Decimal.{Worth, Billionths, BelowZero, IsDecimal, IsNoDecimal}
@@ -38,10 +39,6 @@ last_version [] o before all = before
 last_version (text ∷ texts) o before all = last_version texts (Some text) all.0 all.1
 
 -- ---- moments
-
--- the last second of the year 9999
-abbrev last_second : ℕ
-last_second = 253_402_300_799
 
 worth_of : Worth → ℕ
 worth_of (Billionths n) = n

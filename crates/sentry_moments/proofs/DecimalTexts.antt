@@ -275,7 +275,7 @@ one_worth text w v d f =
     let parts = some_pair_parts _ _ _ _ (sym a.exponent_is ∙ b.exponent_is) in
     a.worth_is ∙ ap (λ (t : Bool). worth_at text t a.x) parts.0 ∙ ap (λ (k : ℕ). worth_at text b.down k) parts.1 ∙ sym b.worth_is
 
-same_number : (v w : ℕ) → Billionths v ≡ Billionths w → v ≡ w
+pub same_number : (v w : ℕ) → Billionths v ≡ Billionths w → v ≡ w
 same_number v w e = cc
 
 -- a number below the limit is never refused

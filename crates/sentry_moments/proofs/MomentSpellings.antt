@@ -5,7 +5,7 @@ use Rattle.serde_json.specs.Data.{Data, number, string, unsigned}
 use Rattle.sentry_json.specs.Sound.{IsSound}
 use Rattle.sentry_tables.specs.Cell.{Cell, moment}
 use Rattle.sentry_tables.specs.Kind.{at_once}
-use Rattle.sentry_tables.specs.Lawful.{IsMoment, ScalarLaws, RefusesNull, RuleLaws}
+use Rattle.sentry_tables.specs.Lawful.{IsMoment, last_second, ScalarLaws, RefusesNull, RuleLaws}
 use Rattle.sentry_tables.specs.Written.{is_null}
 use Rattle.sentry_tables.specs.Spelling.{SpellingLaws, spelled}
 use Rattle.sentry_tables.proofs.Spellings.{spelled_laws, spelled_refuses_null}
@@ -18,11 +18,8 @@ use Rattle.sentry_moments.proofs.Rfc3339Texts.{one_moment, is_decided}
 
 -- what is stored is a moment in range
 in_range : (P : Cell → Type 0) → ((secs nanos : ℕ) → IsMomentTime secs nanos → P (moment secs nanos)) → (c : Cell) → IsMoment c → P c
-in_range P f (moment secs nanos) h = f secs nanos (omega (arith, h.0), h.1)
+in_range P f (moment secs nanos) h = f secs nanos h
 in_range P f _ h = absurd h
-
-is_moment : (secs nanos : ℕ) → IsMomentTime secs nanos → IsMoment (moment secs nanos)
-is_moment secs nanos h = (omega (arith, h.0), h.1)
 
 -- and so is what a text names
 named : (P : Cell → Type 0) → (text : List ℕ) (c : Cell) → ((secs nanos : ℕ) → IsRfc3339 text secs nanos → P (moment secs nanos)) → NamesMoment text c → P c
@@ -39,7 +36,7 @@ names_one text c x h k =
     named (λ y. y ≡ x) text c (λ secs nanos own. named (λ y. moment secs nanos ≡ y) text x (λ s n other. let one = one_moment text secs nanos s n own other in same_moment secs s nanos n one.0 one.1) k) h
 
 named_stored : (text : List ℕ) (c : Cell) → NamesMoment text c → IsMoment c
-named_stored text c = named IsMoment text c (λ secs nanos h. is_moment secs nanos h.in_range)
+named_stored text c = named IsMoment text c (λ secs nanos h. h.in_range)
 
 named_or_none : (text : List ℕ) → ((secs : ℕ) × (nanos : ℕ) × IsRfc3339 text secs nanos) ⊎ ((secs nanos : ℕ) → IsRfc3339 text secs nanos → ⊥) → ((c : Cell) × NamesMoment text c) ⊎ ((c : Cell) → NamesMoment text c → ⊥)
 named_or_none text (inl (secs, nanos, h)) = inl (moment secs nanos, h)
@@ -95,13 +92,13 @@ tree_not_null secs nanos true = refl
 tree_not_null secs nanos false = refl
 
 seconds_stored : (d : Data) (c : Cell) → ShowsSeconds d c → IsMoment c
-seconds_stored (number (unsigned n)) c h = subst IsMoment (sym h.0) (is_moment n 0 (h.1, omega arith))
+seconds_stored (number (unsigned n)) c h = subst IsMoment (sym h.0) (h.1, omega arith)
 seconds_stored (string text) c h = named_stored text c h
 seconds_stored _ c h = absurd h
 
 seconds_decided : (d : Data) → ((c : Cell) × ShowsSeconds d c) ⊎ ((c : Cell) → ShowsSeconds d c → ⊥)
 seconds_decided (number (unsigned n)) =
-    elim (cases_lt 253_402_300_799 n) [
+    elim (cases_lt last_second n) [
       | inl lt ↦ inr (λ c h. omega (arith, h.1))
       | inr le ↦ inl (moment n 0, (refl, le))
     ]

@@ -1,9 +1,11 @@
 -- What trees show as moments.
 use Rattle.std.proofs.Common.{◌≡◌, ◌≤◌, ℕ, List, Option, Some, None, Result, Ok, Err, IsSomeAnd, sym, ap, subst, arith}
+use Rattle.std.proofs.lemmas.Option.{same_Some}
 use Rattle.serde_json.specs.Data.{Data, number, string, unsigned, negative, float}
 use Rattle.serde_json.specs.Find.{as_str}
 use Rattle.sentry_tables.specs.Basic.{u64_of}
 use Rattle.sentry_tables.specs.Cell.{Cell, moment}
+use Rattle.sentry_tables.specs.Lawful.{last_second}
 use Rattle.sentry_tables.specs.Reading.{Shown, Refused, Reads}
 use Rattle.sentry_tables.specs.Spelling.{Texted}
 use Rattle.sentry_tables.specs.declared.error.TreeError.{TreeError}
@@ -41,28 +43,25 @@ not_named text d o is none only now c h = never text c (λ secs nanos k. nothing
 
 -- ---- whole seconds
 
-same_number : (m n : ℕ) → Some m ≡ Some n → m ≡ n
-same_number m n e = cc
-
-counted : (n : ℕ) (d : Data) → u64_of d ≡ Some n → n ≤ 253_402_300_799 → ShowsSeconds d (moment n 0)
+counted : (n : ℕ) (d : Data) → u64_of d ≡ Some n → n ≤ last_second → ShowsSeconds d (moment n 0)
 counted n (number (unsigned m)) e h =
-    let same = same_number m n e in (ap (λ k. moment k 0) (sym same), omega arith)
+    let same = same_Some m n e in (ap (λ k. moment k 0) (sym same), omega arith)
 counted n (number (negative z)) e h = absurd cc
 counted n (number (float x)) e h = absurd cc
 counted n _ e h = absurd cc
 
-pub seconds_shown : (n : ℕ) (d : Data) (m : Moment) → u64_of d ≡ Some n → n ≤ 253_402_300_799 → m.secs ≡ n → m.nanos ≡ 0 → Shown seconds_kind d (moment_cell m)
+pub seconds_shown : (n : ℕ) (d : Data) (m : Moment) → u64_of d ≡ Some n → n ≤ last_second → m.secs ≡ n → m.nanos ≡ 0 → Shown seconds_kind d (moment_cell m)
 unfolding Shown
 seconds_shown n d m is h secs nanos now = rw (secs, nanos) (counted n d is h)
 
-uncounted : (n : ℕ) (d : Data) (c : Cell) → u64_of d ≡ Some n → (n ≤ 253_402_300_799 → ⊥) → ShowsSeconds d c → ⊥
+uncounted : (n : ℕ) (d : Data) (c : Cell) → u64_of d ≡ Some n → (n ≤ last_second → ⊥) → ShowsSeconds d c → ⊥
 uncounted n (number (unsigned m)) c e large h =
-    let same = same_number m n e in large (omega (arith, h.1))
+    let same = same_Some m n e in large (omega (arith, h.1))
 uncounted n (number (negative z)) c e large h = absurd cc
 uncounted n (number (float x)) c e large h = absurd cc
 uncounted n _ c e large h = absurd cc
 
-pub past_the_range : (n : ℕ) (d : Data) → u64_of d ≡ Some n → (n ≤ 253_402_300_799 → ⊥) → Refused seconds_kind d
+pub past_the_range : (n : ℕ) (d : Data) → u64_of d ≡ Some n → (n ≤ last_second → ⊥) → Refused seconds_kind d
 unfolding Refused
 past_the_range n d is large now c h = uncounted n d c is large h
 

@@ -10,6 +10,7 @@ use Rattle.std.proofs.lemmas.List.{length-take, take-append-drop, take_at, drop_
 use Rattle.jiff_core.specs.Calendar.{days_from_civil}
 use Rattle.jiff_core.proofs.SignedLemmas.{signed_arith}
 use Rattle.sentry_json.proofs.Integers.{power_below}
+use Rattle.sentry_tables.specs.Lawful.{last_second}
 use Rattle.sentry_moments.specs.Digits.{front_digits, after_digits}
 use Rattle.sentry_moments.specs.Rfc3339.{IsFraction, Absent, Present, nanoseconds, IsZone, Upper, Lower, Ahead, Behind, IsRfc3339, date_text, clock_text}
 use Rattle.sentry_moments.specs.Rfc3339Parts.{IsDateAndTime, IsMomentText, fraction}
@@ -133,7 +134,7 @@ same_moment text s t m n a b =
 
 -- ---- from 1970 to the end of the year 9999
 
-pub as_rfc3339 : (text : List ℕ) (secs nanos : ℕ) → IsMomentText text (pos secs) nanos → secs ≤ 253_402_300_799 → IsRfc3339 text secs nanos
+pub as_rfc3339 : (text : List ℕ) (secs nanos : ℕ) → IsMomentText text (pos secs) nanos → secs ≤ last_second → IsRfc3339 text secs nanos
 as_rfc3339 text secs nanos r bound =
     let d = r.is_date_and_time in
     record {
@@ -183,7 +184,7 @@ IsDecided text = ((secs : ℕ) × (nanos : ℕ) × IsRfc3339 text secs nanos) �
 
 decided : (text : List ℕ) (s : ℤ) (n : ℕ) → IsMomentText text s n → IsDecided text
 decided text (pos s) n r =
-    elim (cases_lt 253_402_300_799 s) [
+    elim (cases_lt last_second s) [
       | inl late ↦ inr (λ secs nanos h. omega (arith, signed_arith, (same_moment text (pos secs) (pos s) nanos n (as_moment text secs nanos h) r).0, late, h.in_range.0))
       | inr bound ↦ inl (s, n, as_rfc3339 text s n r bound)
     ]

@@ -19,10 +19,7 @@ use Rattle.sentry_moments.specs.declared.sample_rand.InvalidSampleRandError.TheV
 use Rattle.sentry_moments.proofs.AsciiTexts.{decimal_text-utf8, sample_rand_text-utf8}
 use Rattle.sentry_moments.proofs.Choices.{if_true}
 use Rattle.sentry_moments.proofs.DecimalReadBack.{rate_reads_back, sample_rand_reads}
-use Rattle.sentry_moments.proofs.DecimalTexts.{one_worth, is_decided}
-
-same_number : (m n : ℕ) → Billionths m ≡ Billionths n → m ≡ n
-same_number m n e = cc
+use Rattle.sentry_moments.proofs.DecimalTexts.{one_worth, same_number, is_decided}
 
 -- a text that is worth so many billionths is worth no others
 pub one_number : (text : List ℕ) (m n : ℕ) → IsDecimal text (Billionths m) → IsDecimal text (Billionths n) → m ≡ n

@@ -3,7 +3,7 @@ use Rattle.std.specs.Prelude.{◌≡◌, ℕ, ◌==◌, ◌≤◌, List, [], fal
 use Rattle.serde_json.specs.Data.{Data, null, number, string, unsigned}
 use Rattle.sentry_tables.specs.Cell.{Cell, moment}
 use Rattle.sentry_tables.specs.Kind.{Scalar, Kind, scalar}
-use Rattle.sentry_tables.specs.Lawful.{IsMoment}
+use Rattle.sentry_tables.specs.Lawful.{IsMoment, last_second}
 use Rattle.sentry_tables.specs.Spelling.{Spelling, spelled_kind}
 use Rattle.sentry_moments.specs.MomentTexts.{rfc3339_text}
 use Rattle.sentry_moments.specs.Rfc3339.{IsRfc3339}
@@ -30,7 +30,7 @@ rfc3339_kind = spelled_kind rfc3339_spelling
 
 -- a number is the whole seconds from 1970-01-01T00:00:00Z to the end of the year 9999, and a text names the moment
 abbrev pub ShowsSeconds : Data → Cell → Type 0
-ShowsSeconds (number (unsigned n)) c = (c ≡ moment n 0) × (n ≤ 253_402_300_799)
+ShowsSeconds (number (unsigned n)) c = (c ≡ moment n 0) × (n ≤ last_second)
 ShowsSeconds (string text) c = NamesMoment text c
 ShowsSeconds _ c = ⊥
 

@@ -2,12 +2,13 @@
 use Rattle.std.specs.Prelude.{◌≡◌, ℕ, ◌+◌, ◌*◌, ◌<◌, ◌≤◌, ◌^◌, ◌⊎◌, ℤ, pos, neg_ℤ, ◌+ℤ◌, ◌-ℤ◌, ◌*ℤ◌, List, [], ◌∷◌, ◌++◌, take, replicate}
 use Rattle.std.specs.Str.Parse.{AllDigits, digits_value}
 use Rattle.jiff_core.specs.Calendar.{IsCivilDate, days_from_civil}
+use Rattle.sentry_tables.specs.Lawful.{last_second}
 use Rattle.sentry_moments.specs.Characters.{colon, full_stop, lower_t, lower_z, minus_sign, plus_sign, space, upper_t, upper_z, zero_digit}
 use Rattle.sentry_moments.specs.Digits.{digits}
 
 -- seconds and nanoseconds from 1970-01-01T00:00:00Z to the end of the year 9999
 abbrev pub IsMomentTime : ℕ → ℕ → Type 0
-IsMomentTime secs nanos = (secs ≤ 253_402_300_799) × (nanos < 10 ^ 9)
+IsMomentTime secs nanos = (secs ≤ last_second) × (nanos < 10 ^ 9)
 
 -- a day and a time of day, as a calendar and a clock show them
 pub record Civil : Type 0 where

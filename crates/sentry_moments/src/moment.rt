@@ -1,6 +1,7 @@
 //! Moments (timestamps), and their RFC 3339 and decimal texts.
 
-ghost use Rattle.std.specs.Prelude.{ℕ, ◌≡◌, ◌↔◌, ◌≤◌, ◌<◌, ◌^◌, ◌*◌, ◌+◌, ◌/◌, ◌∷◌, ◌++◌, IsSome, IfSome, IsSomeAnd, IfOk, Some, pos, string_bytes};
+ghost use Rattle.std.specs.Prelude.{ℕ, ◌≡◌, ◌↔◌, ◌≤◌, ◌<◌, ◌^◌, ◌*◌, ◌+◌, ◌/◌, IsSome, IfSome, IsSomeAnd, IfOk, Some, pos, string_bytes};
+ghost use Rattle.sentry_tables.specs.Lawful.{last_second};
 ghost use Rattle.sentry_moments.specs.Decimal.{IsDecimal, Billionths, decimal_text};
 ghost use Rattle.sentry_moments.specs.Rfc3339.{IsMomentTime, IsRfc3339, date_text, clock_text};
 ghost use Rattle.sentry_moments.specs.MomentTexts.{civil_at, day_after, rfc3339_text};
@@ -21,12 +22,15 @@ use std::{fmt, str};
 pub struct Moment {
     secs: u64,
     nanos: u32,
-    pub ghost secs_in_range: { secs ≤ 253_402_300_799 },
+    pub ghost secs_in_range: { secs ≤ last_second },
     pub ghost nanos_in_range: { nanos < 10 ^ 9 },
 }
 
 // Length of an RFC 3339 text in UTC with nine places, the longest.
 pub(crate) const LONGEST: usize = 30;
+
+// The last second of the year 9999.
+const LAST_SECOND: u64 = 253_402_300_799;
 
 // Nanoseconds from the beginning of 1970 to the end of the year 9999.
 const ALL_BILLIONTHS: u128 = 253_402_300_800_000_000_000;
@@ -36,10 +40,10 @@ impl Moment {
     ///
     /// `None` past the year 9999, and if `nanos` is 10^9 or more.
     pub fn new(secs: u64, nanos: u32) -> Option<Moment>
-        ensures exactly { IsSome result ↔ ((secs ≤ 253_402_300_799) × (nanos < 10 ^ 9)) }
+        ensures exactly { IsSome result ↔ ((secs ≤ last_second) × (nanos < 10 ^ 9)) }
         ensures same { IfSome result (λ m. (m.secs ≡ secs) × (m.nanos ≡ nanos)) }
     {
-        if secs <= 253_402_300_799 && nanos < 1_000_000_000 {
+        if secs <= LAST_SECOND && nanos < 1_000_000_000 {
             Some(Moment { secs, nanos })
         } else {
             None
@@ -50,7 +54,7 @@ impl Moment {
     fn from_signed(secs: i64, nanos: u32) -> Option<Moment>
         requires { nanos < 10 ^ 9 }
         ensures found { IfSome result (λ m. (pos m.secs ≡ secs) × (m.nanos ≡ nanos)) }
-        ensures only { (s : ℕ) → pos s ≡ secs → s ≤ 253_402_300_799 →
+        ensures only { (s : ℕ) → pos s ≡ secs → s ≤ last_second →
             IsSomeAnd result (λ m. (m.secs ≡ s) × (m.nanos ≡ nanos)) }
     {
         if secs < 0 {

@@ -23,7 +23,7 @@ use Rattle.sentry_tables.proofs.Laws.{has_laws}
 -- ---- a moment: an array of its seconds and nanoseconds
 
 abbrev moment_at : ℕ → ℕ → Option Cell
-moment_at secs nanos = cond (nat_lt secs 253402300800 && nat_lt nanos (10 ^ 9)) (Some (moment secs nanos)) None
+moment_at secs nanos = cond (nat_lt secs 253_402_300_800 && nat_lt nanos (10 ^ 9)) (Some (moment secs nanos)) None
 
 abbrev moment_of : Items → Option Cell
 moment_of no_items = None
@@ -41,21 +41,21 @@ moment_tree _ = null
 abbrev moment_scalar : Scalar
 moment_scalar = read_by reads_moment moment_tree IsMoment
 
-moment_holds : (P : Cell → Type 0) → ((secs nanos : ℕ) → secs < 253402300800 → nanos < 10 ^ 9 → P (moment secs nanos)) → (c : Cell) → IsMoment c → P c
-moment_holds P f (moment secs nanos) h = f secs nanos h.0 h.1
+moment_holds : (P : Cell → Type 0) → ((secs nanos : ℕ) → secs < 253_402_300_800 → nanos < 10 ^ 9 → P (moment secs nanos)) → (c : Cell) → IsMoment c → P c
+moment_holds P f (moment secs nanos) h = f secs nanos (omega (arith, h.0)) h.1
 moment_holds P f _ h = absurd h
 
-moment_back : (secs nanos : ℕ) → secs < 253402300800 → nanos < 10 ^ 9 → reads_moment (moment_tree (moment secs nanos)) ≡ Some (moment secs nanos)
-moment_back secs nanos p q = rw (lt-ltb secs 253402300800 p, lt-ltb nanos (10 ^ 9) q) refl
+moment_back : (secs nanos : ℕ) → secs < 253_402_300_800 → nanos < 10 ^ 9 → reads_moment (moment_tree (moment secs nanos)) ≡ Some (moment secs nanos)
+moment_back secs nanos p q = rw (lt-ltb secs 253_402_300_800 p, lt-ltb nanos (10 ^ 9) q) refl
 
-moment_from : (b : Bool) (secs nanos : ℕ) (c : Cell) → (nat_lt secs 253402300800 && nat_lt nanos (10 ^ 9)) ≡ b → cond b (Some (moment secs nanos)) None ≡ Some c → IsMoment c
-moment_from true secs nanos c is e = let p = and_parts _ _ is in subst IsMoment (same_Some (moment secs nanos) c e) (ltb-true secs _ p.0, ltb-true nanos _ p.1)
+moment_from : (b : Bool) (secs nanos : ℕ) (c : Cell) → (nat_lt secs 253_402_300_800 && nat_lt nanos (10 ^ 9)) ≡ b → cond b (Some (moment secs nanos)) None ≡ Some c → IsMoment c
+moment_from true secs nanos c is e = let p = and_parts _ _ is in subst IsMoment (same_Some (moment secs nanos) c e) (omega (arith, ltb-true secs _ p.0), ltb-true nanos _ p.1)
 moment_from false secs nanos c is e = absurd (cc)
 
 moment_parts : (a b : Option ℕ) (c : Cell) → option_and_then (λ secs. option_and_then (moment_at secs) b) a ≡ Some c → IsMoment c
 moment_parts None b c e = absurd (cc)
 moment_parts (Some secs) None c e = absurd (cc)
-moment_parts (Some secs) (Some nanos) c e = moment_from (nat_lt secs 253402300800 && nat_lt nanos (10 ^ 9)) secs nanos c refl e
+moment_parts (Some secs) (Some nanos) c e = moment_from (nat_lt secs 253_402_300_800 && nat_lt nanos (10 ^ 9)) secs nanos c refl e
 
 moment_items : (ds : Items) (c : Cell) → moment_of ds ≡ Some c → IsMoment c
 moment_items no_items c e = absurd (cc)

@@ -42,9 +42,13 @@ pub record ScalarLaws (s : Scalar) : Type 0 where
   -- some value is shown, or none is
   pub decide : (d : Data) → ((c : Cell) × s.shows d c) ⊎ ((c : Cell) → s.shows d c → ⊥)
 
+-- the last second of the year 9999, counted from 1970-01-01T00:00:00Z
+abbrev pub last_second : ℕ
+last_second = 253_402_300_799
+
 -- a moment of the years 1970 to 9999
 abbrev pub IsMoment : Cell → Type 0
-IsMoment (moment secs nanos) = (secs < 253402300800) × (nanos < 10 ^ 9)
+IsMoment (moment secs nanos) = (secs ≤ last_second) × (nanos < 10 ^ 9)
 IsMoment _ = ⊥
 
 -- null shows no value

@@ -32,7 +32,7 @@ pub enum IpAddress {
 
 /// The text is neither `{{auto}}` nor an IP address.
 #[derive(Debug, Drop, Error)]
-#[error("ParseIpError")]
+#[error("invalid IP address")]
 pub struct ParseIpError;
 
 impl IpAddress {
