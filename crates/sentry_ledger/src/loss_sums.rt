@@ -75,9 +75,6 @@ impl LossSums {
 
 /// The default sums are zero.
 impl Default for LossSums {
-    ghost use Rattle.std.specs.Prelude.{◌≡◌};
-    ghost use Rattle.sentry_ledger.specs.LossSums.{no_sums};
-
     ghost is_default = { λ sums. sums.row ≡ no_sums };
 
     fn default() -> LossSums {

@@ -37,7 +37,7 @@ impl Breadcrumb {
     ghost use Rattle.std.specs.Prelude.{◌≡◌, IfOk};
     ghost use Rattle.sentry_tables.specs.Defaults.{IsDefaultAt};
     ghost use Rattle.sentry_moments.specs.Moments.{moment_cell};
-    ghost use Rattle.sentry_parts.specs.Breadcrumbs.{breadcrumb_cell, breadcrumb_fields};
+    ghost use Rattle.sentry_parts.specs.Breadcrumbs.{breadcrumb_cell};
 
     /// Creates a breadcrumb at `now` with type `default`, level `info` and no other fields set.
     ///

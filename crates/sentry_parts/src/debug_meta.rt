@@ -24,7 +24,7 @@ pub struct DebugMeta {
 impl DebugMeta {
     ghost use Rattle.std.specs.Prelude.{◌≡◌, ◌↔◌, [], None, IfOk, IsTrue};
     ghost use Rattle.sentry_tables.specs.Defaults.{IsDefault};
-    ghost use Rattle.sentry_parts.specs.Debugging.{empty_meta, debug_meta_cell, debug_meta_fields};
+    ghost use Rattle.sentry_parts.specs.Debugging.{debug_meta_cell};
 
     /// Creates debug meta information without images or SDK information.
     pub fn default_in(alloc: Global) -> DebugMeta

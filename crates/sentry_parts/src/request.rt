@@ -35,7 +35,7 @@ pub struct Request {
 impl Request {
     ghost use Rattle.std.specs.Prelude.{◌≡◌, IfOk};
     ghost use Rattle.sentry_tables.specs.Defaults.{IsDefault};
-    ghost use Rattle.sentry_parts.specs.Requests.{request_cell, request_fields};
+    ghost use Rattle.sentry_parts.specs.Requests.{request_cell};
 
     /// Creates a request with no fields set.
     pub fn default_in(alloc: Global) -> Request

@@ -33,7 +33,7 @@ impl User {
     ghost use Rattle.std.specs.Prelude.{◌≡◌, IfOk};
     ghost use Rattle.serde_json.specs.Data.{no_members};
     ghost use Rattle.sentry_tables.specs.Defaults.{IsDefault};
-    ghost use Rattle.sentry_parts.specs.Users.{user_cell, user_fields};
+    ghost use Rattle.sentry_parts.specs.Users.{user_cell};
 
     /// Creates a user with no fields set.
     pub fn default_in(alloc: Global) -> User

@@ -85,9 +85,8 @@ impl TreeRows {
 
 impl Sink for TreeRows {
     ghost use Rattle.std.specs.Prelude.{refl, ⊤};
-    ghost use Rattle.sentry_writing.specs.Failing.{While, nothing_while, joined_while};
+    ghost use Rattle.sentry_writing.specs.Failing.{nothing_while, joined_while};
     ghost use Rattle.sentry_writing.specs.Joined.{put_both};
-    ghost use Rattle.sentry_writing.specs.Sinks.{members_so_far};
 
     ghost Adds = { λ a b ms.
         While a.failed b.failed (members_so_far b ≡ put_all ms (members_so_far a)) };
