@@ -267,14 +267,14 @@ pub fn debugged<T: Debug + Drop>(
 }
 
 /// `true` if the tape takes a line and has the tree that `read_tree` gives, `two answers` if it has
-/// another; `by tree` if `read_tree` alone takes the line, else its error behind `!`.
+/// another; `by tree` if `read_tree` alone takes the line, else its error.
 pub fn of_tape(alloc: Global, line: &[u8]) -> Result<Value, AllocError> {
     let texts = Bump::new(alloc);
     let mut tape = Tape::new(alloc, &texts);
     let Some(root) = tape.parse(line) else {
         return match read_tree(alloc, line) {
             Ok(_) => text(alloc, "by tree"),
-            Err(error) => Ok(Value::from(format!(in alloc; "!{error:?}")?)),
+            Err(error) => refused(alloc, &error),
         };
     };
     match read_tree(alloc, line) {
