@@ -1,6 +1,6 @@
 //! The text of a structured envelope.
 
-ghost use Rattle.std.specs.Prelude.{◌≡◌, ◌∷◌, ◌++◌, [], IfOk, OnOk, map};
+ghost use Rattle.std.specs.Prelude.{◌≡◌, ◌≤◌, ◌∷◌, ◌++◌, [], IfOk, OnOk, map};
 ghost use Rattle.serde_json.specs.Written.{compact_text};
 ghost use Rattle.sentry_tables.specs.Written.{tree};
 ghost use Rattle.sentry_framing.specs.Framing.{with_line};
@@ -98,7 +98,9 @@ fn build_payload(item: &EnvelopeItem, payload: &mut Vec<u8>) -> Result<(), Alloc
 }
 
 // Returns the room that is made for a payload before it is built.
-fn room(item: &EnvelopeItem) -> usize {
+fn room(item: &EnvelopeItem) -> usize
+    ensures { result ≤ LARGE_ROOM }
+{
     match item {
         EnvelopeItem::Event(_) | EnvelopeItem::Transaction(_) => LARGE_ROOM,
         EnvelopeItem::ItemContainer(_) => LARGE_ROOM,
@@ -107,7 +109,9 @@ fn room(item: &EnvelopeItem) -> usize {
 }
 
 // Returns the room that is made for the whole text before it is built: that of its first item.
-fn first_room(items: &[EnvelopeItem]) -> usize {
+fn first_room(items: &[EnvelopeItem]) -> usize
+    ensures { result ≤ LARGE_ROOM }
+{
     match items.first() {
         Some(item) => room(item),
         None => ROOM,
