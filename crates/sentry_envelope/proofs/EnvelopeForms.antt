@@ -10,9 +10,9 @@ use Rattle.sentry_tables.proofs.Laws.{has_laws}
 use Rattle.sentry_framing.specs.Framing.{with_line}
 use Rattle.sentry_framing.specs.ItemHeader.{Header}
 use Rattle.sentry_envelope.specs.Profile.{words, Profile, ProfileLaws}
-use Rattle.sentry_envelope.specs.Envelope.{Content, Item, item, raw, Envelope, Spells, ContentShowsAt, ItemsStand, first_id, frame_by, frame_at, frame_text, items_text, envelope_text, content_norm, content_norm_at, items_norm, envelope_norm, stated_at, ItemsAreSized, IsEnvelopeSized, ContentDemand, stored_content, plain_content, ContentMeets, ContentMeetsAt, ItemsMeet, IsEnvelopeStored, IsEnvelopePlain, IsEnvelopeReadable}
+use Rattle.sentry_envelope.specs.Envelope.{Content, Item, item, raw, Envelope, Spells, ContentShows, ContentShowsAt, ItemsStand, first_id, frame_by, frame_at, frame_text, items_text, envelope_text, content_norm, content_norm_at, items_norm, envelope_norm, stated_at, ItemsAreSized, IsEnvelopeSized, ContentDemand, stored_content, plain_content, ContentMeets, ContentMeetsAt, ItemsMeet, IsEnvelopeStored, IsEnvelopePlain, IsEnvelopeReadable}
 use Rattle.sentry_envelope.specs.EnvelopeLaws.{IsFit, EnvelopesHaveOneForm, EnvelopesAreRewritten, RewritingTwiceIsOnce, NormalFormsAreSized, SpelledHaveOneForm}
-use Rattle.sentry_envelope.proofs.EnvelopeTypes.{type_shown, shows_at, meets_at, frame_is, norm_is, stated_is, lawful_at}
+use Rattle.sentry_envelope.proofs.EnvelopeTypes.{type_held, shows_at, meets_at, frame_is, norm_is, stated_is, lawful_at}
 use Rattle.sentry_envelope.proofs.EnvelopeWrittenHeaders.{AreTexts, header_texts}
 use Rattle.sentry_envelope.proofs.EnvelopeContents.{content_rewritten, stated_norm}
 use Rattle.sentry_envelope.proofs.EnvelopeIds.{ids_alike}
@@ -38,7 +38,7 @@ record IsRewrittenAt (P : Profile) (n : ℕ) (c : Content) : Type 0 where
 module _ (P : Profile) (laws : ProfileLaws P) where
   item_rewritten : (n : ℕ) (c : Content) (h : Header) (payload : List ℕ) (now : Cell) → IsMoment now → AreTexts h → ContentShowsAt P.types n now h payload c → IsRewrittenAt P n c
   item_rewritten n c h payload now moment texts shown =
-      let (t, at) = type_shown P.types n now h payload c shown in
+      let (t, at) = type_held P.types n (λ t. ContentShows t.form now h payload c) shown in
       let own = lawful_at at P.header P.fill laws.types in
       let here = content_rewritten t.word t.form c h payload now own.form moment texts (subst (λ X. X) (shows_at at now h payload c) shown) in
       let met = λ (G : ContentDemand) (m : ContentMeets G t.form c). subst (λ X. X) (sym (meets_at at G c)) m in

@@ -7,8 +7,8 @@ use Rattle.sentry_tables.specs.Norm.{norm}
 use Rattle.sentry_tables.specs.Written.{tree}
 use Rattle.sentry_tables.specs.Meets.{IsPlain, IsReadable, IsStored}
 use Rattle.sentry_envelope.specs.Profile.{Form, attachment_form, opaque_form, json_form, container_form, ItemType, FillLaws, GivesAlike, GivesLawful, TypesAreLawful}
-use Rattle.sentry_envelope.specs.Envelope.{Content, attached, opaque, value, Item, item, raw, given_at, or_else, first_id, content_norm, content_norm_at, items_norm, stored_content, plain_content, ContentMeets, ContentMeetsAt, ItemsMeet}
-use Rattle.sentry_envelope.proofs.EnvelopeTypes.{type_met, given_as, meets_at, norm_is, given_is, lawful_at}
+use Rattle.sentry_envelope.specs.Envelope.{Content, attached, opaque, value, Item, item, raw, given_as, given_at, or_else, first_id, content_norm, content_norm_at, items_norm, stored_content, plain_content, ContentMeets, ContentMeetsAt, ItemsMeet}
+use Rattle.sentry_envelope.proofs.EnvelopeTypes.{type_met, meets_at, norm_is, given_is, lawful_at}
 
 module _ (H : Kind) (fill : Cell → Cell → Cell) (unfilled : (h : Cell) → fill absent h ≡ h) where
   pub none_fills : FillLaws H fill absent

@@ -1,64 +1,53 @@
 -- The type at a place of the list of item types: what is said of a place is said of its type.
-use Rattle.std.proofs.Common.{◌≡◌, ℕ, zero, suc, List, [], ◌∷◌, Bool, true, false, ◌||◌, if◌then◌else◌, Some, option_map, refl, sym, ap, ◌∙◌, IsUtf8, bytes_eq, true≢false}
+use Rattle.std.proofs.Common.{◌≡◌, ℕ, zero, suc, List, [], ◌∷◌, Bool, true, false, ◌||◌, if◌then◌else◌, None, Some, option_map, refl, sym, ap, ◌∙◌, IsUtf8, bytes_eq, true≢false}
 use Rattle.std.proofs.lemmas.Slice.Eq.{bytes_eq-Decides}
 use Rattle.sentry_json.specs.Keys.{is_among}
 use Rattle.sentry_tables.specs.Cell.{Cell, absent}
 use Rattle.sentry_tables.specs.Kind.{Kind}
 use Rattle.sentry_framing.specs.ItemHeader.{place_of, Header}
-use Rattle.sentry_envelope.specs.Profile.{ItemType, words, FormIsLawful, GivesLawful, TypesAreLawful}
-use Rattle.sentry_envelope.specs.Envelope.{Content, value, ContentShows, ContentShowsAt, given_at, frame_by, frame_at, content_norm, content_norm_at, stated_by, stated_at, ContentDemand, ContentMeets, ContentMeetsAt}
+use Rattle.sentry_envelope.specs.Profile.{ItemType, words, at_place, FormIsLawful, GivesLawful, TypesAreLawful}
+use Rattle.sentry_envelope.specs.Envelope.{Content, ContentShows, ContentShowsAt, given_as, given_at, frame_by, frame_at, content_norm, content_norm_at, stated_by, stated_at, ContentDemand, ContentMeets, ContentMeetsAt}
 
 -- this type stands at this place of the list
 pub data IsAt : List ItemType → ℕ → ItemType → Type 1 where
   first : {t : ItemType} {ts : List ItemType} → IsAt (t ∷ ts) zero t
   later : {s t : ItemType} {ts : List ItemType} {n : ℕ} → IsAt ts n t → IsAt (s ∷ ts) (suc n) t
 
--- ---- a content that is shown, or meets a demand, is of some type
+-- ---- a type at its place
+
+-- what holds at a place, and at no place without a type, shows that a type stands there
+pub type_held : (ts : List ItemType) (n : ℕ) (Has : ItemType → Type 0) → at_place ts n ⊥ Has → (t : ItemType) × IsAt ts n t
+type_held [] n Has held = absurd held
+type_held (t ∷ ts) zero Has held = (t, first)
+type_held (t ∷ ts) (suc n) Has held = let (s, at) = type_held ts n Has held in (s, later at)
+
+-- what is said of a place is said of the type that stands there
+pub has_at {ℓ} : {A : Type ℓ} {ts : List ItemType} {n : ℕ} {t : ItemType} → IsAt ts n t → (other : A) (has : ItemType → A) → at_place ts n other has ≡ has t
+has_at first other has = refl
+has_at (later at) other has = has_at at other has
+
+-- ---- what is said of contents
 
 pub type_met : (G : ContentDemand) (ts : List ItemType) (n : ℕ) (c : Content) → ContentMeetsAt G ts n c → (t : ItemType) × IsAt ts n t
-type_met G [] n c m = absurd m
-type_met G (t ∷ ts) zero c m = (t, first)
-type_met G (t ∷ ts) (suc n) c m = let (s, at) = type_met G ts n c m in (s, later at)
-
-pub type_shown : (ts : List ItemType) (n : ℕ) (now : Cell) (h : Header) (payload : List ℕ) (c : Content) → ContentShowsAt ts n now h payload c → (t : ItemType) × IsAt ts n t
-type_shown [] n now h payload c m = absurd m
-type_shown (t ∷ ts) zero now h payload c m = (t, first)
-type_shown (t ∷ ts) (suc n) now h payload c m = let (s, at) = type_shown ts n now h payload c m in (s, later at)
-
--- ---- what is said of the place is said of the type
-
--- the id that a content gives
-abbrev pub given_as : (Cell → Cell) → Content → Cell
-given_as gives (value c) = gives c
-given_as gives _ = absent
-
-given_first : (t : ItemType) (ts : List ItemType) (c : Content) → given_at (t ∷ ts) zero c ≡ given_as t.gives c
-given_first t ts (value c) = refl
-given_first t ts _ = refl
+type_met G ts n c = type_held ts n (λ t. ContentMeets G t.form c)
 
 pub shows_at : {ts : List ItemType} {n : ℕ} {t : ItemType} → IsAt ts n t → (now : Cell) (h : Header) (payload : List ℕ) (c : Content) → ContentShowsAt ts n now h payload c ≡ ContentShows t.form now h payload c
-shows_at first now h payload c = refl
-shows_at (later at) now h payload c = shows_at at now h payload c
+shows_at at now h payload c = has_at at ⊥ (λ t. ContentShows t.form now h payload c)
 
 pub meets_at : {ts : List ItemType} {n : ℕ} {t : ItemType} → IsAt ts n t → (G : ContentDemand) (c : Content) → ContentMeetsAt G ts n c ≡ ContentMeets G t.form c
-meets_at first G c = refl
-meets_at (later at) G c = meets_at at G c
+meets_at at G c = has_at at ⊥ (λ t. ContentMeets G t.form c)
 
 pub frame_is : {ts : List ItemType} {n : ℕ} {t : ItemType} → IsAt ts n t → (c : Content) → frame_at ts n c ≡ Some (frame_by t c)
-frame_is first c = refl
-frame_is (later at) c = frame_is at c
+frame_is at c = has_at at None (λ t. Some (frame_by t c))
 
 pub norm_is : {ts : List ItemType} {n : ℕ} {t : ItemType} → IsAt ts n t → (c : Content) → content_norm_at ts n c ≡ content_norm t.form c
-norm_is first c = refl
-norm_is (later at) c = norm_is at c
+norm_is at c = has_at at c (λ t. content_norm t.form c)
 
 pub stated_is : {ts : List ItemType} {n : ℕ} {t : ItemType} → IsAt ts n t → (c : Content) → stated_at ts n c ≡ stated_by t.form c
-stated_is first c = refl
-stated_is (later at) c = stated_is at c
+stated_is at c = has_at at zero (λ t. stated_by t.form c)
 
 pub given_is : {ts : List ItemType} {n : ℕ} {t : ItemType} → IsAt ts n t → (c : Content) → given_at ts n c ≡ given_as t.gives c
-given_is (first {t} {ts}) c = given_first t ts c
-given_is (later at) c = given_is at c
+given_is at c = has_at at absent (λ t. given_as t.gives c)
 
 -- ---- the types of a lawful list
 

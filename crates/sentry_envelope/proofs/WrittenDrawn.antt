@@ -2,6 +2,7 @@
 use Rattle.std.proofs.Common.{◌≡◌, ℕ, List, [], ◌∷◌, Some, refl, sym, ap, ◌∙◌, subst}
 use Rattle.std.proofs.lemmas.List.Elements.{All-nil, All-cons}
 use Rattle.std.proofs.lemmas.Option.{same_Some}
+use Rattle.std.specs.Prelude.{⊤}
 use Rattle.std.specs.List.{All}
 use Rattle.serde_json.specs.Written.{compact_text}
 use Rattle.sentry_tables.specs.Cell.{absent}
@@ -19,7 +20,7 @@ use Rattle.sentry_envelope.specs.OneEnvelope.{PayloadDrawsNothing, PayloadDrawsN
 use Rattle.sentry_envelope.proofs.EnvelopeItems.{IsItemBack, item_back, none_of_nothing}
 use Rattle.sentry_envelope.proofs.EnvelopeLine.{same_line}
 use Rattle.sentry_items.proofs.Containers.{container_lawful}
-use Rattle.sentry_envelope.proofs.EnvelopeTypes.{IsAt, first, later, type_met, meets_at, frame_is, lawful_at}
+use Rattle.sentry_envelope.proofs.EnvelopeTypes.{IsAt, has_at, type_met, meets_at, frame_is, lawful_at}
 
 -- ---- one item
 
@@ -32,8 +33,7 @@ payload_drawn (container_form content_type K) (value c) laws s p r = text_draws_
 payload_drawn (container_form content_type K) _ laws s p r = absurd s
 
 drawn_at : {ts : List ItemType} {n : ℕ} {t : ItemType} → IsAt ts n t → (payload : List ℕ) → PayloadDrawsNothingAt ts n payload ≡ PayloadDrawsNothing t.form payload
-drawn_at first payload = refl
-drawn_at (later at) payload = drawn_at at payload
+drawn_at at payload = has_at at ⊤ (λ t. PayloadDrawsNothing t.form payload)
 
 module _ (P : Profile) (laws : ProfileLaws P) where
   place_drawn : (n : ℕ) (c : Content) (frame : Frame) → frame_at P.types n c ≡ Some frame

@@ -12,7 +12,7 @@ use Rattle.sentry_items.specs.AttachmentWords.{attachment_type_of}
 use Rattle.sentry_items.specs.Attached.{Attached, short_header, attachment_header, attached_norm, IsAttachedStored}
 use Rattle.sentry_framing.specs.Framing.{Frame, Reading, IsLineAndBody, IsFirstFrame, with_line}
 use Rattle.sentry_framing.specs.ItemHeader.{Header, read_header, stated_length}
-use Rattle.sentry_envelope.specs.Profile.{Form, attachment_form, opaque_form, json_form, container_form, ItemType, words, Profile}
+use Rattle.sentry_envelope.specs.Profile.{Form, attachment_form, opaque_form, json_form, container_form, ItemType, words, at_place, Profile}
 use Rattle.sentry_items.specs.Containers.{container_kind, counting_header}
 
 -- ---- values
@@ -58,9 +58,7 @@ ContentShows (container_form content_type K) now h text c = IsValue (TextShows (
 
 -- the same of the type at this place
 abbrev pub ContentShowsAt : List ItemType → ℕ → Cell → Header → List ℕ → Content → Type 0
-ContentShowsAt [] n now h payload c = ⊥
-ContentShowsAt (t ∷ ts) zero now h payload c = ContentShows t.form now h payload c
-ContentShowsAt (t ∷ ts) (suc n) now h payload c = ContentShowsAt ts n now h payload c
+ContentShowsAt ts n now h payload c = at_place ts n ⊥ (λ t. ContentShows t.form now h payload c)
 
 -- the frame shows the item: its header names the type, and its payload shows what the item holds
 abbrev pub ItemShows : Profile → Cell → Frame → Item → Type 0
@@ -73,13 +71,16 @@ ItemsStand P now body [] rest = body ≡ rest
 ItemsStand P now body (i ∷ is) rest =
     (frame : Frame) × (next : List ℕ) × IsFirstFrame (reads P) body frame next × ItemShows P now frame i × ItemsStand P now next is rest
 
--- the id that an item gives its envelope
-abbrev pub given_at : List ItemType → ℕ → Content → Cell
-given_at [] n c = absent
-given_at (t ∷ ts) zero (value c) = t.gives c
-given_at (t ∷ ts) zero _ = absent
-given_at (t ∷ ts) (suc n) c = given_at ts n c
+-- the id that a content gives: a value may give one, and no other content does
+abbrev pub given_as : (Cell → Cell) → Content → Cell
+given_as gives (value c) = gives c
+given_as gives _ = absent
 
+-- the same by the type at this place
+abbrev pub given_at : List ItemType → ℕ → Content → Cell
+given_at ts n c = at_place ts n absent (λ t. given_as t.gives c)
+
+-- the id that an item gives its envelope
 abbrev pub given_by : List ItemType → Item → Cell
 given_by ts (item n c) = given_at ts n c
 given_by ts raw = absent
@@ -138,9 +139,7 @@ abbrev pub frame_by : ItemType → Content → Frame
 frame_by t c = record { header = compact_text (object (header_by t.word t.form c)); payload = payload_by t.form c }
 
 abbrev pub frame_at : List ItemType → ℕ → Content → Option Frame
-frame_at [] n c = None
-frame_at (t ∷ ts) zero c = Some (frame_by t c)
-frame_at (t ∷ ts) (suc n) c = frame_at ts n c
+frame_at ts n c = at_place ts n None (λ t. Some (frame_by t c))
 
 -- the frame that is written for an item
 abbrev pub frame_of_item : Profile → Item → Option Frame
@@ -170,9 +169,7 @@ content_norm (container_form content_type K) (value c) = value (norm (container_
 content_norm _ (value c) = value c
 
 abbrev pub content_norm_at : List ItemType → ℕ → Content → Content
-content_norm_at [] n c = c
-content_norm_at (t ∷ ts) zero c = content_norm t.form c
-content_norm_at (t ∷ ts) (suc n) c = content_norm_at ts n c
+content_norm_at ts n c = at_place ts n c (λ t. content_norm t.form c)
 
 -- raw items are left out
 abbrev pub items_norm : List ItemType → List Item → List Item
@@ -214,9 +211,7 @@ ContentMeets G (container_form content_type K) (value c) = G.value (container_ki
 ContentMeets G _ _ = ⊥
 
 abbrev pub ContentMeetsAt : ContentDemand → List ItemType → ℕ → Content → Type 0
-ContentMeetsAt G [] n c = ⊥
-ContentMeetsAt G (t ∷ ts) zero c = ContentMeets G t.form c
-ContentMeetsAt G (t ∷ ts) (suc n) c = ContentMeetsAt G ts n c
+ContentMeetsAt G ts n c = at_place ts n ⊥ (λ t. ContentMeets G t.form c)
 
 abbrev pub ItemsMeet : ContentDemand → List ItemType → List Item → Type 0
 ItemsMeet G ts [] = ⊤
@@ -244,9 +239,7 @@ stated_by f c = length (payload_by f c)
 
 -- the same of the type at this place
 abbrev pub stated_at : List ItemType → ℕ → Content → ℕ
-stated_at [] n c = zero
-stated_at (t ∷ ts) zero c = stated_by t.form c
-stated_at (t ∷ ts) (suc n) c = stated_at ts n c
+stated_at ts n c = at_place ts n zero (λ t. stated_by t.form c)
 
 abbrev pub ItemsAreSized : List ItemType → List Item → Type 0
 ItemsAreSized ts [] = ⊤

@@ -1,11 +1,11 @@
 -- Bytes that spell at most one envelope at a moment: those in which no header and no item draws an id.
-use Rattle.std.specs.Prelude.{◌≡◌, ℕ, zero, suc, List, [], ◌∷◌, Some, ⊤}
+use Rattle.std.specs.Prelude.{◌≡◌, ℕ, List, Some, ⊤}
 use Rattle.std.specs.List.{All}
 use Rattle.sentry_tables.specs.Cell.{Cell}
 use Rattle.sentry_tables.specs.Drawn.{NothingDrawnInText}
 use Rattle.sentry_framing.specs.Framing.{Frame, IsLineAndBody, IsFramed}
 use Rattle.sentry_framing.specs.ItemHeader.{Header, read_header}
-use Rattle.sentry_envelope.specs.Profile.{Form, attachment_form, opaque_form, json_form, container_form, ItemType, words, Profile}
+use Rattle.sentry_envelope.specs.Profile.{Form, attachment_form, opaque_form, json_form, container_form, ItemType, words, at_place, Profile}
 use Rattle.sentry_items.specs.Containers.{container_kind}
 use Rattle.sentry_envelope.specs.Envelope.{Envelope, Spells, reads, envelope_text, IsEnvelopeStored, IsEnvelopePlain, IsEnvelopeReadable, IsEnvelopeSized}
 
@@ -20,9 +20,7 @@ PayloadDrawsNothing (container_form content_type K) payload = NothingDrawnInText
 
 -- the same by the type at this place
 abbrev pub PayloadDrawsNothingAt : List ItemType → ℕ → List ℕ → Type 0
-PayloadDrawsNothingAt [] n payload = ⊤
-PayloadDrawsNothingAt (t ∷ ts) zero payload = PayloadDrawsNothing t.form payload
-PayloadDrawsNothingAt (t ∷ ts) (suc n) payload = PayloadDrawsNothingAt ts n payload
+PayloadDrawsNothingAt ts n payload = at_place ts n ⊤ (λ t. PayloadDrawsNothing t.form payload)
 
 -- the same by the type that the frame's header names
 abbrev pub FrameDrawsNothing : Profile → Frame → Type 0

@@ -1,5 +1,5 @@
 -- What envelopes may hold: the kind of their header, and item types, each a word with the form of its payload.
-use Rattle.std.specs.Prelude.{◌≡◌, ◌≤◌, ℕ, List, [], ◌∷◌, false, IsUtf8, ⊤}
+use Rattle.std.specs.Prelude.{◌≡◌, ◌≤◌, ℕ, zero, suc, List, [], ◌∷◌, false, IsUtf8, ⊤}
 use Rattle.serde_json.specs.Data.{depth}
 use Rattle.sentry_json.specs.Keys.{is_among}
 use Rattle.sentry_tables.specs.Cell.{Cell, absent}
@@ -30,6 +30,12 @@ pub record ItemType : Type 1 where
 abbrev pub words : List ItemType → List (List ℕ)
 words [] = []
 words (t ∷ ts) = t.word ∷ words ts
+
+-- what the item type at this place has, or the other where no type stands
+abbrev pub at_place {ℓ} : {A : Type ℓ} → List ItemType → ℕ → A → (ItemType → A) → A
+at_place [] n other has = other
+at_place (t ∷ ts) zero other has = has t
+at_place (t ∷ ts) (suc n) other has = at_place ts n other has
 
 -- The header's kind, how an id that is given fills an absent one, and the item types in order.
 pub record Profile : Type 1 where
