@@ -43,10 +43,7 @@ fn read(alloc: Global, bytes: &[u8], now: Moment, seed: u64) -> Result<Envelope,
 pub(crate) fn text_of(alloc: Global, envelope: &Envelope) -> Result<Vec<u8>, AllocError>
     ensures { IfOk result (λ text. text.items ≡ text_of envelope.now) }
 {
-    match envelope.to_vec(alloc) {
-        Ok(text) => Ok(text),
-        Err(_) => Err(AllocError),
-    }
+    envelope.to_vec(alloc).map_err(|_| AllocError)
 }
 
 #[tactic(auto, using(crate::proofs::Envelopes::normal_form_is))]

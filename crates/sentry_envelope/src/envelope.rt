@@ -409,10 +409,7 @@ impl Envelope {
             AppendsFront (W.contents writer.old) (W.contents writer.new) (text_of self.now) }
     {
         let text = self.text(alloc)?;
-        match text.send_plain(writer) {
-            Ok(()) => Ok(()),
-            Err(_) => Err(EnvelopeWriteError::Io),
-        }
+        text.send_plain(writer).map_err(|_| EnvelopeWriteError::Io)
     }
 
     /// Returns the text that [`Envelope::to_writer`] writes.
@@ -429,10 +426,8 @@ impl Envelope {
         ensures not_plain { (result ≡ Err EnvelopeWriteError.NotPlain) ↔ IsUnwritable self.now }
         ensures no_io { IfErr result (λ e. e ≢ EnvelopeWriteError.Io) }
     {
-        match self.text(alloc)?.into_vec() {
-            Ok(text) => Ok(text),
-            Err(_) => Err(EnvelopeWriteError::Memory),
-        }
+        let text = self.text(alloc)?;
+        text.into_vec().map_err(|_| EnvelopeWriteError::Memory)
     }
 
     /// Writes the envelope as [`Envelope::to_writer`] does, to a writer that counts its failures.
@@ -467,9 +462,6 @@ impl Envelope {
             writer_failures writer.new ≡ writer_failures writer.old }
     {
         let text = self.text(alloc)?;
-        match text.send(writer) {
-            Ok(()) => Ok(()),
-            Err(_) => Err(EnvelopeWriteError::Io),
-        }
+        text.send(writer).map_err(|_| EnvelopeWriteError::Io)
     }
 }

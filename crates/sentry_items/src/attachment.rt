@@ -198,13 +198,10 @@ impl Attachment {
             AppendsFront (W.contents writer.old) (W.contents writer.new)
             (attachment_text (attachment_view self.now)) }
     {
-        let Ok(line) = self.header_line(alloc) else {
-            return Err(AttachmentWriteError::Memory);
-        };
-        match send_both(&line, &self.buffer, writer) {
-            Ok(()) => Ok(()),
-            Err(_) => Err(AttachmentWriteError::Io),
-        }
+        let line = self
+            .header_line(alloc)
+            .map_err(|_| AttachmentWriteError::Memory)?;
+        send_both(&line, &self.buffer, writer).map_err(|_| AttachmentWriteError::Io)
     }
 }
 
