@@ -4,8 +4,8 @@ use crate::answers::{self, Answer, Answers, Fault};
 use crate::compare;
 use crate::differences;
 use crate::envelopes;
-use crate::frames;
-use crate::rows::{self, ROWS};
+use crate::frames::{self, Cut};
+use crate::rows::{self, Row, ROWS};
 use std::collections::BTreeMap;
 use std::io::{Error, Result};
 use std::time::Instant;
@@ -74,7 +74,7 @@ enum Unlike {
 }
 
 /// Returns the rows that explain a difference between answers: one alone if one does and they differ
-/// as it says, else all that apply.
+/// as it says, else all that apply, else one in a line alone.
 fn explain(bytes: &[u8], answers: &Answers) -> std::result::Result<Vec<&'static str>, Unlike> {
     let cut = frames::cut(bytes);
     // What a row mends is written without white space: that alone is no cause.
@@ -97,20 +97,32 @@ fn explain(bytes: &[u8], answers: &Answers) -> std::result::Result<Vec<&'static 
             unlike_the_row = true;
         }
     }
-    if unlike_the_row {
-        return Err(Unlike::Values);
-    }
-    let mut mended = cut;
-    let mut names = Vec::new();
-    for row in &ROWS {
-        if row.mend(&mut mended) {
-            names.push(row.name);
+    if !unlike_the_row {
+        let mut mended = cut.clone();
+        let mut names = Vec::new();
+        for row in &ROWS {
+            if row.mend(&mut mended) {
+                names.push(row.name);
+            }
+        }
+        if agree(&answers::both(&frames::join(&mended))) {
+            return Ok(names);
         }
     }
-    match agree(&answers::both(&frames::join(&mended))) {
-        true => Ok(names),
-        false => Err(Unlike::Values),
-    }
+    in_one_line(&cut, answers, &applied).ok_or(Unlike::Values)
+}
+
+/// Returns a row that explains a difference if it mends one line alone. In another line it may mend
+/// what both refuse, and so change an answer that should stay.
+fn in_one_line(cut: &Cut, answers: &Answers, applied: &[&Row]) -> Option<Vec<&'static str>> {
+    let explains = |row: &Row| {
+        row.mended_by_line(cut).any(|mended| {
+            let after = answers::both(&frames::join(&mended));
+            agree(&after) && row.fits(answers, &after)
+        })
+    };
+    let row = applied.iter().find(|row| explains(row))?;
+    Some(vec![row.name])
 }
 
 fn print_bytes(bytes: &[u8]) {

@@ -179,12 +179,31 @@ impl Row {
     pub fn mend(&self, cut: &mut Cut) -> bool {
         match self.mend {
             Mend::Items(mend) => mend(cut),
-            Mend::Line(mend) => each_line(cut, &mut |value, _| mend(value)),
-            Mend::Unread => each_line(cut, &mut |value, kind| match value.depth() > 127 {
-                true => walk(value, kind, unread_or_deep),
-                false => walk(value, kind, unread),
-            }),
-            Mend::Node(mend) => each_line(cut, &mut |value, kind| walk(value, kind, mend)),
+            _ => each_line(cut, &mut |value, kind| self.mend_line(value, kind)),
+        }
+    }
+
+    /// Returns what an envelope is with one of its lines mended, for each that the row changes.
+    pub fn mended_by_line<'a>(&'a self, cut: &'a Cut) -> impl Iterator<Item = Cut> + 'a {
+        (0..=2 * cut.items.len()).filter_map(move |place| {
+            let mut mended = cut.clone();
+            let mut line = 0;
+            let changed = each_line(&mut mended, &mut |value, kind| {
+                line += 1;
+                line - 1 == place && self.mend_line(value, kind)
+            });
+            changed.then_some(mended)
+        })
+    }
+
+    /// Mends a line of JSON; a row of whole items mends none.
+    fn mend_line(&self, value: &mut Json, kind: &Kind) -> bool {
+        match self.mend {
+            Mend::Items(_) => false,
+            Mend::Line(mend) => mend(value),
+            Mend::Unread if value.depth() > 127 => walk(value, kind, unread_or_deep),
+            Mend::Unread => walk(value, kind, unread),
+            Mend::Node(mend) => walk(value, kind, mend),
         }
     }
 }
