@@ -6,7 +6,7 @@ use Rattle.sentry_keys.specs.Dsn.{DsnParts, dsn_text, port_text}
 use Rattle.sentry_keys.specs.DsnScheme.{scheme_text}
 use Rattle.sentry_c.specs.Places.{Stands}
 use Rattle.sentry_c.specs.Texts.{IsOptionalAt, IsOptionalEnd, optional_len}
-use Rattle.sentry_c.specs.declared.texts.SentryPlace.{SentryPlace}
+use Rattle.sentry_c.specs.declared.texts.CurdmesaPlace.{CurdmesaPlace}
 
 -- a part at the front
 first : (part rest : List ℕ) → Stands (part ++ rest) 0 (length part) part
@@ -115,7 +115,7 @@ part_length name label (Some part) is =
     omega (arith, is, length-append (codes ", ") (name ++ (codes "=" ++ part)), length-append name (codes "=" ++ part), length-append (codes "=") part)
 
 -- an optional part, after its label, at the end
-part_at : (before name after : List ℕ) (part : Option (List ℕ)) (total : ℕ) (place : SentryPlace) (flag : ℕ)
+part_at : (before name after : List ℕ) (part : Option (List ℕ)) (total : ℕ) (place : CurdmesaPlace) (flag : ℕ)
     → total ≡ length before + length (part_text name part) → IsOptionalEnd total place flag part → IsOptionalAt (before ++ (part_text name part ++ after)) place flag part
 part_at before name after None total place flag long (a, b, c) = (a, b, c)
 part_at before name after (Some part) total place flag long (a, b, c) =
@@ -171,7 +171,7 @@ module _ (parts : Parts) where
   pub auth_key_at : (n count : ℕ) → n ≡ 18 → count ≡ length parts.key → Stands (auth_text parts) n count parts.key
   auth_key_at n count is same = at (auth_text parts) _ n _ count parts.key (further (codes "Sentry sentry_key=") _ 0 _ parts.key (first parts.key _)) is same
 
-  pub auth_secret_at : (total : ℕ) (part : Option (List ℕ)) (place : SentryPlace) (flag : ℕ) → total ≡ length (auth_text parts) → part ≡ parts.secret → IsOptionalEnd total place flag part
+  pub auth_secret_at : (total : ℕ) (part : Option (List ℕ)) (place : CurdmesaPlace) (flag : ℕ) → total ≡ length (auth_text parts) → part ≡ parts.secret → IsOptionalEnd total place flag part
       → IsOptionalAt (auth_text parts) place flag parts.secret
   auth_secret_at total part place flag whole is end =
       let split : auth_text parts ≡ (front ++ client_part) ++ (secret_part ++ []) =
@@ -180,7 +180,7 @@ module _ (parts : Parts) where
       subst (λ text. IsOptionalAt text place flag parts.secret) (sym split)
       (part_at (front ++ client_part) secret_key [] parts.secret total place flag length_is (subst (IsOptionalEnd total place flag) is end))
 
-  pub auth_client_at : (total before : ℕ) (last part : Option (List ℕ)) (place : SentryPlace) (flag : ℕ) → total ≡ length (auth_text parts) → before ≡ total - optional_len 16 last → last ≡ parts.secret
+  pub auth_client_at : (total before : ℕ) (last part : Option (List ℕ)) (place : CurdmesaPlace) (flag : ℕ) → total ≡ length (auth_text parts) → before ≡ total - optional_len 16 last → last ≡ parts.secret
       → part ≡ parts.client → IsOptionalEnd before place flag part → IsOptionalAt (auth_text parts) place flag parts.client
   auth_client_at total before last part place flag whole cut last_is is end =
       let length_is : before ≡ length front + length client_part = omega (arith, cut, whole, long, ap (optional_len 16) last_is, part_length secret_key 16 parts.secret refl) in

@@ -5,7 +5,7 @@ use Rattle.sentry_framing.specs.Framing.{Frame, IsFirstFrame, IsLineAndBody}
 use Rattle.sentry_framing.specs.ItemHeader.{Header, read_header, stated_length}
 use Rattle.sentry_framing.specs.ItemWords.{item_words}
 use Rattle.sentry_c.specs.Places.{Stands}
-use Rattle.sentry_c.specs.declared.frames.SentryFrame.{SentryFrame}
+use Rattle.sentry_c.specs.declared.frames.CurdmesaFrame.{CurdmesaFrame}
 
 -- an item may begin at the offset: at 0, which stands for the header line, at the end, or after a
 -- line feed
@@ -18,13 +18,13 @@ BodyFrom bytes offset body =
     ((offset ≡ 0) × ((line : List ℕ) × IsLineAndBody bytes line body)) ⊎ ((offset ≢ 0) × (offset ≤ length bytes) × (body ≡ drop offset bytes))
 
 -- the header and the payload of a frame stand at their places
-pub record IsPlaced (bytes : List ℕ) (found : SentryFrame) (frame : Frame) : Type 0 where
+pub record IsPlaced (bytes : List ℕ) (found : CurdmesaFrame) (frame : Frame) : Type 0 where
   pub header : Stands bytes found.header_offset found.header_length frame.header
   pub payload : Stands bytes found.payload_offset found.payload_length frame.payload
 
 -- The first frame of what is left stands at these places, its header is of this type, and the next
 -- item begins at an offset.
-pub record FindsFrame (bytes : List ℕ) (offset : ℕ) (found : SentryFrame) (next : ℕ) : Type 0 where
+pub record FindsFrame (bytes : List ℕ) (offset : ℕ) (found : CurdmesaFrame) (next : ℕ) : Type 0 where
   pub body : List ℕ
   pub begins : BodyFrom bytes offset body
   pub frame : Frame

@@ -6,16 +6,16 @@ use Rattle.sentry_keys.specs.Dsn.{DsnParts, IsDsnText, dsn_text, port_of}
 use Rattle.sentry_keys.specs.DsnOrganization.{NamesOrganization}
 use Rattle.sentry_keys.specs.DsnScheme.{scheme_index}
 use Rattle.sentry_c.specs.Places.{Stands}
-use Rattle.sentry_c.specs.declared.texts.SentryAuth.{SentryAuth}
-use Rattle.sentry_c.specs.declared.texts.SentryDsn.{SentryDsn}
-use Rattle.sentry_c.specs.declared.texts.SentryPlace.{SentryPlace}
+use Rattle.sentry_c.specs.declared.texts.CurdmesaAuth.{CurdmesaAuth}
+use Rattle.sentry_c.specs.declared.texts.CurdmesaDsn.{CurdmesaDsn}
+use Rattle.sentry_c.specs.declared.texts.CurdmesaPlace.{CurdmesaPlace}
 
 -- a part stands at a place
-abbrev pub IsAt : List ℕ → SentryPlace → List ℕ → Type 0
+abbrev pub IsAt : List ℕ → CurdmesaPlace → List ℕ → Type 0
 IsAt text place part = Stands text place.offset place.length part
 
 -- an optional part: without one the place is empty, and the flag 0
-abbrev pub IsOptionalAt : List ℕ → SentryPlace → ℕ → Option (List ℕ) → Type 0
+abbrev pub IsOptionalAt : List ℕ → CurdmesaPlace → ℕ → Option (List ℕ) → Type 0
 IsOptionalAt text place flag None = (place.offset ≡ 0) × (place.length ≡ 0) × (flag ≡ 0)
 IsOptionalAt text place flag (Some part) = IsAt text place part × (flag ≡ 1)
 
@@ -26,7 +26,7 @@ optional_len label (Some part) = label + length part
 
 -- an optional part at the end of a text of so many bytes: without one the place is empty, and the
 -- flag 0
-abbrev pub IsOptionalEnd : ℕ → SentryPlace → ℕ → Option (List ℕ) → Type 0
+abbrev pub IsOptionalEnd : ℕ → CurdmesaPlace → ℕ → Option (List ℕ) → Type 0
 IsOptionalEnd total place flag None = (place.offset ≡ 0) × (place.length ≡ 0) × (flag ≡ 0)
 IsOptionalEnd total place flag (Some part) = (place.offset ≡ total - length part) × (place.length ≡ length part) × (flag ≡ 1)
 
@@ -37,7 +37,7 @@ abbrev pub IsOrganization : List ℕ → ℕ → ℕ → Type 0
 IsOrganization host id flag = ((flag ≡ 1) × NamesOrganization host id) ⊎ ((flag ≡ 0) × (id ≡ 0) × ((n : ℕ) → NamesOrganization host n → ⊥))
 
 -- each part of a DSN stands at its place in the printed form
-pub record ShowsDsn (shown : SentryDsn) (d : DsnParts) : Type 0 where
+pub record ShowsDsn (shown : CurdmesaDsn) (d : DsnParts) : Type 0 where
   pub key : IsAt (dsn_text d) shown.public_key d.key
   pub secret : IsAt (dsn_text d) shown.secret_key (unwrap_or d.secret [])
   pub host : IsAt (dsn_text d) shown.host d.host
@@ -54,7 +54,7 @@ pub record IsDsnPrinted (given printed : List ℕ) : Type 0 where
   pub printed_is : printed ≡ dsn_text parts
 
 -- the same, and these are its parts
-pub record IsDsnAt (given : List ℕ) (shown : SentryDsn) (printed : List ℕ) : Type 0 where
+pub record IsDsnAt (given : List ℕ) (shown : CurdmesaDsn) (printed : List ℕ) : Type 0 where
   pub parts : DsnParts
   pub is : IsDsnText given parts
   pub printed_is : printed ≡ dsn_text parts
@@ -68,7 +68,7 @@ IsTimestamp secs nanos flag None = (secs ≡ 0) × (nanos ≡ 0) × (flag ≡ 0)
 IsTimestamp secs nanos flag (Some time) = (secs ≡ time.0) × (nanos ≡ time.1) × (flag ≡ 1)
 
 -- each part of an authentication stands at its place in the printed form
-pub record ShowsAuth (shown : SentryAuth) (parts : Parts) : Type 0 where
+pub record ShowsAuth (shown : CurdmesaAuth) (parts : Parts) : Type 0 where
   pub key : IsAt (auth_text parts) shown.public_key parts.key
   pub secret : IsOptionalAt (auth_text parts) shown.secret_key shown.has_secret_key parts.secret
   pub client : IsOptionalAt (auth_text parts) shown.client shown.has_client parts.client
@@ -86,7 +86,7 @@ pub record IsAuthPrinted (given printed : List ℕ) : Type 0 where
   pub printed_is : printed ≡ auth_text parts
 
 -- the same, and these are its parts
-pub record IsAuthAt (given : List ℕ) (shown : SentryAuth) (printed : List ℕ) : Type 0 where
+pub record IsAuthAt (given : List ℕ) (shown : CurdmesaAuth) (printed : List ℕ) : Type 0 where
   pub parts : Parts
   pub is : IsHeader given parts
   pub printed_is : printed ≡ auth_text parts

@@ -70,7 +70,7 @@ fn normal_form(
 /// - The status of the error of `Envelope::from_slice` if the bytes
 ///   are refused; `OUT_OF_MEMORY`, which is one of them, if an allocation fails.
 #[unsafe(no_mangle)]
-pub extern "C" fn sentry_envelope_normalize(
+pub extern "C" fn curdmesa_envelope_normalize(
     alloc: Global,
     bytes: &[u8],
     now_secs: u64,
@@ -121,7 +121,7 @@ fn checked(alloc: Global, bytes: &[u8], now: Moment, seed: u64) -> Result<(), En
 /// - The status of the error of `Envelope::from_slice` if the bytes
 ///   are refused; `OUT_OF_MEMORY`, which is one of them, if an allocation fails.
 #[unsafe(no_mangle)]
-pub extern "C" fn sentry_envelope_check(
+pub extern "C" fn curdmesa_envelope_check(
     alloc: Global,
     bytes: &[u8],
     now_secs: u64,
@@ -209,7 +209,7 @@ fn text_left(
 /// - The status of the error of `Envelope::from_slice` if the bytes
 ///   are refused; `OUT_OF_MEMORY`, which is one of them, if an allocation fails.
 #[unsafe(no_mangle)]
-pub extern "C" fn sentry_envelope_filter(
+pub extern "C" fn curdmesa_envelope_filter(
     alloc: Global,
     bytes: &[u8],
     now_secs: u64,

@@ -19,7 +19,7 @@ use std::alloc::Global;
 /// An item of an envelope: places of its header and its payload in the bytes, and its type.
 #[derive(Clone, Copy)]
 #[repr(C)]
-pub struct SentryFrame {
+pub struct CurdmesaFrame {
     /// Offset of the item header's `{`.
     pub header_offset: u64,
     /// Length of the item header.
@@ -73,7 +73,7 @@ fn payload_offset(bytes: &[u8], header_end: usize) -> usize
 }
 
 // Returns the places of the first frame of a body, with which the bytes end.
-fn placed(bytes: &[u8], body: &[u8], item: &ItemFrame<'_>, kind: ItemKind) -> SentryFrame
+fn placed(bytes: &[u8], body: &[u8], item: &ItemFrame<'_>, kind: ItemKind) -> CurdmesaFrame
     requires ends { EndsWith bytes.now body.now }
     requires first { (rest : List ℕ) ×
         IsFirstFrame (stated_length item_words) body.now (frame_of item.now) rest }
@@ -83,7 +83,7 @@ fn placed(bytes: &[u8], body: &[u8], item: &ItemFrame<'_>, kind: ItemKind) -> Se
     let front = skip_space(body);
     let header_offset = bytes.len() - front.len();
     let header_end = header_offset + item.header.len();
-    SentryFrame {
+    CurdmesaFrame {
         header_offset: header_offset as u64,
         header_length: item.header.len() as u64,
         payload_offset: payload_offset(bytes, header_end) as u64,
@@ -106,11 +106,11 @@ fn placed(bytes: &[u8], body: &[u8], item: &ItemFrame<'_>, kind: ItemKind) -> Se
 /// - The status of the error of `Frames::next_item` if the item is
 ///   refused; `OUT_OF_MEMORY`, which is one of them, if an allocation fails.
 #[unsafe(no_mangle)]
-pub extern "C" fn sentry_frames_next(
+pub extern "C" fn curdmesa_frames_next(
     alloc: Global,
     bytes: &[u8],
     offset: &mut u64,
-    frame: &mut SentryFrame,
+    frame: &mut CurdmesaFrame,
 ) -> i32
     ensures found { result ≡ OK → FindsFrame bytes.now offset.old frame.new offset.new }
     ensures nothing { result ≡ NOTHING_LEFT → BodyFrom bytes.now offset.old [] }

@@ -61,7 +61,7 @@ fn place_in(ledger: &[u64], category: u32, reason: u32) -> Option<usize>
 /// - `INVALID_ARGUMENT` if the ledger has another length than [`PAIRS`], or no category or no
 ///   reason has the number.
 #[unsafe(no_mangle)]
-pub extern "C" fn sentry_ledger_record(
+pub extern "C" fn curdmesa_ledger_record(
     ledger: &mut [u64],
     category: u32,
     reason: u32,
@@ -100,7 +100,7 @@ pub extern "C" fn sentry_ledger_record(
 /// - `INVALID_ARGUMENT` if the ledger has another length than [`PAIRS`], or no category or no
 ///   reason has the number.
 #[unsafe(no_mangle)]
-pub extern "C" fn sentry_ledger_held(
+pub extern "C" fn curdmesa_ledger_held(
     ledger: &[u64],
     category: u32,
     reason: u32,
@@ -146,7 +146,7 @@ fn report_text(alloc: Global, ledger: &[u64], now: Moment) -> Result<Vec<u8>, Al
 /// - `INVALID_ARGUMENT` if the ledger has another length than [`PAIRS`].
 /// - `OUT_OF_MEMORY` if an allocation fails.
 #[unsafe(no_mangle)]
-pub extern "C" fn sentry_ledger_flush(
+pub extern "C" fn curdmesa_ledger_flush(
     alloc: Global,
     ledger: &mut [u64],
     now_secs: u64,

@@ -12,6 +12,5 @@ pub mod frames;
 pub mod ledger;
 mod output;
 pub mod status;
-#[cfg(test)]
-mod tests;
 pub mod texts;
+pub mod version;

@@ -1,7 +1,8 @@
 -- The streams of a run: its input, its output, and the table of what is lost.
 use Rattle.std.specs.Prelude.{◌≡◌, ℕ, ◌+◌, List, Option}
 use Rattle.std.specs.Io.KnownBytes.{Appends, Consumes, IsAtEnd, Keeps}
-use Rattle.sentry_items.specs.Counted.{AppendsFront, reader_failures, reader_inside, writer_failures, writer_inside}
+use Rattle.sentry_framing.specs.Sending.{AppendsFront}
+use Rattle.sentry_items.specs.Counted.{reader_failures, reader_inside, writer_failures, writer_inside}
 use Rattle.sentry_items.specs.declared.counted.CountedReader.{CountedReader}
 use Rattle.sentry_items.specs.declared.counted.CountedWriter.{CountedWriter}
 

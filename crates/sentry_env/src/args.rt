@@ -118,7 +118,14 @@ pub fn program_args(rt: &(impl Env + AllocGlobal)) -> Result<Option<Args>, Alloc
         Err(error) if error.kind() == ErrorKind::InvalidData => return Ok(None),
         Err(_) => return Err(AllocError),
     };
-    let words: Vec<String> = given.skip(1).collect(rt.alloc())?;
-    let words: Vec<&str> = words.iter().map(|word| word.as_str()).collect(rt.alloc())?;
-    read_args(rt.alloc(), &words)
+    // Not collected: `collect` asks again for less where its first request is refused.
+    let mut words = Vec::new(rt.alloc());
+    for word in given.skip(1) {
+        words.push(word)?;
+    }
+    let mut texts = Vec::with_capacity(rt.alloc(), words.len())?;
+    for word in &words {
+        texts.push(word.as_str())?;
+    }
+    read_args(rt.alloc(), &texts)
 }

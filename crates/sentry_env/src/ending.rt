@@ -4,7 +4,7 @@ ghost use Rattle.std.specs.Prelude.{◌≡◌};
 ghost use Rattle.sentry_env.specs.Ending.{ending_of, usage_ending, run_error_of, refusal_of};
 
 use crate::read_all::ReadError;
-use sentry_items::counted::SendFailed;
+use sentry_framing::sending::SendFailed;
 use sentry_types::protocol::v7::EnvelopeError;
 use std::alloc::AllocError;
 

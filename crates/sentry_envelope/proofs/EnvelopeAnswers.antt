@@ -13,7 +13,7 @@ use Rattle.sentry_framing.specs.declared.error.EnvelopeError.TheVariants.{Invali
 use Rattle.sentry_framing.proofs.Opening.{not_blank}
 use Rattle.sentry_framing.proofs.Outcomes.{frame, fault, same_outcome}
 use Rattle.sentry_framing.proofs.Verdicts.{same_first, one_verdict}
-use Rattle.sentry_envelope.proofs.EnvelopeLine.{same_line, some_line}
+use Rattle.sentry_framing.proofs.EnvelopeLine.{same_line, some_line}
 use Rattle.sentry_envelope.proofs.EnvelopeShown.{line_sorted, line_not_both, frame_sorted, frame_stands, frame_not_both}
 
 -- ---- one first fault

@@ -9,7 +9,7 @@ use Rattle.sentry_envelope.specs.Profile.{Profile, ProfileLaws}
 use Rattle.sentry_envelope.specs.Envelope.{Envelope, ItemsStand, first_id, items_text, envelope_text, items_norm, envelope_norm, IsEnvelopeStored, IsEnvelopePlain, IsEnvelopeReadable, IsEnvelopeSized}
 use Rattle.sentry_envelope.specs.EnvelopeLaws.{EnvelopesReadBack}
 use Rattle.sentry_framing.proofs.Written.{line_read}
-use Rattle.sentry_envelope.proofs.EnvelopeLine.{same_line}
+use Rattle.sentry_framing.proofs.EnvelopeLine.{same_line}
 use Rattle.sentry_envelope.proofs.EnvelopeIds.{ids_alike}
 use Rattle.sentry_envelope.proofs.EnvelopeItems.{items_back, items_only}
 

@@ -7,10 +7,10 @@ use Rattle.sentry_tables.specs.Written.{tree}
 use Rattle.sentry_tables.specs.Meets.{IsPlain, IsStored}
 use Rattle.sentry_tables.specs.Lawful.{IsMoment}
 use Rattle.sentry_tables.proofs.Laws.{has_laws}
-use Rattle.sentry_framing.specs.Framing.{with_line}
+use Rattle.sentry_framing.specs.Framing.{Frame, with_line}
 use Rattle.sentry_framing.specs.ItemHeader.{Header}
 use Rattle.sentry_envelope.specs.Profile.{words, Profile, ProfileLaws}
-use Rattle.sentry_envelope.specs.Envelope.{Content, Item, item, raw, Envelope, Spells, ContentShows, ContentShowsAt, ItemsStand, first_id, frame_by, frame_at, frame_text, items_text, envelope_text, content_norm, content_norm_at, items_norm, envelope_norm, stated_at, ItemsAreSized, IsEnvelopeSized, ContentDemand, stored_content, plain_content, ContentMeets, ContentMeetsAt, ItemsMeet, IsEnvelopeStored, IsEnvelopePlain, IsEnvelopeReadable}
+use Rattle.sentry_envelope.specs.Envelope.{Content, Item, item, raw, Envelope, Spells, ContentShows, ContentShowsAt, ItemShows, ItemsStand, first_id, frame_by, frame_at, frame_text, items_text, envelope_text, content_norm, content_norm_at, items_norm, envelope_norm, stated_at, ItemsAreSized, IsEnvelopeSized, ContentDemand, stored_content, plain_content, ContentMeets, ContentMeetsAt, ItemsMeet, IsEnvelopeStored, IsEnvelopePlain, IsEnvelopeReadable}
 use Rattle.sentry_envelope.specs.EnvelopeLaws.{IsFit, EnvelopesHaveOneForm, EnvelopesAreRewritten, RewritingTwiceIsOnce, NormalFormsAreSized, SpelledHaveOneForm}
 use Rattle.sentry_envelope.proofs.EnvelopeTypes.{type_held, shows_at, meets_at, frame_is, norm_is, stated_is, lawful_at}
 use Rattle.sentry_envelope.proofs.EnvelopeWrittenHeaders.{AreTexts, header_texts}
@@ -61,6 +61,12 @@ module _ (P : Profile) (laws : ProfileLaws P) where
         sized = λ h. (subst (λ m. m < 2 ^ 64) (sym here.stated) h.0, others.sized h.1);
       }
   items_rewritten now moment (raw ∷ items) body (f, next, first, shown, more) = absurd shown
+
+  pub item_met : (now : Cell) → IsMoment now → (frame : Frame) (i : Item) → ItemShows P now frame i → ItemsMeet stored_content P.types (i ∷ []) × ItemsMeet plain_content P.types (i ∷ [])
+  item_met now moment frame (item n c) (h, read, kind, shown) =
+      let here = item_rewritten n c h frame.payload now moment (header_texts (words P.types) frame.header h read) shown in
+      ((here.stored, tt), (here.plain, tt))
+  item_met now moment frame raw shown = absurd shown
 
   -- ---- envelopes
 

@@ -2,7 +2,6 @@ pub mod Sent
 pub mod Demands
 pub mod HeaderValues
 pub mod HeadersFilled
-pub mod EnvelopeLine
 pub mod EnvelopeShown
 pub mod EnvelopeSized
 pub mod EnvelopeAnswers
@@ -22,10 +21,12 @@ pub mod EnvelopeBack
 pub mod EnvelopeNormal
 pub mod EnvelopeMade
 pub mod EnvelopeForms
+pub mod FrameItems
 pub mod EnvelopeLaws
 pub mod OneEnvelope
 pub mod RawEnvelopes
 pub mod EnvelopeFill
+pub mod EnvelopeForwarded
 pub mod EnvelopeSample
 pub mod ConservationLemmas
 pub mod LossLemmas

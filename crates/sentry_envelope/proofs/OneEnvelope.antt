@@ -17,7 +17,7 @@ use Rattle.sentry_envelope.specs.Envelope.{Content, value, Item, item, raw, IsVa
 use Rattle.sentry_envelope.specs.OneEnvelope.{PayloadDrawsNothing, PayloadDrawsNothingAt, FrameDrawsNothing, HasOneEnvelope}
 use Rattle.sentry_envelope.proofs.EnvelopeAnswers.{some_remain}
 use Rattle.sentry_envelope.proofs.EnvelopeBack.{envelopes_same}
-use Rattle.sentry_envelope.proofs.EnvelopeLine.{same_line}
+use Rattle.sentry_framing.proofs.EnvelopeLine.{same_line}
 use Rattle.sentry_items.proofs.Containers.{container_lawful}
 
 -- ---- contents

@@ -18,7 +18,7 @@ use Rattle.sentry_items.specs.Containers.{container_kind}
 use Rattle.sentry_envelope.specs.Envelope.{Content, value, Item, item, raw, reads, payload_by, frame_by, frame_at, frame_text, items_text, envelope_text, stored_content, plain_content, readable_content, ContentMeets, ContentMeetsAt, ItemsMeet, ItemsAreSized, IsEnvelopeStored, IsEnvelopePlain, IsEnvelopeReadable, IsEnvelopeSized}
 use Rattle.sentry_envelope.specs.OneEnvelope.{PayloadDrawsNothing, PayloadDrawsNothingAt, FrameDrawsNothing, TextsDrawNothing}
 use Rattle.sentry_envelope.proofs.EnvelopeItems.{IsItemBack, item_back, none_of_nothing}
-use Rattle.sentry_envelope.proofs.EnvelopeLine.{same_line}
+use Rattle.sentry_framing.proofs.EnvelopeLine.{same_line}
 use Rattle.sentry_items.proofs.Containers.{container_lawful}
 use Rattle.sentry_envelope.proofs.EnvelopeTypes.{IsAt, has_at, type_met, meets_at, frame_is, lawful_at}
 

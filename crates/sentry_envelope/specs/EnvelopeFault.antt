@@ -1,5 +1,5 @@
 -- The first check of an envelope's bytes that fails.
-use Rattle.std.specs.Prelude.{◌≡◌, ◌≢◌, ◌⊎◌, ℕ, List, [], ◌∷◌}
+use Rattle.std.specs.Prelude.{◌≡◌, ◌≢◌, ◌⊎◌, ℕ, List, [], ◌∷◌, None, IsSome}
 use Rattle.sentry_tables.specs.Cell.{Cell}
 use Rattle.sentry_tables.specs.Kind.{Kind}
 use Rattle.sentry_tables.specs.Laws.{TextShows}
@@ -7,7 +7,7 @@ use Rattle.sentry_framing.specs.Framing.{Frame, IsLineAndBody, IsFirstFrame, IsF
 use Rattle.sentry_envelope.specs.Profile.{Profile}
 use Rattle.sentry_envelope.specs.Envelope.{Item, reads, ItemShows}
 use Rattle.sentry_framing.specs.declared.error.EnvelopeError.{EnvelopeError}
-use Rattle.sentry_framing.specs.declared.error.EnvelopeError.TheVariants.{InvalidHeader, InvalidItemPayload}
+use Rattle.sentry_framing.specs.declared.error.EnvelopeError.TheVariants.{UnexpectedEof, MissingHeader, MissingItemHeader, MissingNewline, InvalidHeader, InvalidItemHeader, InvalidItemPayload, OutOfMemory}
 
 -- the line shows a value of the kind, at every moment
 abbrev pub LineStands : Kind → List ℕ → Type 0
@@ -24,6 +24,17 @@ FrameStands P frame = (now : Cell) → (i : Item) × ItemShows P now frame i
 -- the frame shows no item, at no moment
 abbrev pub FrameIsRefused : Profile → Frame → Type 0
 FrameIsRefused P frame = (now : Cell) (i : Item) → ItemShows P now frame i → ⊥
+
+-- The first check of a frame by itself that fails: of its header, and of its payload.
+abbrev pub IsItemFault : Profile → Frame → EnvelopeError → Type 0
+IsItemFault P frame InvalidItemHeader = reads P frame.header ≡ None
+IsItemFault P frame InvalidItemPayload = IsSome (reads P frame.header) × FrameIsRefused P frame
+IsItemFault P frame UnexpectedEof = ⊥
+IsItemFault P frame MissingHeader = ⊥
+IsItemFault P frame MissingItemHeader = ⊥
+IsItemFault P frame MissingNewline = ⊥
+IsItemFault P frame InvalidHeader = ⊥
+IsItemFault P frame OutOfMemory = ⊥
 
 -- these frames stand first in a body in all checks, and this body follows them
 abbrev pub FramesStand : Profile → List ℕ → List Frame → List ℕ → Type 0

@@ -7,6 +7,7 @@ pub mod EnvelopeLosses
 pub mod EnvelopeMade
 pub mod EnvelopeView
 pub mod Filter
+pub mod ForwardLaws
 pub mod HeaderFields
 pub mod ItemAdded
 pub mod ItemText

@@ -44,7 +44,7 @@ pub(crate) enum Contents {
 #[derive(Debug, Drop, Error)]
 pub enum AddRefused {
     /// The envelope is raw, and its items are unknown.
-    #[error("envelope is raw")]
+    #[error("RawEnvelope")]
     RawEnvelope(EnvelopeItem),
     /// An allocation failed.
     #[error("out of memory")]
@@ -54,7 +54,8 @@ pub enum AddRefused {
 impl Envelope {
     ghost use Rattle.std.specs.Prelude.{false, ◌≡◌, ◌≢◌, ◌↔◌, ◌⊎◌, List, [], ◌∷◌, ◌++◌, ℕ, ◌+◌, ◌-◌, ◌^◌, ◌<◌, Some, IfOk, IfErr, IsOkAnd, OnErr, OnOk, IsSome, IsSomeAnd, IfSome, IsTrue, option_map};
     ghost use Rattle.std.specs.Io.KnownBytes.{Appends, Keeps};
-    ghost use Rattle.sentry_items.specs.Counted.{writer_inside, writer_failures, AppendsFront};
+    ghost use Rattle.sentry_framing.specs.Sending.{AppendsFront};
+    ghost use Rattle.sentry_items.specs.Counted.{writer_inside, writer_failures};
     ghost use Rattle.sentry_envelope.specs.Envelope.{Envelope as Model, IsEnvelopePlain, IsEnvelopeSized, IsEnvelopeStored, Spells, envelope_text, envelope_norm};
     ghost use Rattle.sentry_envelope.specs.EnvelopeFault.{Fault};
     ghost use Rattle.sentry_moments.specs.Moments.{moment_cell};

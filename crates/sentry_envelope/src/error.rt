@@ -6,12 +6,12 @@ use thiserror::Error;
 pub enum EnvelopeWriteError {
     /// The envelope is structured and isn't plain: a JSON value in the envelope holds a float, or
     /// an additional member has the key of a field or, in a context, `type`. Nothing was written.
-    #[error("envelope is not plain")]
+    #[error("NotPlain")]
     NotPlain,
     /// An allocation failed; nothing was written.
     #[error("out of memory")]
     Memory,
     /// A write failed; only a proper prefix of the text was written, possibly none of it.
-    #[error("write failed")]
+    #[error("Io")]
     Io,
 }

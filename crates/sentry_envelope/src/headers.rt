@@ -291,7 +291,7 @@ fn fill_headers<'a>(
         *headers = EnvelopeHeaders::new().with_id(Some(id));
         return Ok(());
     }
-    match lines.root(line) {
+    match lines.root(line)? {
         Some(root) => fill_from_root(alloc, &root, headers),
         None => fill_from_line(lines, line, headers),
     }

@@ -6,6 +6,7 @@ ghost use Rattle.sentry_envelope.specs.declared.headers.EnvelopeHeaders.{Envelop
 ghost use Rattle.sentry_envelope.specs.EnvelopeAlike.{HasNoTree, HasStoredAddresses, AreEnvelopesAlike};
 ghost use Rattle.sentry_envelope.specs.EnvelopeLosses.{losses_of_envelope};
 ghost use Rattle.sentry_envelope.specs.EnvelopeView.{items_of, raw_bytes, text_of};
+ghost use Rattle.sentry_envelope.specs.ForwardLaws.{ForwardedAreSpelled, KeptAreSpelled, SpelledAreFramed};
 ghost use Rattle.sentry_envelope.specs.HeaderFields.{header_kind, headers_cell};
 ghost use Rattle.sentry_envelope.specs.EnvelopeLaws.{HasOneAnswer, EnvelopesReadBack, EnvelopesAreStable, EnvelopesHaveOneForm, EnvelopesAreRewritten, RewritingTwiceIsOnce, ShortTextsAreSized, NormalFormsAreSized, SpelledHaveOneForm};
 ghost use Rattle.sentry_envelope.specs.OneEnvelope.{HasOneEnvelope, TextsDrawNothing};
@@ -67,6 +68,21 @@ pub fn rewritten()
 /// an accepted envelope can be unreadable only by depth.
 pub fn accepted_is_readable()
     ensures { AcceptedIsReadable profile }
+{}
+
+/// What is accepted can be forwarded: bytes that spell an envelope are framed, by item headers of
+/// any type ([`sentry_forward::AnyFrames`]), into the frames of its items.
+pub fn accepted_are_framed()
+    ensures { SpelledAreFramed profile }
+{}
+
+/// What is forwarded ([`sentry_forward::forward`]) is accepted if the kept items are: if the header
+/// line shows a header and the kept frames show these items, the bytes that are left spell an
+/// envelope of just these items, in order. So of bytes that spell an envelope, those that are left
+/// spell one of its kept items.
+pub fn forwarded_are_accepted()
+    ensures forwarded { ForwardedAreSpelled profile }
+    ensures kept { KeptAreSpelled profile }
 {}
 
 /// If an envelope that bytes spell is readable and sized, reading its text and writing again gives

@@ -2,9 +2,9 @@
 
 ghost use Rattle.std.specs.Prelude.{◌≡◌, ◌≢◌, ◌∷◌, ◌++◌, IfOk, IfErr, OnOk, [], Some, map};
 ghost use Rattle.sentry_items.specs.View.{attachment_view};
-ghost use Rattle.sentry_envelope.specs.Envelope.{attached_by, ItemsStand};
-ghost use Rattle.sentry_envelope.specs.EnvelopeFault.{BodyIsAtFault};
-ghost use Rattle.sentry_envelope.specs.EnvelopeView.{item_view};
+ghost use Rattle.sentry_envelope.specs.Envelope.{attached_by, ItemShows, ItemsStand};
+ghost use Rattle.sentry_envelope.specs.EnvelopeFault.{BodyIsAtFault, IsItemFault};
+ghost use Rattle.sentry_envelope.specs.EnvelopeView.{item_view, AreStoredAndPlain};
 ghost use Rattle.sentry_envelope.specs.ItemAdded.{IsAdded, IsNotAdded};
 ghost use Rattle.sentry_framing.specs.HeaderView.{header_view};
 ghost use Rattle.sentry_framing.specs.ItemHeader.{read_header};
@@ -14,13 +14,53 @@ ghost use Rattle.sentry_envelope.specs.SentryProfile.{profile};
 ghost use Rattle.sentry_framing.specs.View.{frame_of};
 
 use crate::payload::add_json_item;
+use bumpalo::Bump;
 use rand_core::Rng;
 use sentry_framing::frames::next_item_into;
-use sentry_framing::{EnvelopeError, Frames, ItemFrame, ItemHeader, ItemKind};
+use sentry_framing::{EnvelopeError, Frames, ItemFrame, ItemHeader, ItemKind, read_item_header};
 use sentry_items::{Attachment, AttachmentType, EnvelopeItem, ReplayRecording};
 use sentry_moments::Moment;
 use sentry_tables::LineReader;
 use std::alloc::{AllocError, Global};
+
+/// Reads the item of a frame, as [`Envelope::from_slice`] reads the items of an envelope.
+///
+/// The item is plain ([`EnvelopeItem::is_plain`]). The moment `now` fills absent timestamps, and
+/// `ids` absent ids. The `length` of the item header is not compared with the payload: a frame's
+/// payload has it.
+///
+/// # Errors
+///
+/// The first check of the frame that fails, in this order:
+///
+/// - `InvalidItemHeader` if `header` isn't an item header, as [`read_item_header`] says.
+/// - `InvalidItemPayload` if `payload` isn't read as its item type.
+///
+/// `OutOfMemory` if an allocation fails, or if a URL would take 4 GB.
+///
+/// [`Envelope::from_slice`]: crate::Envelope::from_slice
+#[inline(never)]
+pub fn read_item<R: Rng>(
+    alloc: Global,
+    header: &[u8],
+    payload: &[u8],
+    now: Moment,
+    ids: &mut R,
+) -> Result<EnvelopeItem, EnvelopeError>
+    ensures shown { IfOk result (λ item. ItemShows profile (moment_cell now)
+        (record { header = header.now; payload = payload.now }) (item_view item)) }
+    ensures stored { IfOk result (λ item. AreStoredAndPlain (item_view item ∷ [])) }
+    ensures fault { IfErr result (λ x. x ≢ EnvelopeError.OutOfMemory →
+        IsItemFault profile (record { header = header.now; payload = payload.now }) x) }
+{
+    let mut fields = read_item_header(alloc, header)?;
+    let texts = Bump::new(alloc);
+    let mut lines = LineReader::new(alloc, &texts);
+    let mut items = Vec::with_capacity(alloc, 1)?;
+    let frame = ItemFrame { header, payload };
+    add_item(&mut lines, &frame, &mut fields, now, ids, &mut items)?;
+    Ok(items.pop().unwrap())
+}
 
 pub(crate) fn read_items<'l, 'a: 'l, R: Rng>(
     lines: &mut LineReader<'l>,

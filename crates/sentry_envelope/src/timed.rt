@@ -1,6 +1,6 @@
 //! Reading of JSON lines that fills absent timestamps and ids.
 
-ghost use Rattle.std.specs.Prelude.{IfSome};
+ghost use Rattle.std.specs.Prelude.{IfOk, IfSome};
 ghost use Rattle.sentry_tables.specs.Reading.{ReadsTextAt, ShownAt, RefusedAt, TextShownAt};
 ghost use Rattle.sentry_moments.specs.Moments.{moment_cell};
 
@@ -11,7 +11,7 @@ use sentry_json::Node;
 use sentry_moments::Moment;
 use sentry_rows::FromTreeAt;
 use sentry_tables::{LineReader, ReadsNode, TreeError};
-use std::alloc::Global;
+use std::alloc::{AllocError, Global};
 
 // Reads a node with the current time and a generator of ids.
 #[derive(Drop)]
@@ -51,19 +51,23 @@ pub(crate) fn read_at<'a, T: FromTreeAt, R: Rng>(
 
 // Reads a value from a long line, its additional data apart from its other members.
 //
-// `None` if the line isn't long or can't be read so: `read_at` decides then.
+// `None` if the line isn't long or can't be read so: `read_at` decides then. `AllocError` if an
+// allocation fails.
 fn read_long_at<'a, T: ReadApart, R: Rng>(
     lines: &mut LineReader<'a>,
     line: &'a [u8],
     now: Moment,
     ids: &mut R,
-) -> Option<T>
-    ensures { IfSome result (λ value.
-        TextShownAt (moment_cell now) T.kind line.now (T.cell_of value)) }
+) -> Result<Option<T>, AllocError>
+    ensures { IfOk result (λ read. IfSome read (λ value.
+        TextShownAt (moment_cell now) T.kind line.now (T.cell_of value))) }
 {
     let reader = AtMoment { now, ids };
-    let (value, extra): (T, _) = lines.read_apart(line, T::keys(), EXTRA, reader)?;
-    Some(value.with_extra(extra))
+    let read: Option<(T, _)> = lines.read_apart(line, T::keys(), EXTRA, reader)?;
+    let Some((value, extra)) = read else {
+        return Ok(None);
+    };
+    Ok(Some(value.with_extra(extra)))
 }
 
 // As `read_at`. Of a long line, neither additional data nor members that the type doesn't know
@@ -80,7 +84,7 @@ pub(crate) fn read_apart_at<'a, T: ReadApart, R: Rng>(
 ) -> Result<T, TreeError>
     ensures { ReadsTextAt (moment_cell now) T.kind T.cell_of line.now result }
 {
-    match read_long_at(lines, line, now, ids) {
+    match read_long_at(lines, line, now, ids)? {
         Some(value) => Ok(value),
         None => read_at(lines, line, now, ids),
     }

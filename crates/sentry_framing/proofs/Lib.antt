@@ -3,12 +3,14 @@ pub mod Machine
 pub mod Pieces
 pub mod Scan
 pub mod LineEnds
+pub mod EnvelopeLine
 pub mod Opening
 pub mod Tails
 pub mod Outcomes
 pub mod Verdicts
 pub mod Faults
 pub mod StatedLengths
+pub mod Sent
 pub mod Written
 pub mod ShortHeaders
 pub mod Flat

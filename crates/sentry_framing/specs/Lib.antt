@@ -3,5 +3,6 @@ pub mod HeaderView
 pub mod ItemHeader
 pub mod ItemWords
 pub mod Quotes
+pub mod Sending
 pub mod Unread
 pub mod View

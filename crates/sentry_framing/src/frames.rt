@@ -1,5 +1,5 @@
 //! The item frames of an envelope, borrowed from its bytes.
-ghost use Rattle.std.specs.Prelude.{◌≡◌, ◌≢◌, ◌↔◌, ◌<◌, [], ℕ, IfOk, IfErr, IfSome, IsNone, None, Some, length};
+ghost use Rattle.std.specs.Prelude.{◌≡◌, ◌≢◌, ◌↔◌, ◌<◌, [], ℕ, List, IfOk, IfErr, IfSome, IsNone, None, Some, length};
 ghost use Rattle.sentry_framing.specs.Framing.{CutsPayload, IsFault, IsFirstFrame, IsLineAndBody, Opens, Reading};
 ghost use Rattle.sentry_framing.specs.ItemHeader.{read_header, stated_length};
 ghost use Rattle.sentry_framing.specs.ItemWords.{item_words};
@@ -196,8 +196,13 @@ fn split_payload(stated: Option<u64>, bytes: &[u8]) -> Result<(&[u8], &[u8]), En
     }
 }
 
-// Splits off the balanced piece after the white space at the front.
-fn split_header(body: &[u8]) -> Result<(&[u8], &[u8]), EnvelopeError>
+/// Splits off the balanced piece after the white space at the front.
+///
+/// # Errors
+///
+/// - `UnexpectedEof` if only white space is left.
+/// - `InvalidItemHeader` if no balanced piece follows the white space.
+pub fn split_header(body: &[u8]) -> Result<(&[u8], &[u8]), EnvelopeError>
     ensures found { IfOk result (λ x. Opens body.now x.0.now x.1.now) }
     ensures fault { IfErr result (λ e. (reads : Reading) → IsFault reads body.now e) }
 {
@@ -249,8 +254,34 @@ fn first_item<'l, 'a: 'l>(
         → IsFault (stated_length item_words) body.now e) }
 {
     let (header, after) = take_header(lines, body, fields)?;
+    let (frame, rest) = end_frame(header, after, fields.length)?;
+    Ok((frame, rest))
+}
+
+/// Splits the payload of a header off the bytes behind the header, and returns the frame and the
+/// bytes after the frame. `stated` is the length that the header states.
+///
+/// # Errors
+///
+/// - `UnexpectedEof` if fewer bytes are left than stated.
+/// - `MissingNewline` if the header, or a payload of a stated length, is followed by anything but a
+///   line feed or the end.
+#[inline(always)]
+pub fn end_frame<'a>(
+    header: &'a [u8],
+    after: &'a [u8],
+    stated: Option<u64>,
+) -> Result<(ItemFrame<'a>, &'a [u8]), EnvelopeError>
+    ensures header { IfOk result (λ x. x.0.header.now ≡ header.now) }
+    ensures frame { IfOk result (λ x. (reads : Reading) (body : List ℕ) →
+        Opens body header.now after.now → reads header.now ≡ Some stated →
+        IsFirstFrame reads body (frame_of x.0) x.1.now) }
+    ensures fault { IfErr result (λ e. (reads : Reading) (body : List ℕ) →
+        Opens body header.now after.now → reads header.now ≡ Some stated →
+        IsFault reads body e) }
+{
     let left = end_line(after)?;
-    let (payload, tail) = split_payload(fields.length, left)?;
+    let (payload, tail) = split_payload(stated, left)?;
     let rest = end_line(tail)?;
     Ok((ItemFrame { header, payload }, rest))
 }

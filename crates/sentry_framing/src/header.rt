@@ -70,8 +70,12 @@ fn kind<N: Node>(place: &Option<N>) -> Result<ItemKind, TreeError>
     ItemKind::from_word(word).ok_or(TreeError::Misfit)
 }
 
-// `None` if the member is absent or null.
-fn optional_number<N: Node>(place: &Option<N>) -> Result<Option<u64>, TreeError>
+/// Returns the whole number below 2^64 at a place; `None` if the member is absent or null.
+///
+/// # Errors
+///
+/// `Misfit` for any other node.
+pub fn optional_number<N: Node>(place: &Option<N>) -> Result<Option<u64>, TreeError>
     ensures ok { IfOk result (λ number.
         optional whole_number (option_map N.data_of place.now) ≡ Some number) }
     ensures misfit { result ≡ Err TreeError.Misfit →
@@ -203,7 +207,7 @@ fn fill_from_line<'a>(
     ensures misfit { result ≡ Err TreeError.Misfit → read_header item_words line.now ≡ None }
 {
     let alloc = lines.alloc();
-    match lines.root(line) {
+    match lines.root(line)? {
         Some(root) => fill_from_tape(alloc, &root, fields),
         None => fill_from_tree(alloc, line, fields),
     }

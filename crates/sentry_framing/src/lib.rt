@@ -1,4 +1,5 @@
-//! The framing of envelopes: a header line, and items of a header and a payload.
+//! The framing of envelopes: a header line, and items of a header and a payload; and calls that
+//! write a whole text.
 #![tactic(auto)]
 
 pub mod error;
@@ -8,6 +9,7 @@ pub mod kind;
 pub mod laws;
 pub mod lines;
 mod piece;
+pub mod sending;
 mod short;
 
 pub use error::EnvelopeError;

@@ -29,7 +29,7 @@ pub struct DebugId {
 
 /// The error of a text that is not a [`DebugId`].
 #[derive(Debug, Drop, Error)]
-#[error("invalid debug identifier")]
+#[error("ParseDebugIdError")]
 pub struct ParseDebugIdError;
 
 impl DebugId {

@@ -1,5 +1,6 @@
 -- The types of attachments as texts.
 use Rattle.std.proofs.Common.{◌≡◌, ℕ, zero, suc, List, [], ◌∷◌, Bool, true, false, ◌||◌, cond, Some, codes, refl, sym, ap, subst, IsUtf8, bytes_eq}
+use Rattle.std.specs.List.{IsDistinct}
 use Rattle.std.proofs.lemmas.Bool.{false≢true}
 use Rattle.std.proofs.lemmas.Option.{same_Some}
 use Rattle.std.proofs.lemmas.Slice.Eq.{bytes_eq-Decides}
@@ -11,6 +12,11 @@ use Rattle.sentry_tables.specs.Spelling.{SpellingLaws}
 use Rattle.sentry_tables.proofs.Collections.{AreTexts}
 use Rattle.sentry_tables.proofs.Spellings.{ReadLaws, read_to_laws, spelled_has_laws}
 use Rattle.sentry_items.specs.AttachmentWords.{attachment_words, known, custom, attachment_type_of, attachment_type_text, attachment_type_norm, attachment_type_spelling, attachment_type_kind, IsAttachmentType}
+
+-- each word differs from those behind it
+pub no_word_twice : IsDistinct bytes_eq attachment_words
+unfolding IsDistinct
+no_word_twice = ((refl, (refl, (refl, (refl, tt)))), ((refl, (refl, (refl, tt))), ((refl, (refl, tt)), ((refl, tt), (tt, tt)))))
 
 -- a type that a text is read as has that text
 pub type_text_of : (word : List ℕ) → attachment_type_text (attachment_type_of word) ≡ word

@@ -4,7 +4,6 @@ pub mod Items
 pub mod HeaderText
 pub mod Runs
 pub mod Made
-pub mod Sent
 pub mod Texts
 pub mod Cut
 pub mod SameLosses

@@ -4,10 +4,10 @@ use Rattle.std.proofs.lemmas.List.{drop_all}
 use Rattle.std.specs.Io.KnownBytes.{Appends}
 use Rattle.sentry_json.specs.Line.{newline}
 use Rattle.sentry_framing.specs.Framing.{with_line}
-use Rattle.sentry_items.specs.Counted.{AppendsFront}
+use Rattle.sentry_framing.proofs.Sent.{front_of_first, front_of_second}
+use Rattle.sentry_framing.specs.Sending.{AppendsFront}
 use Rattle.sentry_items.specs.Texts.{parts_bytes}
 use Rattle.sentry_items.specs.declared.text.Part.{Part}
-use Rattle.sentry_items.proofs.Sent.{front_of_first, front_of_second}
 
 -- one part more
 part_behind : (ps : List Part) (p : Part) → parts_bytes (ps ++ p ∷ []) ≡ parts_bytes ps ++ (p.own.items ++ p.lent.now)

@@ -4,8 +4,8 @@ ghost use Rattle.std.specs.Prelude.{◌≡◌, ◌++◌, IfOk, OnOk};
 ghost use Rattle.sentry_items.specs.View.{attachment_view};
 
 use crate::attachment_type::AttachmentType;
-use crate::counted::send_both;
 use crate::header::write_attachment_header;
+use sentry_framing::sending::send_both;
 use sentry_tables::{Member, Way};
 use std::alloc::{AllocError, Global};
 use std::fmt;
@@ -43,16 +43,16 @@ pub enum AttachmentWriteError {
     #[error("out of memory")]
     Memory,
     /// A write failed; only a proper prefix of the item was written, possibly none of it.
-    #[error("write failed")]
+    #[error("Io")]
     Io,
 }
 
 impl Attachment {
     ghost use Rattle.std.specs.Prelude.{[], None, IsTrue, option_map, string_bytes};
     ghost use Rattle.std.specs.Io.KnownBytes.{Appends, Keeps};
+    ghost use Rattle.sentry_framing.specs.Sending.{AppendsFront};
     ghost use Rattle.sentry_items.specs.Attached.{attached_type, attached_content_type, attachment_text, attached_norm, IsAttachedStored, IsTypeOption, IsUtf8Option};
     ghost use Rattle.sentry_items.specs.AttachmentWords.{attachment_type_text};
-    ghost use Rattle.sentry_items.specs.Counted.{AppendsFront};
     ghost use Rattle.sentry_items.specs.Made.{attached_made};
     ghost use Rattle.sentry_items.specs.View.{attachment_type_cell};
 

@@ -1,15 +1,13 @@
-//! A writer and a reader that count failed calls, and calls that write a whole text.
-ghost use Rattle.std.specs.Prelude.{◌≡◌, ◌+◌, ◌-◌, ◌^◌, ◌<◌, ◌++◌, OnOk, OnErr, if◌then◌else◌};
+//! A writer and a reader that count failed calls.
+ghost use Rattle.std.specs.Prelude.{◌≡◌, ◌+◌, ◌-◌, ◌^◌, ◌<◌, OnOk, OnErr, if◌then◌else◌};
 ghost use Rattle.std.specs.Io.{ReadsAtMost, WritesAtMost};
 ghost use Rattle.std.specs.Io.KnownBytes.{Appends, ReadConsumes, WriteAppends};
-ghost use Rattle.sentry_items.specs.Counted.{reader_inside, reader_failures, writer_inside, writer_failures, write_fails, AppendsFront};
+ghost use Rattle.sentry_framing.specs.Sending.{write_fails, AppendsFront};
+ghost use Rattle.sentry_items.specs.Counted.{reader_inside, reader_failures, writer_inside, writer_failures};
 
+use sentry_framing::sending::{SendFailed, send_counting, write_counting};
 use std::io;
 use std::io::{Read, Write};
-
-/// The failure to write a whole text: only a proper prefix was written, possibly none of it.
-#[derive(Debug, Drop)]
-pub struct SendFailed;
 
 /// A writer that counts failed writes: those that return an error, and those that accept 0 bytes of
 /// one or more.
@@ -126,47 +124,6 @@ impl<R: Read> CountedReader<R> {
     }
 }
 
-fn write_counting<W: Write>(bytes: &[u8], writer: &mut W, failures: &mut u64) -> io::Result<usize>
-    requires { failures.old < 2 ^ 64 - 1 }
-    ensures bound { WritesAtMost result bytes.now }
-    ensures bytes { WriteAppends (W.contents writer.old) (W.contents writer.new) result bytes.now }
-    ensures failures { failures.new ≡
-        (if write_fails result bytes.now then failures.old + 1 else failures.old) }
-{
-    let result = writer.write(bytes);
-    let failed = match &result {
-        Ok(count) => *count == 0 && !bytes.is_empty(),
-        Err(_) => true,
-    };
-    if failed {
-        *failures += 1;
-    }
-    result
-}
-
-// Writes a whole text by as many writes as needed, and counts a failure in `failures`.
-pub(crate) fn send_counting<W: Write>(
-    text: &[u8],
-    writer: &mut W,
-    failures: &mut u64,
-) -> Result<(), SendFailed>
-    requires { failures.old < 2 ^ 64 - 1 }
-    ensures whole { OnOk result (Appends (W.contents writer.old) (W.contents writer.new) text.now) }
-    ensures front { OnErr result (AppendsFront (W.contents writer.old)
-        (W.contents writer.new) text.now) }
-    ensures no_failure { OnOk result (failures.new ≡ failures.old) }
-    ensures one_failure { OnErr result (failures.new ≡ failures.old + 1) }
-{
-    let mut rest = text;
-    while !rest.is_empty() {
-        match write_counting(rest, writer, failures) {
-            Ok(count) if count > 0 => rest = &rest[count..],
-            _ => return Err(SendFailed),
-        }
-    }
-    Ok(())
-}
-
 /// Writes a whole text to a counted writer, by as many writes as needed. The count before has to be
 /// below 2^64-1.
 ///
@@ -185,38 +142,4 @@ pub fn send<W: Write>(text: &[u8], writer: &mut CountedWriter<W>) -> Result<(), 
         writer_failures writer.old + 1) }
 {
     send_counting(text, &mut writer.inner, &mut writer.failures)
-}
-
-/// Writes a whole text to a writer, by as many writes as needed.
-///
-/// # Errors
-///
-/// `SendFailed` at the first write that fails, is interrupted, or accepts 0 bytes.
-pub fn send_plain<W: Write>(text: &[u8], writer: &mut W) -> Result<(), SendFailed>
-    ensures whole { OnOk result (Appends (W.contents writer.old) (W.contents writer.new) text.now) }
-    ensures front { OnErr result (AppendsFront (W.contents writer.old)
-        (W.contents writer.new) text.now) }
-{
-    let mut failures = 0;
-    send_counting(text, writer, &mut failures)
-}
-
-// Writes two texts to a writer, one after the other, by as many writes as needed.
-//
-// # Errors
-//
-// `SendFailed` at the first write that fails, is interrupted, or accepts 0 bytes; only a proper
-// prefix of both texts together was written.
-pub(crate) fn send_both<W: Write>(
-    first: &[u8],
-    second: &[u8],
-    writer: &mut W,
-) -> Result<(), SendFailed>
-    ensures whole { OnOk result (Appends (W.contents writer.old) (W.contents writer.new)
-        (first.now ++ second.now)) }
-    ensures front { OnErr result (AppendsFront (W.contents writer.old) (W.contents writer.new)
-        (first.now ++ second.now)) }
-{
-    send_plain(first, writer)?;
-    send_plain(second, writer)
 }

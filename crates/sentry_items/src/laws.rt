@@ -1,9 +1,10 @@
 //! Laws of the definitions that the contracts of this crate cite.
 
-ghost use Rattle.std.specs.Prelude.{◌≡◌, ◌↔◌, true, codes};
+ghost use Rattle.std.specs.Prelude.{◌≡◌, ◌↔◌, true, codes, bytes_eq};
+ghost use Rattle.std.specs.List.{IsDistinct};
 ghost use Rattle.sentry_tables.specs.Laws.{HasLaws};
 ghost use Rattle.sentry_items.specs.Alike.{HasStoredAddress, HoldsNoTree, AreAlike};
-ghost use Rattle.sentry_items.specs.AttachmentWords.{attachment_type_kind, known};
+ghost use Rattle.sentry_items.specs.AttachmentWords.{attachment_words, attachment_type_kind, known};
 ghost use Rattle.sentry_items.specs.View.{attachment_type_cell, attachment_view, item_held};
 ghost use Rattle.sentry_items.specs.declared.attachment.Attachment.{Attachment as Attachments};
 ghost use Rattle.sentry_items.specs.declared.attachment_type.AttachmentType.{AttachmentType as Types};
@@ -16,10 +17,11 @@ use crate::attachment_type::AttachmentType;
 use crate::item::EnvelopeItem;
 use crate::replay_recording::ReplayRecording;
 
-/// Attachment types round-trip: a written type reads back as its normal form, in which a custom
-/// type whose text is a known word is the known type.
+/// Attachment types round-trip: no two known types share a word, and a written type reads back as
+/// its normal form, in which a custom type whose text is a known word is the known type.
 pub fn attachment_types_read_back()
-    ensures { HasLaws attachment_type_kind }
+    ensures once { IsDistinct bytes_eq attachment_words }
+    ensures laws { HasLaws attachment_type_kind }
 {}
 
 /// The default attachment type is `event.attachment`.

@@ -1,4 +1,4 @@
-//! Envelope items and their losses, and calls that write a whole text.
+//! Envelope items and their losses, counted writers and readers, and texts that are sent.
 #![tactic(auto)]
 
 pub mod attachment;

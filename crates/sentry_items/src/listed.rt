@@ -63,7 +63,7 @@ pub fn read_listed<'a, T: FromTree>(
     ensures { ReadsText (container_kind T.kind) (λ listed.
         items_cell T.cell_of listed.items.items) payload.now result }
 {
-    match lines.read_list("items", payload) {
+    match lines.read_list("items", payload)? {
         Some(items) => Ok(Listed { items }),
         None => lines.read(payload),
     }

@@ -2,10 +2,12 @@
 
 ghost use Rattle.std.specs.Prelude.{◌≡◌, ◌+◌, ◌-◌, ◌^◌, ◌<◌, ◌++◌, IfOk, IfSome, OnOk, OnErr, length};
 ghost use Rattle.std.specs.Io.KnownBytes.{Appends};
-ghost use Rattle.sentry_items.specs.Counted.{AppendsFront, writer_failures, writer_inside};
+ghost use Rattle.sentry_framing.specs.Sending.{AppendsFront};
+ghost use Rattle.sentry_items.specs.Counted.{writer_failures, writer_inside};
 ghost use Rattle.sentry_items.specs.Texts.{bytes_of};
 
-use crate::counted::{CountedWriter, SendFailed, send_counting};
+use crate::counted::CountedWriter;
+use sentry_framing::sending::{SendFailed, send_counting};
 use std::alloc::{AllocError, Global};
 use std::io::Write;
 use std::mem;
@@ -141,7 +143,7 @@ impl<'e> Text<'e> {
         self.send_counting(&mut writer.inner, &mut writer.failures)
     }
 
-    /// Writes the text to a writer, as [`crate::counted::send_plain`] does.
+    /// Writes the text to a writer, as [`sentry_framing::sending::send_plain`] does.
     pub fn send_plain<W: Write>(&self, writer: &mut W) -> Result<(), SendFailed>
         ensures whole { OnOk result (Appends (W.contents writer.old) (W.contents writer.new)
             (bytes_of self.now)) }

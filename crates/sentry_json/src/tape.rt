@@ -6,23 +6,25 @@ mod list;
 mod members;
 mod node;
 mod number;
+mod requests;
 mod rest;
 mod run;
 mod scalar;
 mod token;
 mod tree;
 
-ghost use Rattle.std.specs.Prelude.{◌≡◌, ◌++◌, ◌∷◌, ◌<◌, [], ℕ, IfSome, IsUtf8, List, Some, if◌then◌else◌, length, true};
+ghost use Rattle.std.specs.Prelude.{◌≡◌, ◌++◌, ◌∷◌, ◌<◌, [], ℕ, IfOk, IfSome, IsUtf8, List, Some, if◌then◌else◌, length, true};
 ghost use Rattle.sentry_json.specs.Line.{tree_of};
 ghost use Rattle.sentry_json.specs.Spelled.{IsBehind, IsQuoted};
 ghost use Rattle.sentry_json.specs.Taken.{TakesLeaf, TakesString, TakesValue};
-ghost use Rattle.sentry_json.specs.Tokens.{kept, text_of};
+ghost use Rattle.sentry_json.specs.Tokens.{kept, text_of, tokens_value};
 ghost use Rattle.sentry_json.specs.TapeView.{node_data};
 ghost use Rattle.sentry_json.specs.declared.tape.token.Token.{Token};
 ghost use Rattle.sentry_json.specs.declared.tape.token.Token.TheVariants as token;
 
 use crate::tape::escape::split_escaped;
 use crate::tape::number::split_whole;
+use crate::tape::requests::Requests;
 use crate::tape::rest::Rest;
 use crate::tape::scalar::split_rare_scalar;
 use crate::tape::token::Token;
@@ -32,7 +34,7 @@ pub use list::Visitor;
 pub use node::TapeNode;
 pub use number::leading_integer;
 pub use run::run_len;
-use std::alloc::Global;
+use std::alloc::{AllocError, Global};
 
 // As deep as a line may nest.
 const DEEPEST: u8 = 127;
@@ -48,7 +50,7 @@ const LEAST: usize = 40;
 /// What strings with escapes stand for is kept in an arena, beside the lines.
 #[derive(Drop)]
 pub struct Tape<'a> {
-    alloc: Global,
+    requests: Requests,
     texts: &'a Bump,
     tokens: Vec<Token<'a>>,
 }
@@ -57,7 +59,10 @@ impl<'a> Tape<'a> {
     /// Creates an empty tape, without allocating yet.
     pub fn new(alloc: Global, texts: &'a Bump) -> Tape<'a> {
         Tape {
-            alloc,
+            requests: Requests {
+                alloc,
+                refused: false,
+            },
             texts,
             tokens: Vec::new(alloc),
         }
@@ -70,244 +75,247 @@ impl<'a> Tape<'a> {
         ensures utf8 { IfSome result (λ rest. IsUtf8 line.now) }
         ensures empty { IfSome result (λ rest. self.new.tokens.items ≡ []) }
     {
+        self.requests.refused = false;
         self.tokens.clear();
         let text = Rest::new(line)?;
-        self.tokens.reserve((line.len() / BYTES).max(LEAST)).ok()?;
+        let room = (line.len() / BYTES).max(LEAST);
+        let Ok(()) = self.tokens.reserve(room) else {
+            return self.requests.refuse();
+        };
         Some(text)
+    }
+
+    // Takes the tokens of a line, in place of those of the line before.
+    #[inline(always)]
+    fn take_line(&mut self, line: &'a [u8]) -> Option<()>
+        ensures { IfSome result (λ _.
+            tree_of line.now ≡ Some (tokens_value self.new.tokens.items)) }
+    {
+        let text = self.start(line)?;
+        let front = text.skip_space();
+        let rest = self.take_value::<true>(front, false, DEEPEST)?;
+        let end = rest.skip_space();
+        if !end.text.is_empty() {
+            return None;
+        }
+        Some(())
     }
 
     /// Reads a line, in place of the one before, and returns its root node.
     ///
     /// The line is JSON by RFC 8259, nested at most 127 deep. Its numbers are integers of 64 bits,
     /// in digits alone and other than `-0`; no white space stands between brackets that hold
-    /// nothing.
-    /// `None` if it isn't such a line, or if an allocation fails.
-    pub fn parse(&mut self, line: &'a [u8]) -> Option<TapeNode<'_, 'a>>
-        ensures { IfSome result (λ root. tree_of line.now ≡ Some (node_data root)) }
+    /// nothing. `None` if it isn't such a line, never because an allocation fails.
+    ///
+    /// # Errors
+    ///
+    /// `AllocError` if an allocation fails.
+    pub fn parse(&mut self, line: &'a [u8]) -> Result<Option<TapeNode<'_, 'a>>, AllocError>
+        ensures { IfOk result (λ read. IfSome read (λ root.
+            tree_of line.now ≡ Some (node_data root))) }
     {
-        let text = self.start(line)?;
-        let front = text.skip_space();
-        let rest = take_value::<true>(
-            self.alloc,
-            self.texts,
-            front,
-            false,
-            DEEPEST,
-            &mut self.tokens,
-        )?;
-        let end = rest.skip_space();
-        if !end.text.is_empty() {
+        let Some(()) = self.take_line(line) else {
+            self.requests.granted()?;
+            return Ok(None);
+        };
+        Ok(Some(TapeNode::new(&self.tokens)))
+    }
+
+    // Appends a token, if the tokens of a value are kept.
+    #[inline(always)]
+    fn keep<const KEPT: bool>(&mut self, token: Token<'a>) -> Option<()>
+        ensures { IfSome result (λ _.
+            self.new.tokens.items ≡ self.old.tokens.items ++ kept KEPT (token.entry ∷ [])) }
+    {
+        if KEPT {
+            let Ok(()) = self.tokens.push(token) else {
+                return self.requests.refuse();
+            };
+        }
+        Some(())
+    }
+
+    // Appends the token of a string with escapes, behind its opening quote; returns what follows it.
+    #[inline(always)]
+    fn take_escaped<const KEPT: bool>(&mut self, inside: Rest<'a>) -> Option<Rest<'a>>
+        ensures spelled { IfSome result (λ rest. (token : Token) × (s : List ℕ)
+            × (text_of token ≡ Some s)
+            × (self.new.tokens.items ≡ self.old.tokens.items ++ kept KEPT (token ∷ []))
+            × IsQuoted inside.entry.text.now s rest.text.now) }
+        ensures shorter { IfSome result (λ rest. length rest.text.now < length inside.entry.text.now) }
+    {
+        let (text, rest) = split_escaped(&mut self.requests, inside)?;
+        if !KEPT {
+            return Some(rest);
+        }
+        let Ok(kept) = self.texts.try_alloc_str(&text) else {
+            return self.requests.refuse();
+        };
+        self.keep::<KEPT>(Token::Text(kept))?;
+        Some(rest)
+    }
+
+    // Appends the token of a word, an integer with a minus or one of many digits, and returns what
+    // follows it.
+    #[inline(always)]
+    fn take_scalar<const KEPT: bool>(&mut self, text: Rest<'a>) -> Option<Rest<'a>>
+        ensures spelled { IfSome result (λ rest.
+            TakesLeaf KEPT self.old.tokens.items self.new.tokens.items
+            text.entry.text.now rest.text.now) }
+        ensures shorter { IfSome result (λ rest. length rest.text.now < length text.entry.text.now) }
+    {
+        let (token, rest) = split_rare_scalar(text)?;
+        self.keep::<KEPT>(token)?;
+        Some(rest)
+    }
+
+    // Appends the token of a string, a word or a number at the front, and returns what follows it; a
+    // key is a string. Not inlined: most are strings without escapes, which `take_value` takes itself.
+    #[inline(never)]
+    fn take_leaf<const KEPT: bool>(&mut self, text: Rest<'a>, key: bool) -> Option<Rest<'a>>
+        ensures spelled { IfSome result (λ rest.
+            TakesLeaf KEPT self.old.tokens.items self.new.tokens.items
+            text.entry.text.now rest.text.now) }
+        ensures string { IfSome result (λ rest. key ≡ true
+            → TakesString KEPT self.old.tokens.items self.new.tokens.items
+            text.entry.text.now rest.text.now) }
+        ensures shorter { IfSome result (λ rest. length rest.text.now < length text.entry.text.now) }
+    {
+        if let Some(inside) = text.after(b'"') {
+            return self.take_escaped::<KEPT>(inside);
+        }
+        if key {
             return None;
         }
-        Some(TapeNode::new(&self.tokens))
-    }
-}
-
-// Appends a token, if the tokens of a value are kept.
-#[inline(always)]
-fn keep<'a, const KEPT: bool>(tokens: &mut Vec<Token<'a>>, token: Token<'a>) -> Option<()>
-    ensures { IfSome result (λ _.
-        tokens.new.items ≡ tokens.old.items ++ kept KEPT (token.entry ∷ [])) }
-{
-    if KEPT {
-        tokens.push(token).ok()?;
-    }
-    Some(())
-}
-
-// Appends the token of a string with escapes, behind its opening quote; returns what follows it.
-#[inline(always)]
-fn take_escaped<'a, const KEPT: bool>(
-    alloc: Global,
-    texts: &'a Bump,
-    inside: Rest<'a>,
-    tokens: &mut Vec<Token<'a>>,
-) -> Option<Rest<'a>>
-    ensures spelled { IfSome result (λ rest. (token : Token) × (s : List ℕ)
-        × (text_of token ≡ Some s) × (tokens.new.items ≡ tokens.old.items ++ kept KEPT (token ∷ []))
-        × IsQuoted inside.entry.text.now s rest.text.now) }
-    ensures shorter { IfSome result (λ rest. length rest.text.now < length inside.entry.text.now) }
-{
-    let (text, rest) = split_escaped(alloc, inside)?;
-    if !KEPT {
-        return Some(rest);
-    }
-    let kept = texts.try_alloc_str(&text).ok()?;
-    keep::<KEPT>(tokens, Token::Text(kept))?;
-    Some(rest)
-}
-
-// Appends the token of a word, an integer with a minus or one of many digits, and returns what
-// follows it.
-#[inline(always)]
-fn take_scalar<'a, const KEPT: bool>(
-    text: Rest<'a>,
-    tokens: &mut Vec<Token<'a>>,
-) -> Option<Rest<'a>>
-    ensures spelled { IfSome result (λ rest. TakesLeaf KEPT tokens.old.items tokens.new.items
-        text.entry.text.now rest.text.now) }
-    ensures shorter { IfSome result (λ rest. length rest.text.now < length text.entry.text.now) }
-{
-    let (token, rest) = split_rare_scalar(text)?;
-    keep::<KEPT>(tokens, token)?;
-    Some(rest)
-}
-
-// Appends the token of a string, a word or a number at the front, and returns what follows it; a
-// key is a string. Not inlined: most are strings without escapes, which `take_value` takes itself.
-#[inline(never)]
-fn take_leaf<'a, const KEPT: bool>(
-    alloc: Global,
-    texts: &'a Bump,
-    text: Rest<'a>,
-    key: bool,
-    tokens: &mut Vec<Token<'a>>,
-) -> Option<Rest<'a>>
-    ensures spelled { IfSome result (λ rest. TakesLeaf KEPT tokens.old.items tokens.new.items
-        text.entry.text.now rest.text.now) }
-    ensures string { IfSome result (λ rest. key ≡ true
-        → TakesString KEPT tokens.old.items tokens.new.items text.entry.text.now rest.text.now) }
-    ensures shorter { IfSome result (λ rest. length rest.text.now < length text.entry.text.now) }
-{
-    if let Some(inside) = text.after(b'"') {
-        return take_escaped::<KEPT>(alloc, texts, inside, tokens);
-    }
-    if key {
-        return None;
-    }
-    if let Some((number, rest)) = split_whole(text) {
-        keep::<KEPT>(tokens, Token::Whole(number))?;
-        return Some(rest);
-    }
-    take_scalar::<KEPT>(text, tokens)
-}
-
-// As `take_leaf`, inlined, so that the call's answer is cleared on this way alone: a place is
-// cleared where the function begins that has it.
-#[inline(always)]
-fn take_rare<'a, const KEPT: bool>(
-    alloc: Global,
-    texts: &'a Bump,
-    text: Rest<'a>,
-    key: bool,
-    tokens: &mut Vec<Token<'a>>,
-) -> Option<Rest<'a>>
-    ensures spelled { IfSome result (λ rest. TakesLeaf KEPT tokens.old.items tokens.new.items
-        text.entry.text.now rest.text.now) }
-    ensures string { IfSome result (λ rest. key ≡ true
-        → TakesString KEPT tokens.old.items tokens.new.items text.entry.text.now rest.text.now) }
-    ensures shorter { IfSome result (λ rest. length rest.text.now < length text.entry.text.now) }
-{
-    let rest = take_leaf::<KEPT>(alloc, texts, text, key, tokens)?;
-    Some(rest)
-}
-
-// Appends the tokens of the value at the front, and returns what follows it; a key is a string.
-#[cycle(take)]
-#[inline(always)]
-fn take_value<'a, const KEPT: bool>(
-    alloc: Global,
-    texts: &'a Bump,
-    text: Rest<'a>,
-    key: bool,
-    depth: u8,
-    tokens: &mut Vec<Token<'a>>,
-) -> Option<Rest<'a>>
-    ensures spelled { IfSome result (λ rest. TakesValue KEPT tokens.old.items tokens.new.items
-        text.entry.text.now rest.text.now depth) }
-    ensures string { IfSome result (λ rest. key ≡ true
-        → TakesString KEPT tokens.old.items tokens.new.items text.entry.text.now rest.text.now) }
-    ensures shorter { IfSome result (λ rest. length rest.text.now < length text.entry.text.now) }
-{
-    // Each call's answer is taken apart before the ways join, so that the place in the line stays
-    // in registers.
-    if let Some((string, rest)) = text.split_plain() {
-        keep::<KEPT>(tokens, Token::Text(string))?;
-        return Some(rest);
-    }
-    let byte = *text.bytes().first()?;
-    if !key && (byte == b'{' || byte == b'[') {
-        return take_nested::<KEPT>(alloc, texts, text.after(byte)?, byte == b'{', depth, tokens);
-    }
-    take_rare::<KEPT>(alloc, texts, text, key, tokens)
-}
-
-// As `take_value`, of an object or an array, behind its opening bracket; inlined as `take_rare`.
-#[cycle(take)]
-#[inline(always)]
-fn take_nested<'a, const KEPT: bool>(
-    alloc: Global,
-    texts: &'a Bump,
-    text: Rest<'a>,
-    object: bool,
-    depth: u8,
-    tokens: &mut Vec<Token<'a>>,
-) -> Option<Rest<'a>>
-    ensures spelled { IfSome result (λ rest. TakesValue KEPT tokens.old.items tokens.new.items
-        ((if object then 123 else 91) ∷ text.entry.text.now) rest.text.now depth) }
-    ensures shorter { IfSome result (λ rest. length rest.text.now < length text.entry.text.now) }
-{
-    let rest = take_inside::<KEPT>(alloc, texts, text, object, depth, tokens)?;
-    Some(rest)
-}
-
-// As `take_nested`, not inlined. A key and its value are one turn of the loop each, so that what
-// takes a string stands in it once.
-#[cycle(take)]
-#[inline(never)]
-fn take_inside<'a, const KEPT: bool>(
-    alloc: Global,
-    texts: &'a Bump,
-    text: Rest<'a>,
-    object: bool,
-    depth: u8,
-    tokens: &mut Vec<Token<'a>>,
-) -> Option<Rest<'a>>
-    ensures spelled { IfSome result (λ rest. TakesValue KEPT tokens.old.items tokens.new.items
-        ((if object then 123 else 91) ∷ text.entry.text.now) rest.text.now depth) }
-    ensures shorter { IfSome result (λ rest. length rest.text.now < length text.entry.text.now) }
-{
-    let depth = depth.checked_sub(1)?;
-    let place = tokens.len();
-    keep::<KEPT>(tokens, bracket(object, 0))?;
-    let close = closing(object);
-    if let Some(rest) = text.after(close) {
-        return Some(rest);
-    }
-    let mut left = text;
-    let mut key = object;
-    loop {
-        if let Some(next) = left.after_space() {
-            left = next.skip_space();
-            continue;
+        if let Some((number, rest)) = split_whole(text) {
+            self.keep::<KEPT>(Token::Whole(number))?;
+            return Some(rest);
         }
-        let rest = take_value::<KEPT>(alloc, texts, left, key, depth, tokens)?;
-        if key {
-            left = rest.after_spaced(b':')?;
-            key = false;
-            continue;
-        }
-        let (comma, next) = after_value(rest, close)?;
-        if comma {
-            left = next;
-            key = object;
-            continue;
-        }
-        tell_width::<KEPT>(tokens, place, object);
-        return Some(next);
+        self.take_scalar::<KEPT>(text)
     }
-}
 
-// Tells the bracket at `place` how many tokens stand behind it, if they are kept.
-#[inline(always)]
-fn tell_width<'a, const KEPT: bool>(tokens: &mut Vec<Token<'a>>, place: usize, object: bool)
-    requires { KEPT ≡ true → place < length tokens.old.items }
-    ensures { (old done : List Token) (first : Token) → place ≡ length old
-        → tokens.old.items ≡ old ++ kept KEPT (first ∷ done) → tokens.new.items ≡ old ++ kept KEPT
-        ((if object then token.Object (length done) else token.Array (length done)) ∷ done) }
-{
-    if KEPT {
-        tokens[place] = bracket(object, tokens.len() - place - 1);
+    // As `take_leaf`, inlined, so that the call's answer is cleared on this way alone: a place is
+    // cleared where the function begins that has it.
+    #[inline(always)]
+    fn take_rare<const KEPT: bool>(&mut self, text: Rest<'a>, key: bool) -> Option<Rest<'a>>
+        ensures spelled { IfSome result (λ rest.
+            TakesLeaf KEPT self.old.tokens.items self.new.tokens.items
+            text.entry.text.now rest.text.now) }
+        ensures string { IfSome result (λ rest. key ≡ true
+            → TakesString KEPT self.old.tokens.items self.new.tokens.items
+            text.entry.text.now rest.text.now) }
+        ensures shorter { IfSome result (λ rest. length rest.text.now < length text.entry.text.now) }
+    {
+        let rest = self.take_leaf::<KEPT>(text, key)?;
+        Some(rest)
+    }
+
+    // Appends the tokens of the value at the front, and returns what follows it; a key is a string.
+    #[cycle(take)]
+    #[inline(always)]
+    fn take_value<const KEPT: bool>(
+        &mut self,
+        text: Rest<'a>,
+        key: bool,
+        depth: u8,
+    ) -> Option<Rest<'a>>
+        ensures spelled { IfSome result (λ rest.
+            TakesValue KEPT self.old.tokens.items self.new.tokens.items
+            text.entry.text.now rest.text.now depth) }
+        ensures string { IfSome result (λ rest. key ≡ true
+            → TakesString KEPT self.old.tokens.items self.new.tokens.items
+            text.entry.text.now rest.text.now) }
+        ensures shorter { IfSome result (λ rest. length rest.text.now < length text.entry.text.now) }
+    {
+        // Each call's answer is taken apart before the ways join, so that the place in the line stays
+        // in registers.
+        if let Some((string, rest)) = text.split_plain() {
+            self.keep::<KEPT>(Token::Text(string))?;
+            return Some(rest);
+        }
+        let byte = *text.bytes().first()?;
+        if !key && (byte == b'{' || byte == b'[') {
+            return self.take_nested::<KEPT>(text.after(byte)?, byte == b'{', depth);
+        }
+        self.take_rare::<KEPT>(text, key)
+    }
+
+    // As `take_value`, of an object or an array, behind its opening bracket; inlined as `take_rare`.
+    #[cycle(take)]
+    #[inline(always)]
+    fn take_nested<const KEPT: bool>(
+        &mut self,
+        text: Rest<'a>,
+        object: bool,
+        depth: u8,
+    ) -> Option<Rest<'a>>
+        ensures spelled { IfSome result (λ rest.
+            TakesValue KEPT self.old.tokens.items self.new.tokens.items
+            ((if object then 123 else 91) ∷ text.entry.text.now) rest.text.now depth) }
+        ensures shorter { IfSome result (λ rest. length rest.text.now < length text.entry.text.now) }
+    {
+        let rest = self.take_inside::<KEPT>(text, object, depth)?;
+        Some(rest)
+    }
+
+    // As `take_nested`, not inlined. A key and its value are one turn of the loop each, so that what
+    // takes a string stands in it once.
+    #[cycle(take)]
+    #[inline(never)]
+    fn take_inside<const KEPT: bool>(
+        &mut self,
+        text: Rest<'a>,
+        object: bool,
+        depth: u8,
+    ) -> Option<Rest<'a>>
+        ensures spelled { IfSome result (λ rest.
+            TakesValue KEPT self.old.tokens.items self.new.tokens.items
+            ((if object then 123 else 91) ∷ text.entry.text.now) rest.text.now depth) }
+        ensures shorter { IfSome result (λ rest. length rest.text.now < length text.entry.text.now) }
+    {
+        let depth = depth.checked_sub(1)?;
+        let place = self.tokens.len();
+        self.keep::<KEPT>(bracket(object, 0))?;
+        let close = closing(object);
+        if let Some(rest) = text.after(close) {
+            return Some(rest);
+        }
+        let mut left = text;
+        let mut key = object;
+        loop {
+            if let Some(next) = left.after_space() {
+                left = next.skip_space();
+                continue;
+            }
+            let rest = self.take_value::<KEPT>(left, key, depth)?;
+            if key {
+                left = rest.after_spaced(b':')?;
+                key = false;
+                continue;
+            }
+            let (comma, next) = after_value(rest, close)?;
+            if comma {
+                left = next;
+                key = object;
+                continue;
+            }
+            self.tell_width::<KEPT>(place, object);
+            return Some(next);
+        }
+    }
+
+    // Tells the bracket at `place` how many tokens stand behind it, if they are kept.
+    #[inline(always)]
+    fn tell_width<const KEPT: bool>(&mut self, place: usize, object: bool)
+        requires { KEPT ≡ true → place < length self.old.tokens.items }
+        ensures { (old done : List Token) (first : Token) → place ≡ length old
+            → self.old.tokens.items ≡ old ++ kept KEPT (first ∷ done)
+            → self.new.tokens.items ≡ old ++ kept KEPT
+            ((if object then token.Object (length done) else token.Array (length done)) ∷ done) }
+    {
+        if KEPT {
+            self.tokens[place] = bracket(object, self.tokens.len() - place - 1);
+        }
     }
 }
 

@@ -15,7 +15,7 @@ use url::{ParseError, Url};
 #[derive(Debug, Drop, Error)]
 pub enum ApiUrlError {
     /// The text of the endpoint is no URL.
-    #[error("invalid url")]
+    #[error("NotAUrl")]
     NotAUrl,
     /// An allocation failed, or the URL would take 4 GB.
     #[error("out of memory")]

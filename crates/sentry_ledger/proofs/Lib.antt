@@ -4,3 +4,7 @@ pub mod StepLemmas
 pub mod RecordLemmas
 pub mod Conserved
 pub mod SumLemmas
+pub mod TypeWords
+pub mod LostFrames
+pub mod RecordedLosses
+pub mod DroppedFrames

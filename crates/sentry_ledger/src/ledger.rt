@@ -9,7 +9,7 @@ use thiserror::Error;
 
 /// The error of [`Ledger::record`], with the loss: the sum would exceed 2^64-1.
 #[derive(Clone, Copy, Debug, Error)]
-#[error("ledger is full")]
+#[error("LedgerFull")]
 pub struct LedgerFull(pub ItemLoss);
 
 /// Losses that are not reported yet: for each category and reason, a quantity of at most 2^64-1.

@@ -17,10 +17,10 @@ use thiserror::Error;
 pub enum DecimalError {
     /// The text isn't an optional sign, digits with an optional point, and an optional exponent of
     /// one to three digits.
-    #[error("invalid decimal text")]
+    #[error("InvalidText")]
     InvalidText,
     /// The value is below 0, or too large for the type.
-    #[error("number out of range")]
+    #[error("OutOfRange")]
     OutOfRange,
 }
 

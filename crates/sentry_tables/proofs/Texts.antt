@@ -1,7 +1,7 @@
 -- Lines, by what the reader of JSON and the reader of trees answer.
 use Rattle.std.proofs.Common.{◌≡◌, ℕ, List, true, false, Option, Some, None, Result, Ok, Err, IfOk, subst, sym, ◌∙◌, inl, inr}
 use Rattle.std.proofs.lemmas.Option.{none-some, same_Some}
-use Rattle.std.specs.Prelude.{IfErr}
+use Rattle.std.specs.Prelude.{IfErr, IfSome}
 use Rattle.std.specs.Str.{IsUtf8, is_utf8}
 use Rattle.std.proofs.lemmas.Bool.{cases_Bool}
 use Rattle.std.proofs.lemmas.Str.{IsUtf8-from_is_utf8, is_utf8-from_IsUtf8}
@@ -36,6 +36,10 @@ module _ (line : List ℕ) where
   ]
 
 -- ---- what a line shows
+
+-- of a line that may be read
+pub some_found : {A : Type 0} (P : A → Type 0) (o : Option A) (x : A) → IfSome o P → o ≡ Some x → P x
+some_found P o x h is = subst (λ q. IfSome q P) is h
 
 pub line_shows : (P : Data → Type 0) (line : List ℕ) (d : Data) → tree_of line ≡ Some d → P d → LineShows P line
 unfolding LineShows

@@ -9,7 +9,7 @@ use thiserror::Error;
 #[derive(Clone, Copy, Debug, PartialEq, Eq, Error)]
 pub enum TreeError {
     /// The tree is not a value of the type, or [`read_tree`](crate::read_tree) rejects the line.
-    #[error("value does not fit its type")]
+    #[error("Misfit")]
     Misfit,
     /// An allocation failed, or a URL would take 4 GB.
     #[error("out of memory")]

@@ -20,7 +20,7 @@ use crate::tree::has_float;
 use bumpalo::Bump;
 use sentry_json::{Node, Tape, TapeNode, Visitor};
 use serde_json::{Map, Value};
-use std::alloc::Global;
+use std::alloc::{AllocError, Global};
 
 /// Returns whether no number in a tree, at any depth, is a float.
 pub fn whole(tree: &Value) -> bool
@@ -76,7 +76,8 @@ const LONG: usize = 16384;
 /// A reader of lines of JSON, which keeps its working memory from line to line.
 ///
 /// A line is read in one pass onto a tape ([`Tape::parse`]). One that the tape doesn't take, such
-/// as a damaged one, is read into a tree, and [`read_tree`] decides whether it is taken.
+/// as a damaged one, is read into a tree, and [`read_tree`] decides whether it is taken. Where an
+/// allocation fails, the line isn't read in another way.
 #[derive(Drop)]
 pub struct LineReader<'a> {
     alloc: Global,
@@ -98,10 +99,16 @@ impl<'a> LineReader<'a> {
         self.alloc
     }
 
-    /// Returns the root node of a line; `None` if it has to be read as a tree.
+    /// Returns the root node of a line; `None` if it has to be read as a tree, never because an
+    /// allocation fails.
+    ///
+    /// # Errors
+    ///
+    /// `AllocError` if an allocation fails.
     #[inline]
-    pub fn root(&mut self, line: &'a [u8]) -> Option<TapeNode<'_, 'a>>
-        ensures { IfSome result (λ root. tree_of line.now ≡ Some (node_data root)) }
+    pub fn root(&mut self, line: &'a [u8]) -> Result<Option<TapeNode<'_, 'a>>, AllocError>
+        ensures { IfOk result (λ read. IfSome read (λ root.
+            tree_of line.now ≡ Some (node_data root))) }
     {
         self.tape.parse(line)
     }
@@ -117,7 +124,7 @@ impl<'a> LineReader<'a> {
         ensures ok { IfOk result (λ value. LineShows (λ d. R.shown reader d value) line.now) }
         ensures err { IfErr result (λ e. Only e (LineRefused (λ d. R.refused reader d) line.now)) }
     {
-        match self.tape.parse(line) {
+        match self.tape.parse(line)? {
             Some(root) => reader.read(self.alloc, &root),
             None => read_as_tree(self.alloc, line, reader),
         }
@@ -127,28 +134,36 @@ impl<'a> LineReader<'a> {
     /// that `reader` makes of the members of `keys`, and the members of the object at `apart`, if
     /// one stands there. Neither that object nor members of other keys leave tokens.
     ///
-    /// `None` if the line isn't long, if it isn't such an object or can't be read, or if an
-    /// allocation fails: [`LineReader::read_by`] decides then.
+    /// `None` if the line isn't long, or if it isn't such an object or can't be read, never because
+    /// an allocation fails: [`LineReader::read_by`] decides then.
+    ///
+    /// # Errors
+    ///
+    /// `AllocError` if an allocation fails.
     pub fn read_apart<T, R: ReadsNode<T>>(
         &mut self,
         line: &'a [u8],
         keys: &[&str],
         apart: &str,
         reader: R,
-    ) -> Option<(T, Option<Map<String, Value>>)>
+    ) -> Result<Option<(T, Option<Map<String, Value>>)>, AllocError>
         requires { is_among apart.now (map (λ key. key.now) keys.now) ≡ false }
-        ensures { IfSome result (λ x. LineShows (λ d.
+        ensures { IfOk result (λ read. IfSome read (λ x. LineShows (λ d.
             R.shown reader (at_keys (map (λ key. key.now) keys.now) d) x.0
-            × (option_map (λ m. object (members_view m.entries)) x.1 ≡ get apart.now d)) line.now) }
+            × (option_map (λ m. object (members_view m.entries)) x.1 ≡ get apart.now d))
+            line.now)) }
     {
         if line.len() < LONG {
-            return None;
+            return Ok(None);
         }
-        let (root, members) = self.tape.parse_at(line, keys, apart)?;
-        let Ok(value) = reader.read(self.alloc, &root) else {
-            return None;
+        let Some((root, members)) = self.tape.parse_at(line, keys, apart)? else {
+            return Ok(None);
         };
-        Some((value, members))
+        match reader.read(self.alloc, &root) {
+            Ok(value) => Ok(Some((value, members))),
+            Err(TreeError::Misfit) => Ok(None),
+            Err(TreeError::Memory) => Err(AllocError),
+        }
     }
 
     /// Reads a value from a line.
@@ -166,19 +181,29 @@ impl<'a> LineReader<'a> {
     /// Reads the values of a line that is an object of one member, an array at `key`. The tape
     /// holds one value at a time.
     ///
-    /// `None` if it isn't such a line, if one of its items is not a value of the type, or if an
-    /// allocation fails: [`LineReader::read`] decides then.
-    pub fn read_list<T: FromTree>(&mut self, key: &str, line: &'a [u8]) -> Option<Vec<T>>
-        ensures { IfSome result (λ values. TextShown
+    /// `None` if it isn't such a line, or if one of its items is not a value of the type, never
+    /// because an allocation fails: [`LineReader::read`] decides then.
+    ///
+    /// # Errors
+    ///
+    /// `AllocError` if an allocation fails.
+    pub fn read_list<T: FromTree>(
+        &mut self,
+        key: &str,
+        line: &'a [u8],
+    ) -> Result<Option<Vec<T>>, AllocError>
+        ensures { IfOk result (λ read. IfSome read (λ values. TextShown
             (table (row key.now must (list T.kind) no_rows) ignored) line.now
-            (fields (cell (list_cell T.cell_of values.items) no_cells) no_members)) }
+            (fields (cell (list_cell T.cell_of values.items) no_cells) no_members))) }
     {
         let mut visitor = ListVisitor {
             alloc: self.alloc,
             values: Vec::new(self.alloc),
         };
-        self.tape.parse_list(line, key, &mut visitor)?;
-        Some(visitor.values)
+        let Some(()) = self.tape.parse_list(line, key, &mut visitor)? else {
+            return Ok(None);
+        };
+        Ok(Some(visitor.values))
     }
 }
 
@@ -193,10 +218,16 @@ impl<T: FromTree> Visitor for ListVisitor<T> {
     ghost visits = { λ before d after. (v : T)
         × (after.values.items ≡ before.values.items ++ v ∷ []) × Shown T.kind d (T.cell_of v) };
 
-    fn visit<N: Node>(&mut self, node: &N) -> bool {
+    fn visit<N: Node>(&mut self, node: &N) -> Result<bool, AllocError> {
         match T::from_node(self.alloc, node) {
-            Ok(value) => self.values.push(value).is_ok(),
-            Err(_) => false,
+            Ok(value) => {
+                if self.values.push(value).is_err() {
+                    return Err(AllocError);
+                }
+                Ok(true)
+            }
+            Err(TreeError::Misfit) => Ok(false),
+            Err(TreeError::Memory) => Err(AllocError),
         }
     }
 }

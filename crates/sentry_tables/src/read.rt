@@ -229,7 +229,8 @@ impl<T: FromTree> FromTree for Map<String, T> {
         }
         match read_many(alloc, members) {
             Ok(map) => Ok(map),
-            Err(_) => read_each(alloc, &members_of(alloc, node)?),
+            Err(TreeError::Misfit) => read_each(alloc, &members_of(alloc, node)?),
+            Err(TreeError::Memory) => Err(TreeError::Memory),
         }
     }
 }

@@ -32,7 +32,7 @@ pub enum IpAddress {
 
 /// The text is neither `{{auto}}` nor an IP address.
 #[derive(Debug, Drop, Error)]
-#[error("invalid IP address syntax")]
+#[error("ParseIpError")]
 pub struct ParseIpError;
 
 impl IpAddress {

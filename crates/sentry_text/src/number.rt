@@ -8,7 +8,7 @@ use thiserror::Error;
 
 /// The error of a text that is not a whole number in the expected form, or has more than 64 bits.
 #[derive(Debug, Drop, Error)]
-#[error("invalid number")]
+#[error("ParseNumberError")]
 pub struct ParseNumberError;
 
 /// Parses a whole number in base `base`, with an optional `+` before the digits.

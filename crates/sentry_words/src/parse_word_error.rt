@@ -4,5 +4,5 @@ use thiserror::Error;
 
 /// Not a known word of the type.
 #[derive(Debug, Drop, Error)]
-#[error("unknown word")]
+#[error("ParseWordError")]
 pub struct ParseWordError;

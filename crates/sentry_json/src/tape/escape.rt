@@ -7,8 +7,8 @@ ghost use Rattle.json.specs.Text.{after_backslash, after_u, short_escape};
 ghost use Rattle.sentry_json.specs.Escaped.{IsUnit, StandsFor};
 ghost use Rattle.sentry_json.specs.Spelled.{IsQuoted};
 
+use crate::tape::requests::Requests;
 use crate::tape::rest::Rest;
-use std::alloc::Global;
 
 // As many bytes are reserved for a string with escapes.
 const USUAL: usize = 128;
@@ -85,22 +85,31 @@ fn split_escape<'a>(text: Rest<'a>) -> Option<(char, Rest<'a>)>
 
 // Splits off the rest of a string behind its opening quote, and the closing one.
 #[inline(never)]
-pub(crate) fn split_escaped<'a>(alloc: Global, inside: Rest<'a>) -> Option<(String, Rest<'a>)>
+pub(crate) fn split_escaped<'a>(
+    requests: &mut Requests,
+    inside: Rest<'a>,
+) -> Option<(String, Rest<'a>)>
     ensures quoted { IfSome result (λ x.
         IsQuoted inside.entry.text.now (string_bytes x.0) x.1.text.now) }
     ensures shorter { IfSome result (λ x. length x.1.text.now < length inside.entry.text.now) }
 {
-    let mut content = String::with_capacity(alloc, USUAL).ok()?;
+    let Ok(mut content) = String::with_capacity(requests.alloc, USUAL) else {
+        return requests.refuse();
+    };
     let mut rest = inside;
     loop {
         if let Some(escape) = rest.after(b'\\') {
             let (character, after) = split_escape(escape)?;
-            content.push(character).ok()?;
+            let Ok(()) = content.push(character) else {
+                return requests.refuse();
+            };
             rest = after;
             continue;
         }
         let (run, stop) = rest.split_run();
-        content.push_str(run).ok()?;
+        let Ok(()) = content.push_str(run) else {
+            return requests.refuse();
+        };
         if let Some(after) = stop.after(b'"') {
             return Some((content, after));
         }

@@ -129,8 +129,8 @@ pub split_tree-returns-in-Some-clause-spelled : goal.split_tree-returns-in-Some-
 split_tree-returns-in-Some-clause-spelled t c =
     let plain = c.in-Some in
     let q = plain.ensures.quoted in
-    let same : view c.in_ok-ok.field-0 ≡ string plain.string.now = search rules in
-    string_tree c.args.text.text.now q.0 plain.rest.text.now plain.string.now (view c.in_ok-ok.field-0) c.args.depth q.1 q.2 same
+    let same : view c.in-Ok.value ≡ string plain.string.now = search rules in
+    string_tree c.args.text.text.now q.0 plain.rest.text.now plain.string.now (view c.in-Ok.value) c.args.depth q.1 q.2 same
 
 pub split_tree-returns-in-Some-split_whole-clause-spelled : goal.split_tree-returns-in-Some-split_whole-clause-spelled
 split_tree-returns-in-Some-split_whole-clause-spelled t c =
