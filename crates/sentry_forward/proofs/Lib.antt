@@ -1,0 +1,9 @@
+pub mod Finished
+pub mod FlatHeaders
+pub mod Headers
+pub mod Left
+pub mod Losing
+pub mod Placing
+pub mod Readings
+pub mod Sorting
+pub mod Twice

@@ -1,0 +1,6 @@
+pub mod AnyHeader
+pub mod FlatMembers
+pub mod Forward
+pub mod HeaderView
+pub mod Places
+pub mod View
