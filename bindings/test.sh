@@ -26,20 +26,36 @@ cases=$PWD/crates/sentry_cases/stdin
 # All is built in a copy, so that the repository stays as it is.
 work=$(mktemp -d) || exit 1
 trap 'rm -rf "$work"' EXIT
-cp -R bindings/. "$work" && rm -rf "$work/rust/target" "$work/python/libcurdmesa.so"
+cp -R bindings/. "$work" && rm -rf "$work/rust/target"
+make="make -s LIB=$lib KIT_C=$kit"
+$make -C "$work/python" clean && $make -C "$work/c" clean || exit 1
 
-test_c() { make -s -C "$work/c" LIB="$lib" KIT_C="$kit" example check; }
-
-# The crate takes a folder, in which the archive has its own name.
-test_rust() {
-    mkdir -p "$work/lib" && cp "$lib" "$work/lib/libsentry_c.a" || return 1
-    (cd "$work/rust" && CURDMESA_LIB="$work/lib" RATTLE_C="$kit" CARGO_TARGET_DIR="$work/target" \
-        cargo test -q --offline)
+# The test; and the example, built over what was installed, as an archive and as a shared object.
+test_c() {
+    $make -C "$work/c" check || return 1
+    $make -C "$work/c" install DESTDIR="$work/root" PREFIX=/usr || return 1
+    export PKG_CONFIG_PATH="$work/root/usr/lib/pkgconfig" LD_LIBRARY_PATH="$work/root/usr/lib"
+    for how in -Wl,-Bdynamic -Wl,-Bstatic; do
+        # (the words of `pkg-config` are apart)
+        cc "$work/c/example.c" $(pkg-config --cflags curdmesa) $how $(pkg-config --libs curdmesa) \
+            -Wl,-Bdynamic -o "$work/example" || return 1
+        "$work/example" .ci/all.envelope > "$work/normal" 2> "$work/items" || return 1
+        [ "$(wc -l < "$work/items")" = 11 ] || { echo "not the items of all.envelope"; return 1; }
+    done
 }
 
+test_rust() {
+    $make -C "$work/c" libcurdmesa.a || return 1
+    (cd "$work/rust" && CARGO_TARGET_DIR="$work/target" cargo test -q --offline)
+}
+
+# The tests stand in a folder of their own, where they find the package that was installed alone.
 test_python() {
-    make -s -C "$work/python" LIB="$lib" KIT_C="$kit" libcurdmesa.so || return 1
-    (cd "$work/python" && CURDMESA_SO= CASES="$cases" python3 -m unittest -q test_curdmesa test_cases)
+    $make -C "$work/python" wheel && python3 -m venv "$work/venv" || return 1
+    "$work/venv/bin/pip" install -q --no-index "$work"/python/curdmesa-*.whl || return 1
+    mkdir -p "$work/tests" && cp "$work"/python/test_*.py "$work/tests" || return 1
+    (cd "$work/tests" && CURDMESA_SO= CASES="$cases" "$work/venv/bin/python" -m unittest -q \
+        test_curdmesa test_cases)
 }
 
 failed=0
@@ -63,7 +79,7 @@ run() {
     fi
 }
 
-run c cc make
-run rust cargo cc
+run c cc make pkg-config
+run rust cargo cc make
 run python python3 cc make
 exit $failed

@@ -12,7 +12,7 @@
 #include <stdlib.h>
 #include <time.h>
 
-static const char *const ITEM_TYPES[SENTRY_ITEMS] = {
+static const char *const ITEM_TYPES[CURDMESA_ITEMS] = {
     "event",       "session",          "sessions", "transaction",  "attachment",   "check_in",
     "user_report", "replay_recording", "log",      "trace_metric", "client_report"};
 
@@ -44,26 +44,26 @@ static uint8_t *read_file(const char *path, size_t *len) {
 
 static int32_t list_items(const uint8_t *bytes, size_t len) {
     uint64_t offset = 0;
-    SentryFrame frame = {0, 0, 0, 0, 0};
+    CurdmesaFrame frame = {0, 0, 0, 0, 0};
     int32_t status;
-    while ((status = sentry_frames_next(bytes, len, &offset, &frame)) == SENTRY_OK)
+    while ((status = curdmesa_frames_next(bytes, len, &offset, &frame)) == CURDMESA_OK)
         fprintf(stderr, "%s: %llu bytes at %llu\n", ITEM_TYPES[frame.kind],
                 (unsigned long long)frame.payload_length, (unsigned long long)frame.payload_offset);
-    return status == SENTRY_NOTHING_LEFT ? SENTRY_OK : status;
+    return status == CURDMESA_NOTHING_LEFT ? CURDMESA_OK : status;
 }
 
 /* Asks for the length of the normal form first, and then for its text. */
 static int32_t print_normal_form(const uint8_t *bytes, size_t len, uint64_t now, uint64_t seed) {
     uint64_t needed = 0;
     uint8_t none = 0;
-    int32_t status = sentry_envelope_normalize(bytes, len, now, 0, seed, &none, 0, &needed);
-    if (status != SENTRY_NO_ROOM)
+    int32_t status = curdmesa_envelope_normalize(bytes, len, now, 0, seed, &none, 0, &needed);
+    if (status != CURDMESA_NO_ROOM)
         return status;
     uint8_t *text = calloc((size_t)needed, 1);
     if (text == NULL)
-        return SENTRY_OUT_OF_MEMORY;
-    status = sentry_envelope_normalize(bytes, len, now, 0, seed, text, (size_t)needed, &needed);
-    if (status == SENTRY_OK && fwrite(text, 1, (size_t)needed, stdout) != needed)
+        return CURDMESA_OUT_OF_MEMORY;
+    status = curdmesa_envelope_normalize(bytes, len, now, 0, seed, text, (size_t)needed, &needed);
+    if (status == CURDMESA_OK && fwrite(text, 1, (size_t)needed, stdout) != needed)
         status = -1;
     free(text);
     return status;
@@ -94,12 +94,12 @@ int main(int argc, char **argv) {
     }
     uint64_t now = (uint64_t)time(NULL);
     int32_t status = list_items(bytes, len);
-    if (status == SENTRY_OK)
+    if (status == CURDMESA_OK)
         status = print_normal_form(bytes, len, now, random_seed(now));
     free(bytes);
-    if (status != SENTRY_OK)
+    if (status != CURDMESA_OK)
         fprintf(stderr, "example: status %d\n", (int)status);
     if (status == -1 || fflush(stdout) != 0)
         return 2;
-    return status == SENTRY_OK ? 0 : 1;
+    return status == CURDMESA_OK ? 0 : 1;
 }

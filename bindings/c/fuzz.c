@@ -28,16 +28,16 @@ static uint8_t *block(size_t len) {
 static uint8_t *normal_form(const uint8_t *bytes, size_t len, size_t *out_len, int32_t *status) {
     uint64_t needed = 0;
     uint8_t *none = block(0);
-    *status = sentry_envelope_normalize(bytes, len, 1595256674, 0, 42, none, 0, &needed);
+    *status = curdmesa_envelope_normalize(bytes, len, 1595256674, 0, 42, none, 0, &needed);
     free(none);
-    if (*status != SENTRY_NO_ROOM) {
-        wanted(*status >= SENTRY_UNEXPECTED_EOF && needed == 0, "a refusal has no text");
+    if (*status != CURDMESA_NO_ROOM) {
+        wanted(*status >= CURDMESA_UNEXPECTED_EOF && needed == 0, "a refusal has no text");
         return NULL;
     }
     uint8_t *out = block((size_t)needed);
     *out_len = (size_t)needed;
-    *status = sentry_envelope_normalize(bytes, len, 1595256674, 0, 42, out, *out_len, &needed);
-    wanted(*status == SENTRY_OK && needed == *out_len, "the same text with room");
+    *status = curdmesa_envelope_normalize(bytes, len, 1595256674, 0, 42, out, *out_len, &needed);
+    wanted(*status == CURDMESA_OK && needed == *out_len, "the same text with room");
     return out;
 }
 
@@ -46,7 +46,8 @@ static void is_steady(const uint8_t *text, size_t len) {
     size_t again_len = 0;
     int32_t status;
     uint8_t *again = normal_form(text, len, &again_len, &status);
-    wanted(again != NULL || status == SENTRY_INVALID_ITEM_PAYLOAD || status == SENTRY_INVALID_HEADER,
+    wanted(again != NULL || status == CURDMESA_INVALID_ITEM_PAYLOAD ||
+               status == CURDMESA_INVALID_HEADER,
            "a normal form is read");
     wanted(again == NULL || (again_len == len && memcmp(again, text, len) == 0),
            "a normal form is its own");
@@ -56,26 +57,26 @@ static void is_steady(const uint8_t *text, size_t len) {
 /* Frames stand in the bytes, in order. */
 static int32_t frames_stand(const uint8_t *bytes, size_t len) {
     uint64_t offset = 0;
-    SentryFrame frame = {0};
+    CurdmesaFrame frame = {0};
     for (;;) {
         uint64_t before = offset;
-        int32_t status = sentry_frames_next(bytes, len, &offset, &frame);
-        if (status != SENTRY_OK)
+        int32_t status = curdmesa_frames_next(bytes, len, &offset, &frame);
+        if (status != CURDMESA_OK)
             return status;
         wanted(before < offset && offset <= len, "frames go on");
         wanted(frame.header_offset + frame.header_length <= frame.payload_offset, "in order");
         wanted(frame.payload_offset + frame.payload_length <= offset, "within");
-        wanted(frame.kind < SENTRY_ITEMS, "a kind");
+        wanted(frame.kind < CURDMESA_ITEMS, "a kind");
     }
 }
 
 static void filters(const uint8_t *bytes, size_t len, uint32_t kinds, bool keep) {
-    uint64_t needed = 0, *losses = (uint64_t *)(void *)block(SENTRY_LOSSES * sizeof(uint64_t));
+    uint64_t needed = 0, *losses = (uint64_t *)(void *)block(CURDMESA_LOSSES * sizeof(uint64_t));
     uint8_t *out = block(len + 512);
-    int32_t status = sentry_envelope_filter(bytes, len, 1595256674, 0, 42, kinds, keep, !keep, out,
-                                            len + 512, &needed, losses, SENTRY_LOSSES);
-    wanted(status != SENTRY_INVALID_ARGUMENT && status != SENTRY_NO_MOMENT, "filtered");
-    if (status == SENTRY_OK)
+    int32_t status = curdmesa_envelope_filter(bytes, len, 1595256674, 0, 42, kinds, keep, !keep,
+                                              out, len + 512, &needed, losses, CURDMESA_LOSSES);
+    wanted(status != CURDMESA_INVALID_ARGUMENT && status != CURDMESA_NO_MOMENT, "filtered");
+    if (status == CURDMESA_OK)
         is_steady(out, (size_t)needed);
     free(out);
     free(losses);
@@ -88,12 +89,13 @@ int LLVMFuzzerTestOneInput(const uint8_t *data, size_t size) {
     int32_t status;
     size_t len = 0;
     uint8_t *text = normal_form(bytes, size, &len, &status);
-    wanted(sentry_envelope_check(bytes, size, 1595256674, 0, 42) == status, "check and normalize");
+    wanted(curdmesa_envelope_check(bytes, size, 1595256674, 0, 42) == status,
+           "check and normalize");
     int32_t framed = frames_stand(bytes, size);
     if (text) {
         is_steady(text, len);
-        wanted(framed == SENTRY_NOTHING_LEFT, "an envelope's frames");
-        filters(bytes, size, (uint32_t)(size % (1u << SENTRY_ITEMS)), size & 1);
+        wanted(framed == CURDMESA_NOTHING_LEFT, "an envelope's frames");
+        filters(bytes, size, (uint32_t)(size % (1u << CURDMESA_ITEMS)), size & 1);
     }
     free(text);
     free(bytes);

@@ -58,7 +58,7 @@ def of_filter(words):
     kinds = {kind for kind in ItemKind if kind.word in words}
 
     def call(given):
-        filtered = curdmesa.filter(given.encode(), NOW, SEED, kinds, keep_headers=words[:1] == ["-k"])
+        filtered = curdmesa.filter(given.encode(), kinds, NOW, SEED, keep_headers=words[:1] == ["-k"])
         left = None if filtered.envelope is None else filtered.envelope.decode()
         return [left, {(loss.category, loss.reason): loss.quantity for loss in filtered.losses}]
 

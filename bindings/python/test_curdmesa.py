@@ -2,6 +2,7 @@
 
 import ctypes
 import importlib.util
+import json
 import os
 import pickle
 import re
@@ -13,11 +14,13 @@ from datetime import datetime, timedelta, timezone
 from pathlib import Path
 
 import curdmesa
+from curdmesa import _library
 from curdmesa import (
     Auth, Category, Dsn, ItemKind, Ledger, Loss, Moment, Reason, Status, check, crontab_check,
     filter, frames, normalize, rfc3339_format, rfc3339_parse,
 )
 
+BINDINGS = Path(__file__).resolve().parent.parent
 NOW = (1_700_000_000, 0)
 
 ATTACHMENT = (
@@ -122,7 +125,7 @@ class Envelopes(unittest.TestCase):
             check(b"{}", before, 0)
         with self.assertRaises(ValueError):
             check(b"{}", datetime(2020, 1, 1), 0)
-        for time in (1.5, 0), (1, 0.0), ("1", 0), (1,), (1, 2, 3), 5, 1.5, "1", None:
+        for time in (1.5, 0), (1, 0.0), ("1", 0), (1,), (1, 2, 3), 5, 1.5, "1":
             with self.subTest(time), self.assertRaises(TypeError):
                 check(b"{}", time, 0)
 
@@ -130,16 +133,33 @@ class Envelopes(unittest.TestCase):
         given = b'{}\n{"type":"event"}\n{}'
         self.assertEqual(normalize(given, NOW, 42), normalize(given, NOW, 42))
         self.assertNotEqual(normalize(given, NOW, 42), normalize(given, NOW, 43))
+        # By default each call draws another id, at the moment of the call.
+        before = Moment.now()
+        drawn = {normalize(given) for _ in range(8)}
+        self.assertEqual(len(drawn), 8)
+        for text in drawn:
+            time = json.loads(text.split(b"\n")[2])["timestamp"]
+            time = (time, 0) if isinstance(time, int) else rfc3339_parse(time)
+            self.assertTrue(before <= time <= Moment.now())
         for seed in -1, 2**64:
             with self.assertRaises(ValueError):
                 normalize(given, NOW, seed)
         with self.assertRaises(TypeError):
             normalize(given, NOW, 1.0)
 
+    def test_words(self):
+        self.assertIs(ItemKind.of_word("check_in"), ItemKind.CHECK_IN)
+        for kind in ItemKind, Category, Reason:
+            for each in kind:
+                self.assertIs(kind.of_word(each.word), each)
+            for word in "", "EVENT", "profile":
+                with self.assertRaises(ValueError):
+                    kind.of_word(word)
+
     def test_types_of_another_enumeration(self):
         for kinds in [Category.SESSION], [ItemKind.EVENT, Reason.BEFORE_SEND], [True]:
             with self.subTest(kinds), self.assertRaises(TypeError):
-                filter(EVENT, NOW, 0, kinds)
+                filter(EVENT, kinds, NOW, 0)
 
     def test_other_bytes(self):
         for data in bytearray(ATTACHMENT), memoryview(ATTACHMENT):
@@ -162,10 +182,10 @@ class Envelopes(unittest.TestCase):
         self.assertEqual(results, [{EVENT}] * 4)
 
 
-def without_attachments(data: bytes, now: datetime, seed: int, ledger: Ledger):
+def without_attachments(data: bytes, ledger: Ledger):
     """Removes attachments and hands on what is left; what is lost is recorded, under its own reason
     where it has one."""
-    filtered = curdmesa.filter(data, now, seed, {ItemKind.ATTACHMENT}, keep_headers=True)
+    filtered = curdmesa.filter(data, {ItemKind.ATTACHMENT}, keep_headers=True)
     for loss in filtered.losses:
         reason = Reason.EVENT_PROCESSOR if loss.reason is None else loss.reason
         ledger.record(loss.category, reason, loss.quantity)
@@ -177,20 +197,20 @@ class Filters(unittest.TestCase):
     error = Loss(Category.ERROR, None, 1)
 
     def test_items_are_removed_by_their_type(self):
-        removed = filter(EVENT_AND_ATTACHMENT, NOW, 0, {ItemKind.ATTACHMENT})
+        removed = filter(EVENT_AND_ATTACHMENT, {ItemKind.ATTACHMENT}, NOW, 0)
         self.assertEqual(removed.envelope, EVENT)
         self.assertEqual(removed.losses, [self.attachment])
-        kept = filter(EVENT_AND_ATTACHMENT, NOW, 0, [ItemKind.EVENT], keep=True)
+        kept = filter(EVENT_AND_ATTACHMENT, [ItemKind.EVENT], NOW, 0, keep=True)
         self.assertEqual(kept, removed)
-        none = filter(EVENT_AND_ATTACHMENT, NOW, 0, {ItemKind.EVENT})
+        none = filter(EVENT_AND_ATTACHMENT, {ItemKind.EVENT}, NOW, 0)
         self.assertEqual((none.envelope, none.losses), (None, [self.error, self.attachment]))
-        all_of_them = filter(EVENT_AND_ATTACHMENT, NOW, 0, set())
+        all_of_them = filter(EVENT_AND_ATTACHMENT, set(), NOW, 0)
         self.assertEqual(all_of_them.envelope, normalize(EVENT_AND_ATTACHMENT, NOW, 0))
         self.assertEqual(all_of_them.losses, [])
         with self.assertRaises(curdmesa.UnexpectedEof):
-            filter(EVENT_AND_ATTACHMENT[:-1], NOW, 0, set())
+            filter(EVENT_AND_ATTACHMENT[:-1], set(), NOW, 0)
         with self.assertRaises(ValueError):
-            filter(EVENT, NOW, 0, {11})
+            filter(EVENT, {11}, NOW, 0)
 
     def test_headers(self):
         header = (
@@ -198,9 +218,9 @@ class Filters(unittest.TestCase):
             b'"event_id":"22d00b3f-d1b1-4b5d-8d20-49d138cd8a9c"}\n'
         )
         given = header + EVENT_ITEM + SESSION_ITEM
-        left = filter(given, NOW, 0, {ItemKind.EVENT})
+        left = filter(given, {ItemKind.EVENT}, NOW, 0)
         self.assertEqual(left.envelope, b"{}\n" + SESSION_ITEM)
-        left = filter(given, NOW, 0, {ItemKind.EVENT}, keep_headers=True)
+        left = filter(given, {ItemKind.EVENT}, NOW, 0, keep_headers=True)
         self.assertEqual(left.envelope, b'{"dsn":"https://username:@domain/42"}\n' + SESSION_ITEM)
         self.assertEqual(left.losses, [self.error])
 
@@ -209,7 +229,7 @@ class Filters(unittest.TestCase):
             b'{}\n{"type":"client_report"}\n{"discarded_events":[{"category":"error",'
             b'"quantity":3,"reason":"before_send"}],"timestamp":0}'
         )
-        filtered = filter(report, NOW, 0, {ItemKind.CLIENT_REPORT})
+        filtered = filter(report, {ItemKind.CLIENT_REPORT}, NOW, 0)
         self.assertEqual(filtered.losses, [Loss(Category.ERROR, Reason.BEFORE_SEND, 3)])
 
     def test_losses(self):
@@ -217,20 +237,19 @@ class Filters(unittest.TestCase):
             b'{}\n{"type":"user_report"}\n{"name":"Jo",'
             b'"event_id":"9ec79c33ec9942ab8353589fcb2e04dc","comments":"It broke."}'
         )
-        filtered = filter(report, NOW, 0, set(), keep=True)
+        filtered = filter(report, set(), NOW, 0, keep=True)
         self.assertEqual(filtered.losses, [Loss(Category.FEEDBACK, None, 1)])
         log = (
             b'{}\n{"type":"log"}\n'
             b'{"items":[{"level":"info","body":"flattened","timestamp":0}]}'
         )
-        losses = filter(log, NOW, 0, set(), keep=True).losses
+        losses = filter(log, set(), NOW, 0, keep=True).losses
         due = [Loss(Category.LOG_ITEM, None, 1), Loss(Category.LOG_BYTE, None, 9)]
         self.assertEqual(losses, due)
 
     def test_recorded(self):
         ledger = Ledger()
-        now = datetime(2020, 1, 1, tzinfo=timezone.utc)
-        left = without_attachments(EVENT_AND_ATTACHMENT, now, 1, ledger)
+        left = without_attachments(EVENT_AND_ATTACHMENT, ledger)
         self.assertEqual(left, EVENT)
         self.assertEqual(ledger.held(Category.ATTACHMENT, Reason.EVENT_PROCESSOR), 12)
 
@@ -468,12 +487,12 @@ class Ledgers(unittest.TestCase):
                 for category in Category:
                     for reason in Reason:
                         ledger.record(category, reason, 1)
-            return curdmesa._library.sentry_ledger_flush(
+            return _library.library.curdmesa_ledger_flush(
                 ledger._sums, len(ledger._sums), 5, 0, out, room, needed)
 
         ledger.record(Category.ERROR, Reason.BEFORE_SEND, 1)
         with ledger._lock:
-            report = curdmesa._text(8, call)
+            report = _library.written(8, call)
         self.assertEqual(report.count(b"quantity"), 108)
         self.assertEqual(ledger.held(Category.ERROR, Reason.BEFORE_SEND), 0)
 
@@ -493,7 +512,7 @@ class Library(unittest.TestCase):
                 self.assertIn("ImportError", self.imports(path).stderr)
 
     def test_a_path_without_a_folder(self):
-        here = os.environ.get("CURDMESA_SO") or Path(__file__).with_name("libcurdmesa.so")
+        here = os.environ.get("CURDMESA_SO") or Path(curdmesa.__file__).with_name("libcurdmesa.so")
         name = os.path.relpath(here, Path(__file__).parent)
         self.assertEqual(self.imports(name).returncode, 0)
 
@@ -509,17 +528,48 @@ class Errors(unittest.TestCase):
                 self.assertEqual(error.status, status)
                 self.assertEqual(pickle.loads(pickle.dumps(error)).status, status)
         self.assertEqual(str(curdmesa.error_of(99)), "unknown status 99")
-        texts = {str(curdmesa.error_of(status)) for status in Status if status != Status.OK}
-        self.assertEqual(len(texts), len(Status) - 1)
-        self.assertIn("A payload isn't one JSON text without floats that reads as its item type.", texts)
         self.assertIsInstance(curdmesa.error_of(17), MemoryError)
+
+    def test_texts_are_those_of_the_rust_crate(self):
+        source = (BINDINGS / "rust/src/error.rs").read_text("utf-8")
+        texts = re.findall(r"\(\s*(\d+),\s*Error::\w+,\s*\"(.*?)\",?\s*\)", source)
+        due = {int(status): text for status, text in texts}
+        self.assertEqual(len(due), len(Status) - 1)
+        self.assertEqual({int(status): str(curdmesa.error_of(status)) for status in due}, due)
+
+    def test_a_text_that_is_refused_is_one_error(self):
+        for text in b"Sentry sentry_key=\xff", b"Other", b"":
+            with self.subTest(text), self.assertRaises(curdmesa.TextError):
+                Auth.parse(text)
+            with self.subTest(text), self.assertRaises(curdmesa.TextError):
+                Dsn.parse(text)
+        self.assertFalse(issubclass(curdmesa.OutOfMemory, curdmesa.TextError))
+
+    def test_texts_stay_where_docstrings_are_dropped(self):
+        ran = subprocess.run(
+            [sys.executable, "-OO", "-c", "import curdmesa; print(curdmesa.error_of(16))"],
+            cwd=Path(__file__).parent, capture_output=True, text=True)
+        self.assertEqual(ran.stdout, "invalid item payload\n")
+
+
+class Version(unittest.TestCase):
+    def test_all_say_the_same(self):
+        """The library's own version is asked when the package is imported."""
+        files = {
+            "c/curdmesa.h": r'#define CURDMESA_VERSION_TEXT "(.*)"',
+            "c/curdmesa.pc": "Version: (.*)",
+            "rust/Cargo.toml": '^version = "(.*)"',
+            "python/pyproject.toml": '^version = "(.*)"',
+        }
+        for name, pattern in files.items():
+            found = re.search(pattern, (BINDINGS / name).read_text("utf-8"), re.M)
+            self.assertEqual(found[1], curdmesa.__version__, name)
 
 
 class Header(unittest.TestCase):
     """The declarations of the module are those of the header."""
 
-    path = Path(__file__).resolve().parent.parent / "c/curdmesa.h"
-    text = re.sub(r"/\*.*?\*/", "", path.read_text("utf-8"), flags=re.S)
+    text = re.sub(r"/\*.*?\*/", "", (BINDINGS / "c/curdmesa.h").read_text("utf-8"), flags=re.S)
     types = {
         "const uint8_t *": ctypes.c_char_p,
         "uint8_t *": ctypes.POINTER(ctypes.c_char),
@@ -530,10 +580,10 @@ class Header(unittest.TestCase):
         "uint32_t ": ctypes.c_uint32,
         "size_t ": ctypes.c_size_t,
         "bool ": ctypes.c_bool,
-        "SentryPlace ": curdmesa._Place,
-        "SentryFrame *": ctypes.POINTER(curdmesa._Frame),
-        "SentryDsn *": ctypes.POINTER(curdmesa._Dsn),
-        "SentryAuth *": ctypes.POINTER(curdmesa._Auth),
+        "CurdmesaPlace ": _library.Place,
+        "CurdmesaFrame *": ctypes.POINTER(_library.FrameParts),
+        "CurdmesaDsn *": ctypes.POINTER(_library.DsnParts),
+        "CurdmesaAuth *": ctypes.POINTER(_library.AuthParts),
     }
 
     def declared(self, text):
@@ -545,21 +595,30 @@ class Header(unittest.TestCase):
         found = re.findall(r"^int32_t (\w+)\((.*?)\);", self.text, re.M | re.S)
         due = {name: [self.declared(one)[1] for one in all_of_them.split(",")]
                for name, all_of_them in found}
-        self.assertEqual(curdmesa._FUNCTIONS, due)
+        self.assertEqual(_library.FUNCTIONS, due)
         self.assertEqual(len(due), 12)
 
+    def test_manual_page(self):
+        page = (BINDINGS / "c/curdmesa.3").read_text("utf-8")
+        synopsis = page[page.index(".SH SYNOPSIS") : page.index(".SH DESCRIPTION")]
+        declared = re.findall(r"u?int32_t curdmesa_\w+\(.*?\);", self.text, re.S)
+        shown = re.sub(r"^\.BI|[\s\"]", "", synopsis, flags=re.M)
+        self.assertEqual(re.findall(r"u?int32_tcurdmesa_\w+\(.*?\);", shown),
+                         [re.sub(r"\s", "", one) for one in declared])
+
     def test_structs(self):
-        found = re.findall(r"^typedef struct Sentry(\w+) \{(.*?)\}", self.text, re.M | re.S)
+        found = re.findall(r"^typedef struct Curdmesa(\w+) \{(.*?)\}", self.text, re.M | re.S)
         for name, fields in found:
             due = [self.declared(one) for one in fields.split(";") if one.strip()]
-            self.assertEqual(getattr(curdmesa, f"_{name}")._fields_, due)
+            struct = _library.Place if name == "Place" else getattr(_library, f"{name}Parts")
+            self.assertEqual(struct._fields_, due)
         self.assertEqual(len(found), 4)
 
     def test_numbers(self):
         enums = re.findall(r"^enum \{(.*?)\};", self.text, re.M | re.S)
-        numbers = dict(re.findall(r"SENTRY_(\w+) = (-?\d+)", " ".join(enums)))
-        sums = {"LOSSES": "120", "LEDGER": "108"}
-        self.assertEqual(dict(re.findall(r"#define SENTRY_(\w+) (\d+)", self.text)), sums)
+        numbers = dict(re.findall(r"CURDMESA_(\w+) = (-?\d+)", " ".join(enums)))
+        sums = {"LOSSES": "120", "LEDGER": "108", "VERSION": "1000"}
+        self.assertEqual(dict(re.findall(r"#define CURDMESA_(\w+) (\d+)", self.text)), sums)
         kinds = {"": Status, "ITEM_": ItemKind, "CATEGORY_": Category, "REASON_": Reason}
         due = {prefix + each.name: str(each.value) for prefix, kind in kinds.items()
                for each in kind}

@@ -1,63 +1,47 @@
-//! Finds the two archives and links them.
+//! Finds the archive libcurdmesa.a and links it.
 
 use std::env;
-use std::path::{Path, PathBuf};
-use std::process;
+use std::path::PathBuf;
+use std::process::{self, Command};
 
-/// An archive: the variable with its folder, its name for the linker, its file, and where it is
-/// from.
-struct Archive {
-    variable: &'static str,
-    name: &'static str,
-    file: &'static str,
-    origin: &'static str,
+/// The variable that names the archive's folder.
+const VARIABLE: &str = "CURDMESA_LIB";
+
+/// Returns the folder of an installed library.
+fn installed() -> Option<PathBuf> {
+    let asked = Command::new("pkg-config")
+        .args(["--variable=libdir", "curdmesa"])
+        .output();
+    let told = asked.ok().filter(|told| told.status.success())?;
+    Some(PathBuf::from(String::from_utf8(told.stdout).ok()?.trim()))
 }
 
-const ARCHIVES: [Archive; 2] = [
-    Archive {
-        variable: "CURDMESA_LIB",
-        name: "sentry_c",
-        file: "libsentry_c.a",
-        origin: "`rt lib` in crates/sentry_c makes it, in the folder out",
-    },
-    Archive {
-        variable: "RATTLE_C",
-        name: "libc_c",
-        file: "liblibc_c.a",
-        origin: "it stands in the folder c of the Rattle kit, beside the file that `rt doc` names",
-    },
-];
-
-fn fail(archive: &Archive, what: &str) -> ! {
-    eprintln!("error: {what}");
-    eprintln!(
-        "Set {} to the whole path of the folder with {}: {}.",
-        archive.variable, archive.file, archive.origin
-    );
-    process::exit(1)
-}
-
-/// Returns the folder of an archive.
-fn folder(archive: &Archive) -> PathBuf {
-    let Some(folder) = env::var_os(archive.variable) else {
-        fail(archive, &format!("{} is not set.", archive.variable));
-    };
-    let file = Path::new(&folder).join(archive.file);
-    if !file.is_file() {
-        fail(archive, &format!("no file {}.", file.display()));
+/// Returns the folders that may have the archive, in order: the one that is named; or that of the C
+/// binding beside this crate, and that of an installed library.
+fn folders() -> Vec<PathBuf> {
+    match env::var_os(VARIABLE) {
+        Some(folder) => vec![PathBuf::from(folder)],
+        None => {
+            let beside = PathBuf::from(env!("CARGO_MANIFEST_DIR")).join("../c");
+            [Some(beside), installed()].into_iter().flatten().collect()
+        }
     }
-    println!("cargo:rerun-if-changed={}", file.display());
-    PathBuf::from(folder)
 }
 
 fn main() {
-    println!("cargo:rerun-if-changed=build.rs");
-    for archive in &ARCHIVES {
-        println!("cargo:rerun-if-env-changed={}", archive.variable);
-        println!(
-            "cargo:rustc-link-search=native={}",
-            folder(archive).display()
-        );
-        println!("cargo:rustc-link-lib=static={}", archive.name);
+    println!("cargo:rerun-if-env-changed={VARIABLE}");
+    let folders = folders();
+    let found = folders
+        .iter()
+        .find(|folder| folder.join("libcurdmesa.a").is_file());
+    let Some(folder) = found else {
+        eprintln!("error: no libcurdmesa.a in any of {folders:?}.");
+        eprintln!("`make` in bindings/c makes it; {VARIABLE} names another folder.");
+        process::exit(1)
+    };
+    for file in [PathBuf::from("build.rs"), folder.join("libcurdmesa.a")] {
+        println!("cargo:rerun-if-changed={}", file.display());
     }
+    println!("cargo:rustc-link-search=native={}", folder.display());
+    println!("cargo:rustc-link-lib=static=curdmesa");
 }

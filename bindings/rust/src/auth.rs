@@ -11,7 +11,7 @@ use std::str::FromStr;
 #[derive(Clone)]
 pub struct Auth {
     text: String,
-    parts: sys::SentryAuth,
+    parts: sys::CurdmesaAuth,
 }
 
 impl Auth {
@@ -23,12 +23,12 @@ impl Auth {
     /// [`Error::AuthMissingPublicKey`]; [`Error::OutOfMemory`].
     pub fn parse(bytes: impl AsRef<[u8]>) -> Result<Auth, Error> {
         let bytes = bytes.as_ref();
-        let mut parts = sys::SentryAuth::default();
+        let mut parts = sys::CurdmesaAuth::default();
         let printed = text(bytes.len() + 64, |out, needed| {
             // SAFETY: each pointer is a slice's, with its length, or a reference's; what is written
             // is borrowed mutably.
             unsafe {
-                sys::sentry_auth_parse(
+                sys::curdmesa_auth_parse(
                     bytes.as_ptr(),
                     bytes.len(),
                     out.as_mut_ptr(),
@@ -42,7 +42,7 @@ impl Auth {
         Ok(Auth { text, parts })
     }
 
-    fn part(&self, place: sys::SentryPlace) -> &str {
+    fn part(&self, place: sys::CurdmesaPlace) -> &str {
         &self.text[range(place.offset, place.length)]
     }
 

@@ -11,5 +11,5 @@ use crate::sys;
 pub fn check(text: impl AsRef<[u8]>) -> Result<(), Error> {
     let text = text.as_ref();
     // SAFETY: the pointer is the slice's, with its length.
-    done(unsafe { sys::sentry_crontab_check(text.as_ptr(), text.len()) })
+    done(unsafe { sys::curdmesa_crontab_check(text.as_ptr(), text.len()) })
 }

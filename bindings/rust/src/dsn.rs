@@ -10,7 +10,7 @@ use std::str::FromStr;
 #[derive(Clone)]
 pub struct Dsn {
     text: String,
-    parts: sys::SentryDsn,
+    parts: sys::CurdmesaDsn,
 }
 
 impl Dsn {
@@ -23,12 +23,12 @@ impl Dsn {
     /// [`Error::DsnInvalidProjectId`]; [`Error::OutOfMemory`].
     pub fn parse(bytes: impl AsRef<[u8]>) -> Result<Dsn, Error> {
         let bytes = bytes.as_ref();
-        let mut parts = sys::SentryDsn::default();
+        let mut parts = sys::CurdmesaDsn::default();
         let printed = text(bytes.len() + 64, |out, needed| {
             // SAFETY: each pointer is a slice's, with its length, or a reference's; what is written
             // is borrowed mutably.
             unsafe {
-                sys::sentry_dsn_parse(
+                sys::curdmesa_dsn_parse(
                     bytes.as_ptr(),
                     bytes.len(),
                     out.as_mut_ptr(),
@@ -42,7 +42,7 @@ impl Dsn {
         Ok(Dsn { text, parts })
     }
 
-    fn part(&self, place: sys::SentryPlace) -> &str {
+    fn part(&self, place: sys::CurdmesaPlace) -> &str {
         &self.text[range(place.offset, place.length)]
     }
 

@@ -69,7 +69,7 @@ where
         // SAFETY: each pointer is a slice's, with its length, or a reference's; `out` and `needed`
         // are borrowed mutably.
         unsafe {
-            sys::sentry_envelope_normalize(
+            sys::curdmesa_envelope_normalize(
                 bytes.as_ptr(),
                 bytes.len(),
                 now.secs,
@@ -97,7 +97,7 @@ where
     let now = now.try_into()?;
     // SAFETY: the pointer is the slice's, with its length.
     done(unsafe {
-        sys::sentry_envelope_check(bytes.as_ptr(), bytes.len(), now.secs, now.nanos, seed)
+        sys::curdmesa_envelope_check(bytes.as_ptr(), bytes.len(), now.secs, now.nanos, seed)
     })
 }
 
@@ -160,7 +160,7 @@ where
         // SAFETY: each pointer is a slice's or an array's, with its length, or a reference's;
         // `out`, `needed` and `losses` are borrowed mutably.
         unsafe {
-            sys::sentry_envelope_filter(
+            sys::curdmesa_envelope_filter(
                 bytes.as_ptr(),
                 bytes.len(),
                 now.secs,

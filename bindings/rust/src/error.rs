@@ -4,7 +4,7 @@ use std::convert::Infallible;
 use std::error;
 use std::fmt;
 
-/// Why a call failed: a variant for each status of `curdmesa.h` but `SENTRY_OK`.
+/// Why a call failed: a variant for each status of `curdmesa.h` but `CURDMESA_OK`.
 #[derive(Clone, Copy, Debug, PartialEq, Eq, Hash)]
 #[non_exhaustive]
 pub enum Error {
@@ -15,10 +15,10 @@ pub enum Error {
     NoMoment,
     /// The text isn't UTF-8.
     NotUtf8,
-    /// The text isn't a timestamp, or isn't a crontab schedule.
+    /// The text isn't a timestamp, a crontab schedule or a word of an enumeration.
     InvalidText,
-    /// A number, an offset or the length of a table is out of range. This crate's types rule that
-    /// out, so its calls don't return this error.
+    /// A number, an offset or the length of a table is out of range. In this crate only the
+    /// conversion of a number to an enumeration returns this error; elsewhere types rule it out.
     InvalidArgument,
     /// No item is left, or the ledger holds no loss. Calls of this crate return `None` instead.
     NothingLeft,

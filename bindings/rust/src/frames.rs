@@ -17,7 +17,9 @@ pub struct Frame<'a> {
     pub kind: ItemKind,
 }
 
-struct Frames<'a> {
+/// The items of an envelope: what [`frames`] returns.
+#[derive(Clone, Debug)]
+pub struct Frames<'a> {
     bytes: &'a [u8],
     offset: u64,
     is_done: bool,
@@ -31,7 +33,7 @@ struct Frames<'a> {
 /// After the items before it, the framing's first fault: [`Error::UnexpectedEof`],
 /// [`Error::MissingNewline`] or [`Error::InvalidItemHeader`]; or [`Error::OutOfMemory`]. The
 /// iterator ends after an error.
-pub fn frames(bytes: &[u8]) -> impl FusedIterator<Item = Result<Frame<'_>, Error>> {
+pub fn frames(bytes: &[u8]) -> Frames<'_> {
     Frames {
         bytes,
         offset: 0,
@@ -40,12 +42,18 @@ pub fn frames(bytes: &[u8]) -> impl FusedIterator<Item = Result<Frame<'_>, Error
 }
 
 impl<'a> Frames<'a> {
-    fn frame(&self, places: &sys::SentryFrame) -> Result<Frame<'a>, Error> {
-        let kind = ItemKind::ALL.get(places.kind as usize);
+    /// Returns the offset behind the last item and the line feed that ends it, from where on the
+    /// next item is looked for; 0 before the first item. After an error the item at fault follows.
+    pub fn offset(&self) -> usize {
+        self.offset as usize
+    }
+
+    fn frame(&self, places: &sys::CurdmesaFrame) -> Result<Frame<'a>, Error> {
+        let kind = ItemKind::try_from(places.kind);
         Ok(Frame {
             header: &self.bytes[range(places.header_offset, places.header_length)],
             payload: &self.bytes[range(places.payload_offset, places.payload_length)],
-            kind: *kind.ok_or(Error::InvalidItemHeader)?,
+            kind: kind.map_err(|_| Error::InvalidItemHeader)?,
         })
     }
 }
@@ -57,10 +65,10 @@ impl<'a> Iterator for Frames<'a> {
         if self.is_done {
             return None;
         }
-        let mut places = sys::SentryFrame::default();
+        let mut places = sys::CurdmesaFrame::default();
         // SAFETY: the pointers are a slice's, with its length, and two references'.
         let status = unsafe {
-            sys::sentry_frames_next(
+            sys::curdmesa_frames_next(
                 self.bytes.as_ptr(),
                 self.bytes.len(),
                 &mut self.offset,

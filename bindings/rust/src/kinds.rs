@@ -1,5 +1,9 @@
 //! Item types, data categories and discard reasons.
 
+use crate::error::Error;
+use std::fmt;
+use std::str::FromStr;
+
 /// Defines an enumeration of words, numbered from 0 on as in `curdmesa.h`.
 macro_rules! words {
     ($(#[$doc:meta])* $name:ident { $($(#[$variant_doc:meta])* $variant:ident = $word:literal,)* }) => {
@@ -19,6 +23,35 @@ macro_rules! words {
                 match self {
                     $($name::$variant => $word,)*
                 }
+            }
+        }
+
+        /// Prints the word in JSON.
+        impl fmt::Display for $name {
+            fn fmt(&self, f: &mut fmt::Formatter<'_>) -> fmt::Result {
+                f.pad(self.as_str())
+            }
+        }
+
+        /// Parses the word in JSON.
+        impl FromStr for $name {
+            type Err = Error;
+
+            /// Fails with [`Error::InvalidText`] for another word.
+            fn from_str(word: &str) -> Result<$name, Error> {
+                let found = $name::ALL.iter().find(|each| each.as_str() == word);
+                found.copied().ok_or(Error::InvalidText)
+            }
+        }
+
+        /// Converts the number of `curdmesa.h`.
+        impl TryFrom<u32> for $name {
+            type Error = Error;
+
+            /// Fails with [`Error::InvalidArgument`] for a number that no variant has.
+            fn try_from(number: u32) -> Result<$name, Error> {
+                let found = $name::ALL.get(number as usize);
+                found.copied().ok_or(Error::InvalidArgument)
             }
         }
     };

@@ -36,7 +36,7 @@ impl Ledger {
     ) -> Result<(), Error> {
         // SAFETY: the pointer is an array's, with its length.
         done(unsafe {
-            sys::sentry_ledger_record(
+            sys::curdmesa_ledger_record(
                 self.sums.as_mut_ptr(),
                 SUMS,
                 category as u32,
@@ -51,7 +51,7 @@ impl Ledger {
         let mut quantity = 0;
         // SAFETY: the pointers are an array's, with its length, and a reference's.
         let status = unsafe {
-            sys::sentry_ledger_held(
+            sys::curdmesa_ledger_held(
                 self.sums.as_ptr(),
                 SUMS,
                 category as u32,
@@ -84,7 +84,7 @@ impl Ledger {
             // SAFETY: each pointer is a slice's or an array's, with its length, or a reference's;
             // what is written is borrowed mutably.
             unsafe {
-                sys::sentry_ledger_flush(
+                sys::curdmesa_ledger_flush(
                     self.sums.as_mut_ptr(),
                     SUMS,
                     now.secs,

@@ -19,8 +19,9 @@
 //!
 //! `42` is the seed: a program hands in another random number with each call.
 //!
-//! To build, the variable `CURDMESA_LIB` names the folder with `libsentry_c.a`, and `RATTLE_C` the
-//! folder with `liblibc_c.a` of the Rattle kit.
+//! The crate links `libcurdmesa.a` from the folder that the variable `CURDMESA_LIB` names; without
+//! it, from that of the C binding beside this crate, or from where pkg-config says that it is
+//! installed.
 #![warn(missing_docs)]
 
 mod auth;
@@ -40,7 +41,14 @@ pub use auth::Auth;
 pub use dsn::Dsn;
 pub use envelope::{check, filter, normalize, normalize_into, Filtered, Kinds, Loss, Losses};
 pub use error::Error;
-pub use frames::{frames, Frame};
+pub use frames::{frames, Frame, Frames};
 pub use kinds::{Category, ItemKind, Reason};
 pub use ledger::Ledger;
 pub use moment::Moment;
+
+/// Returns the version of the library that is linked: major, minor and patch.
+pub fn library_version() -> (u32, u32, u32) {
+    // SAFETY: the function has no parameters.
+    let number = unsafe { sys::curdmesa_version() };
+    (number / 1_000_000, number / 1000 % 1000, number % 1000)
+}

@@ -16,7 +16,7 @@ pub fn parse(text: impl AsRef<[u8]>) -> Result<Moment, Error> {
     let text = text.as_ref();
     let (mut secs, mut nanos) = (0, 0);
     // SAFETY: the pointers are a slice's, with its length, and two references'.
-    done(unsafe { sys::sentry_rfc3339_parse(text.as_ptr(), text.len(), &mut secs, &mut nanos) })?;
+    done(unsafe { sys::curdmesa_rfc3339_parse(text.as_ptr(), text.len(), &mut secs, &mut nanos) })?;
     Ok(Moment { secs, nanos })
 }
 
@@ -35,7 +35,7 @@ where
     let text = output::text(LONGEST, |out, needed| {
         // SAFETY: the pointers are a slice's, with its length, and a reference's.
         unsafe {
-            sys::sentry_rfc3339_format(
+            sys::curdmesa_rfc3339_format(
                 moment.secs,
                 moment.nanos,
                 out.as_mut_ptr(),

@@ -8,7 +8,7 @@
 /// A place in a text: `length` bytes from byte `offset` on.
 #[derive(Clone, Copy, Default)]
 #[repr(C)]
-pub struct SentryPlace {
+pub struct CurdmesaPlace {
     pub offset: u64,
     pub length: u64,
 }
@@ -16,7 +16,7 @@ pub struct SentryPlace {
 /// An item, as places in the bytes of its envelope.
 #[derive(Clone, Copy, Default)]
 #[repr(C)]
-pub struct SentryFrame {
+pub struct CurdmesaFrame {
     pub header_offset: u64,
     pub header_length: u64,
     pub payload_offset: u64,
@@ -27,12 +27,12 @@ pub struct SentryFrame {
 /// The parts of a DSN.
 #[derive(Clone, Copy, Default)]
 #[repr(C)]
-pub struct SentryDsn {
-    pub public_key: SentryPlace,
-    pub secret_key: SentryPlace,
-    pub host: SentryPlace,
-    pub path: SentryPlace,
-    pub project_id: SentryPlace,
+pub struct CurdmesaDsn {
+    pub public_key: CurdmesaPlace,
+    pub secret_key: CurdmesaPlace,
+    pub host: CurdmesaPlace,
+    pub path: CurdmesaPlace,
+    pub project_id: CurdmesaPlace,
     pub org_id: u64,
     pub port: u32,
     pub is_https: u32,
@@ -42,10 +42,10 @@ pub struct SentryDsn {
 /// The parts of client authentication.
 #[derive(Clone, Copy, Default)]
 #[repr(C)]
-pub struct SentryAuth {
-    pub public_key: SentryPlace,
-    pub secret_key: SentryPlace,
-    pub client: SentryPlace,
+pub struct CurdmesaAuth {
+    pub public_key: CurdmesaPlace,
+    pub secret_key: CurdmesaPlace,
+    pub client: CurdmesaPlace,
     pub timestamp_secs: u64,
     pub timestamp_nanos: u32,
     pub version: u32,
@@ -55,7 +55,9 @@ pub struct SentryAuth {
 }
 
 extern "C" {
-    pub fn sentry_envelope_normalize(
+    pub fn curdmesa_version() -> u32;
+
+    pub fn curdmesa_envelope_normalize(
         bytes: *const u8,
         bytes_len: usize,
         now_secs: u64,
@@ -66,7 +68,7 @@ extern "C" {
         needed: *mut u64,
     ) -> i32;
 
-    pub fn sentry_envelope_check(
+    pub fn curdmesa_envelope_check(
         bytes: *const u8,
         bytes_len: usize,
         now_secs: u64,
@@ -74,7 +76,7 @@ extern "C" {
         seed: u64,
     ) -> i32;
 
-    pub fn sentry_envelope_filter(
+    pub fn curdmesa_envelope_filter(
         bytes: *const u8,
         bytes_len: usize,
         now_secs: u64,
@@ -90,39 +92,39 @@ extern "C" {
         losses_len: usize,
     ) -> i32;
 
-    pub fn sentry_frames_next(
+    pub fn curdmesa_frames_next(
         bytes: *const u8,
         bytes_len: usize,
         offset: *mut u64,
-        frame: *mut SentryFrame,
+        frame: *mut CurdmesaFrame,
     ) -> i32;
 
-    pub fn sentry_dsn_parse(
+    pub fn curdmesa_dsn_parse(
         text: *const u8,
         text_len: usize,
         out: *mut u8,
         out_len: usize,
         needed: *mut u64,
-        dsn: *mut SentryDsn,
+        dsn: *mut CurdmesaDsn,
     ) -> i32;
 
-    pub fn sentry_auth_parse(
+    pub fn curdmesa_auth_parse(
         text: *const u8,
         text_len: usize,
         out: *mut u8,
         out_len: usize,
         needed: *mut u64,
-        auth: *mut SentryAuth,
+        auth: *mut CurdmesaAuth,
     ) -> i32;
 
-    pub fn sentry_rfc3339_parse(
+    pub fn curdmesa_rfc3339_parse(
         text: *const u8,
         text_len: usize,
         secs: *mut u64,
         nanos: *mut u32,
     ) -> i32;
 
-    pub fn sentry_rfc3339_format(
+    pub fn curdmesa_rfc3339_format(
         secs: u64,
         nanos: u32,
         out: *mut u8,
@@ -130,9 +132,9 @@ extern "C" {
         needed: *mut u64,
     ) -> i32;
 
-    pub fn sentry_crontab_check(text: *const u8, text_len: usize) -> i32;
+    pub fn curdmesa_crontab_check(text: *const u8, text_len: usize) -> i32;
 
-    pub fn sentry_ledger_record(
+    pub fn curdmesa_ledger_record(
         ledger: *mut u64,
         ledger_len: usize,
         category: u32,
@@ -140,7 +142,7 @@ extern "C" {
         quantity: u64,
     ) -> i32;
 
-    pub fn sentry_ledger_held(
+    pub fn curdmesa_ledger_held(
         ledger: *const u64,
         ledger_len: usize,
         category: u32,
@@ -148,7 +150,7 @@ extern "C" {
         quantity: *mut u64,
     ) -> i32;
 
-    pub fn sentry_ledger_flush(
+    pub fn curdmesa_ledger_flush(
         ledger: *mut u64,
         ledger_len: usize,
         now_secs: u64,

@@ -76,16 +76,29 @@ fn declarations<'a>(
 }
 
 #[test]
+fn the_library_the_header_and_the_crate_are_of_one_version() {
+    let (major, minor, patch) = curdmesa::library_version();
+    let version = format!("{major}.{minor}.{patch}");
+    assert_eq!(version, env!("CARGO_PKG_VERSION"));
+    let number = 1_000_000 * major + 1000 * minor + patch;
+    assert!(HEADER.contains(&format!("#define CURDMESA_VERSION {number}\n")));
+    assert!(HEADER.contains(&format!("#define CURDMESA_VERSION_TEXT \"{version}\"\n")));
+}
+
+#[test]
 fn functions_are_declared_as_in_the_header() {
     let (header, sys) = (plain(HEADER, "/*", "*/"), plain(SYS, "//", "\n"));
+    // The only one without a status.
+    let sys = sys.replace("pub fn curdmesa_version() -> u32;", "");
+    assert!(header.contains(" uint32_t curdmesa_version(void);"));
     let due = declarations(
-        between(&header, " int32_t sentry_", ");"),
+        between(&header, " int32_t curdmesa_", ");"),
         '(',
         ',',
         c_declaration,
     );
     let found = declarations(
-        between(&sys, "pub fn sentry_", ") -> i32;"),
+        between(&sys, "pub fn curdmesa_", ") -> i32;"),
         '(',
         ',',
         rust_declaration,
@@ -131,9 +144,9 @@ fn names<T: std::fmt::Debug>(all: &[T]) -> Vec<(String, i32)> {
 
 #[test]
 fn words_are_numbered_as_in_the_header() {
-    assert_eq!(names(ItemKind::ALL), constants("SENTRY_ITEM_"));
-    assert_eq!(names(Category::ALL), constants("SENTRY_CATEGORY_"));
-    assert_eq!(names(Reason::ALL), constants("SENTRY_REASON_"));
+    assert_eq!(names(ItemKind::ALL), constants("CURDMESA_ITEM_"));
+    assert_eq!(names(Category::ALL), constants("CURDMESA_CATEGORY_"));
+    assert_eq!(names(Reason::ALL), constants("CURDMESA_REASON_"));
 }
 
 #[test]
@@ -143,7 +156,7 @@ fn statuses_are_numbered_as_in_the_header() {
     let found: Vec<_> = known
         .map(|error| (format!("{error:?}").to_lowercase(), error))
         .collect();
-    let statuses = constants("SENTRY_");
+    let statuses = constants("CURDMESA_");
     for (name, error) in &found {
         assert!(statuses.contains(&(name.clone(), error.status())), "{name}");
     }

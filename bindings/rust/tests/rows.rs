@@ -2,7 +2,7 @@
 
 use curdmesa::{
     check, crontab, filter, frames, normalize, normalize_into, rfc3339, Auth, Category, Dsn, Error,
-    Frame, ItemKind, Kinds, Ledger, Loss, Moment, Reason,
+    Frame, Frames, ItemKind, Kinds, Ledger, Loss, Moment, Reason,
 };
 use std::time::{Duration, SystemTime, UNIX_EPOCH};
 
@@ -295,11 +295,34 @@ fn frames_are_slices() {
 #[test]
 fn frames_end_after_an_error() {
     let given = b"{}\n{\"type\":\"attachment\"}\na\n{\"type\":\"profile\"}\nb";
-    let mut items = frames(given);
+    let mut items: Frames<'_> = frames(given);
+    assert_eq!(items.offset(), 0);
     assert_eq!(items.next().unwrap().unwrap().payload, b"a");
+    assert!(given[items.offset()..].starts_with(b"{\"type\":\"profile\"}"));
     assert_eq!(items.next(), Some(Err(Error::InvalidItemHeader)));
+    assert!(given[items.offset()..].starts_with(b"{\"type\":\"profile\"}"));
     assert_eq!(items.next(), None);
     assert_eq!(items.next(), None);
+}
+
+#[test]
+fn words_are_printed_and_parsed() {
+    assert_eq!(ItemKind::CheckIn.to_string(), "check_in");
+    assert_eq!(format!("{:>6}|", Reason::ALL[7]), "before_send|");
+    assert_eq!(format!("{:>6}|", Category::Span), "  span|");
+    assert_eq!("check_in".parse(), Ok(ItemKind::CheckIn));
+    assert_eq!("trace_metric".parse(), Ok(Category::TraceMetric));
+    assert_eq!("before_send".parse(), Ok(Reason::BeforeSend));
+    for word in ["", "Event", "profile", "event "] {
+        assert_eq!(word.parse::<ItemKind>(), Err(Error::InvalidText));
+    }
+    for kind in ItemKind::ALL {
+        assert_eq!(kind.as_str().parse(), Ok(*kind));
+        assert_eq!(ItemKind::try_from(*kind as u32), Ok(*kind));
+    }
+    assert_eq!(ItemKind::try_from(11), Err(Error::InvalidArgument));
+    assert_eq!(Category::try_from(12), Err(Error::InvalidArgument));
+    assert_eq!(Reason::try_from(9), Err(Error::InvalidArgument));
 }
 
 #[test]

@@ -1,0 +1,36 @@
+"""Sentry envelopes, DSNs, auth headers and client reports, over the C library of Curdmesa.
+
+The library is proved to meet its contracts. The calls here are not: each hands its arguments to one
+function of curdmesa.h, and gives back what that returns. There is no state and no handle but a
+Ledger's sums, so calls may be made from several threads at once; they run without the interpreter's
+lock.
+
+The shared object is libcurdmesa.so in this package's folder, as a wheel has it, or the file that the
+environment variable CURDMESA_SO names.
+"""
+
+from ._library import VERSION as __version__
+from .envelopes import Filtered, Frame, Loss, check, filter, frames, normalize
+from .errors import (
+    AuthError, AuthInvalidVersion, AuthMissingPublicKey, AuthNonSentry, DsnError,
+    DsnInvalidProjectId, DsnInvalidScheme, DsnInvalidUrl, DsnNoProjectId, DsnNoUsername,
+    EnvelopeError, Error, InvalidArgument, InvalidHeader, InvalidItemHeader, InvalidItemPayload,
+    InvalidText, LedgerFull, MissingHeader, MissingItemHeader, MissingNewline, NoMoment, NoRoom,
+    NothingLeft, NotUtf8, OutOfMemory, Status, TextError, UnexpectedEof, error_of)
+from .ledger import Ledger
+from .moments import Moment, rfc3339_format, rfc3339_parse
+from .texts import Auth, Dsn, crontab_check
+from .words import Category, ItemKind, Reason
+
+# All names but `filter`, which would hide Python's own where all are imported.
+__all__ = [
+    "Auth", "AuthError", "AuthInvalidVersion", "AuthMissingPublicKey", "AuthNonSentry",
+    "Category", "Dsn", "DsnError", "DsnInvalidProjectId", "DsnInvalidScheme", "DsnInvalidUrl",
+    "DsnNoProjectId", "DsnNoUsername", "EnvelopeError", "Error", "Filtered", "Frame",
+    "InvalidArgument", "InvalidHeader", "InvalidItemHeader", "InvalidItemPayload",
+    "InvalidText", "ItemKind", "Ledger", "LedgerFull", "Loss", "MissingHeader",
+    "MissingItemHeader", "MissingNewline", "Moment", "NoMoment", "NoRoom", "NotUtf8",
+    "NothingLeft", "OutOfMemory", "Reason", "Status", "TextError", "UnexpectedEof", "__version__",
+    "check", "crontab_check", "error_of", "frames", "normalize", "rfc3339_format",
+    "rfc3339_parse",
+]

@@ -1,0 +1,160 @@
+"""The C library: its structs and functions, and the texts that it writes."""
+
+from __future__ import annotations
+
+import ctypes
+import functools
+import operator
+import os
+from pathlib import Path
+from typing import Callable, Union
+
+from .errors import Status, done
+
+VERSION = "0.1.0"
+
+
+class Place(ctypes.Structure):
+    _fields_ = [("offset", ctypes.c_uint64), ("length", ctypes.c_uint64)]
+
+    def of(self, text: bytes) -> str:
+        return text[self.offset : self.offset + self.length].decode()
+
+
+class FrameParts(ctypes.Structure):
+    _fields_ = [
+        ("header_offset", ctypes.c_uint64),
+        ("header_length", ctypes.c_uint64),
+        ("payload_offset", ctypes.c_uint64),
+        ("payload_length", ctypes.c_uint64),
+        ("kind", ctypes.c_uint32),
+    ]
+
+
+class DsnParts(ctypes.Structure):
+    _fields_ = [
+        ("public_key", Place),
+        ("secret_key", Place),
+        ("host", Place),
+        ("path", Place),
+        ("project_id", Place),
+        ("org_id", ctypes.c_uint64),
+        ("port", ctypes.c_uint32),
+        ("is_https", ctypes.c_uint32),
+        ("has_org_id", ctypes.c_uint32),
+    ]
+
+
+class AuthParts(ctypes.Structure):
+    _fields_ = [
+        ("public_key", Place),
+        ("secret_key", Place),
+        ("client", Place),
+        ("timestamp_secs", ctypes.c_uint64),
+        ("timestamp_nanos", ctypes.c_uint32),
+        ("version", ctypes.c_uint32),
+        ("has_secret_key", ctypes.c_uint32),
+        ("has_client", ctypes.c_uint32),
+        ("has_timestamp", ctypes.c_uint32),
+    ]
+
+
+LOSSES = 120
+SUMS = 108
+
+U32, U64, SIZE, BOOL = ctypes.c_uint32, ctypes.c_uint64, ctypes.c_size_t, ctypes.c_bool
+U32S, U64S = ctypes.POINTER(U32), ctypes.POINTER(U64)
+# Bytes that are read, and bytes that are written with the length of the text that was due.
+BYTES = [ctypes.c_char_p, SIZE]
+OUT = [ctypes.POINTER(ctypes.c_char), SIZE, U64S]
+MOMENT = [U64, U32]
+
+#: The functions of curdmesa.h, all of which return a status, with the types of their parameters.
+FUNCTIONS = {
+    "curdmesa_envelope_normalize": [*BYTES, *MOMENT, U64, *OUT],
+    "curdmesa_envelope_check": [*BYTES, *MOMENT, U64],
+    "curdmesa_envelope_filter": [
+        *BYTES, *MOMENT, U64, U32, BOOL, BOOL, *OUT, U64S, SIZE,
+    ],
+    "curdmesa_frames_next": [*BYTES, U64S, ctypes.POINTER(FrameParts)],
+    "curdmesa_dsn_parse": [*BYTES, *OUT, ctypes.POINTER(DsnParts)],
+    "curdmesa_auth_parse": [*BYTES, *OUT, ctypes.POINTER(AuthParts)],
+    "curdmesa_rfc3339_parse": [*BYTES, U64S, U32S],
+    "curdmesa_rfc3339_format": [*MOMENT, *OUT],
+    "curdmesa_crontab_check": [*BYTES],
+    "curdmesa_ledger_record": [U64S, SIZE, U32, U32, U64],
+    "curdmesa_ledger_held": [U64S, SIZE, U32, U32, U64S],
+    "curdmesa_ledger_flush": [U64S, SIZE, *MOMENT, *OUT],
+}
+
+
+def _load() -> ctypes.CDLL:
+    path = os.environ.get("CURDMESA_SO") or Path(__file__).with_name("libcurdmesa.so")
+    path = os.path.abspath(path)
+    try:
+        loaded = ctypes.CDLL(path)
+    except OSError as error:
+        raise ImportError(f"can't load {path} ({error}): `make` in bindings/python links it; "
+                          "CURDMESA_SO may name another file") from error
+    try:
+        loaded.curdmesa_version.restype = U32
+        number = loaded.curdmesa_version()
+        for name, arguments in FUNCTIONS.items():
+            function = getattr(loaded, name)
+            function.argtypes = arguments
+            function.restype = ctypes.c_int32
+    except AttributeError as error:
+        raise ImportError(f"{path} isn't the library of this package: {error}") from error
+    version = f"{number // 1_000_000}.{number // 1000 % 1000}.{number % 1000}"
+    if version != VERSION:
+        raise ImportError(f"{path} is version {version} of the library, this package {VERSION}")
+    return loaded
+
+
+library = _load()
+
+
+@functools.lru_cache(maxsize=None)
+def _buffer_type(length: int) -> type:
+    return ctypes.c_char * length
+
+
+def _buffer(room: int) -> ctypes.Array:
+    """Returns a buffer of at least `room` bytes. Its length is a power of two: ctypes makes a type
+    for each length of an array, which takes longer than most calls, and keeps it."""
+    return _buffer_type(max(256, 1 << (room - 1).bit_length()))()
+
+
+def written(room: int, call: Callable[..., int]) -> bytes:
+    """Returns the text that a call writes: with room for `room` bytes at first, and with as much
+    as the text needs if that is too little."""
+    needed = U64(0)
+    out = _buffer(room)
+    status = call(out, len(out), needed)
+    while status == Status.NO_ROOM:
+        out = _buffer(needed.value)
+        status = call(out, len(out), needed)
+    done(status)
+    return memoryview(out)[: needed.value].tobytes()
+
+
+Data = Union[bytes, bytearray, memoryview]
+Text = Union[str, Data]
+
+
+def data_bytes(data: Data) -> bytes:
+    """Returns bytes that nobody changes during a call."""
+    return data if isinstance(data, bytes) else memoryview(data).tobytes()
+
+
+def text_bytes(text: Text) -> bytes:
+    """Returns a text's bytes; a lone surrogate becomes bytes that aren't UTF-8."""
+    return text.encode("utf-8", "surrogatepass") if isinstance(text, str) else data_bytes(text)
+
+
+def whole(number: int) -> int:
+    """Refuses what isn't a whole number of 64 bits, which C would cut."""
+    number = operator.index(number)
+    if not 0 <= number < 2**64:
+        raise ValueError(f"not a whole number of 64 bits: {number}")
+    return number

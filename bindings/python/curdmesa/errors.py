@@ -1,0 +1,250 @@
+"""Statuses of the library as exceptions."""
+
+from __future__ import annotations
+
+import enum
+from typing import Iterator, Optional
+
+
+class Status(enum.IntEnum):
+    """What every function of curdmesa.h returns."""
+
+    OK = 0
+    NO_ROOM = 1
+    NO_MOMENT = 2
+    NOT_UTF8 = 3
+    INVALID_TEXT = 4
+    INVALID_ARGUMENT = 5
+    NOTHING_LEFT = 6
+    LEDGER_FULL = 7
+    UNEXPECTED_EOF = 10
+    MISSING_HEADER = 11
+    MISSING_ITEM_HEADER = 12
+    MISSING_NEWLINE = 13
+    INVALID_HEADER = 14
+    INVALID_ITEM_HEADER = 15
+    INVALID_ITEM_PAYLOAD = 16
+    OUT_OF_MEMORY = 17
+    DSN_INVALID_URL = 20
+    DSN_INVALID_SCHEME = 21
+    DSN_NO_USERNAME = 22
+    DSN_NO_PROJECT_ID = 23
+    DSN_INVALID_PROJECT_ID = 24
+    AUTH_NON_SENTRY = 30
+    AUTH_INVALID_VERSION = 31
+    AUTH_MISSING_PUBLIC_KEY = 32
+
+
+class Error(Exception):
+    """A call failed. `status` says why: a Status, or another number if the library is of another
+    version. `text` says it in a few words."""
+
+    status: int = -1
+    text: str = ""
+
+    def __init__(self, status: Optional[int] = None):
+        super().__init__(type(self).status if status is None else status)
+        self.status = self.args[0]
+
+    def __str__(self) -> str:
+        return self.text or f"unknown status {self.status}"
+
+
+class EnvelopeError(Error):
+    """The bytes are no envelope; the subclass names the first check that fails."""
+
+
+class TextError(Error):
+    """A text that a call parses is refused: a DSN, an auth header, a timestamp or a schedule."""
+
+
+class DsnError(TextError):
+    """The text is no DSN; the subclass names the first check that fails."""
+
+
+class AuthError(TextError):
+    """The text is no client authentication; the subclass names the first check that fails."""
+
+
+class NoRoom(Error):
+    """The text is longer than the room for it. This package makes room, so no call raises this."""
+
+    status = Status.NO_ROOM
+    text = "no room for the text"
+
+
+class NoMoment(Error):
+    """No such moment: before 1970, past the year 9999, or 10^9 nanoseconds or more."""
+
+    status = Status.NO_MOMENT
+    text = "no such moment"
+
+
+class NotUtf8(TextError):
+    """The text isn't UTF-8."""
+
+    status = Status.NOT_UTF8
+    text = "text is not UTF-8"
+
+
+class InvalidText(TextError):
+    """The text isn't a timestamp, or isn't a crontab schedule."""
+
+    status = Status.INVALID_TEXT
+    text = "invalid text"
+
+
+class InvalidArgument(Error):
+    """A number or the length of a table is out of range."""
+
+    status = Status.INVALID_ARGUMENT
+    text = "argument out of range"
+
+
+class NothingLeft(Error):
+    """No item is left, or the ledger holds no loss. Calls return None instead."""
+
+    status = Status.NOTHING_LEFT
+    text = "nothing left"
+
+
+class LedgerFull(Error):
+    """The sum would exceed 2^64-1."""
+
+    status = Status.LEDGER_FULL
+    text = "ledger is full"
+
+
+class UnexpectedEof(EnvelopeError):
+    """Only white space is left where an item is expected, or fewer bytes than an item header
+    states."""
+
+    status = Status.UNEXPECTED_EOF
+    text = "unexpected end of file"
+
+
+class MissingHeader(EnvelopeError):
+    """Never raised: an empty header line is InvalidHeader."""
+
+    status = Status.MISSING_HEADER
+    text = "missing envelope header"
+
+
+class MissingItemHeader(EnvelopeError):
+    """Never raised: bytes that are no item header are InvalidItemHeader."""
+
+    status = Status.MISSING_ITEM_HEADER
+    text = "missing item header"
+
+
+class MissingNewline(EnvelopeError):
+    """An item header, or a payload of a stated length, is followed by anything but a line feed or
+    the end."""
+
+    status = Status.MISSING_NEWLINE
+    text = "missing newline after header or payload"
+
+
+class InvalidHeader(EnvelopeError):
+    """The first line isn't one JSON object without floats that reads as envelope headers."""
+
+    status = Status.INVALID_HEADER
+    text = "invalid envelope header"
+
+
+class InvalidItemHeader(EnvelopeError):
+    """An item doesn't begin with a JSON object without floats that reads as an item header."""
+
+    status = Status.INVALID_ITEM_HEADER
+    text = "invalid item header"
+
+
+class InvalidItemPayload(EnvelopeError):
+    """A payload isn't one JSON text without floats that reads as its item type."""
+
+    status = Status.INVALID_ITEM_PAYLOAD
+    text = "invalid item payload"
+
+
+class OutOfMemory(Error, MemoryError):
+    """An allocation of the library failed."""
+
+    status = Status.OUT_OF_MEMORY
+    text = "out of memory"
+
+
+class DsnInvalidUrl(DsnError):
+    """No URL, or a URL without a host."""
+
+    status = Status.DSN_INVALID_URL
+    text = "no valid url provided"
+
+
+class DsnInvalidScheme(DsnError):
+    """The scheme is neither http nor https."""
+
+    status = Status.DSN_INVALID_SCHEME
+    text = "no valid scheme"
+
+
+class DsnNoUsername(DsnError):
+    """No user name, which is the public key."""
+
+    status = Status.DSN_NO_USERNAME
+    text = "username is empty"
+
+
+class DsnNoProjectId(DsnError):
+    """The path is "/"."""
+
+    status = Status.DSN_NO_PROJECT_ID
+    text = "empty path"
+
+
+class DsnInvalidProjectId(DsnError):
+    """The project id is empty."""
+
+    status = Status.DSN_INVALID_PROJECT_ID
+    text = "invalid project id"
+
+
+class AuthNonSentry(AuthError):
+    """The text doesn't begin with the word "sentry", in any ASCII case."""
+
+    status = Status.AUTH_NON_SENTRY
+    text = "non sentry auth"
+
+
+class AuthInvalidVersion(AuthError):
+    """A sentry_version, up to its first '.', isn't a whole number of 16 bits."""
+
+    status = Status.AUTH_INVALID_VERSION
+    text = "invalid value for version"
+
+
+class AuthMissingPublicKey(AuthError):
+    """The public key (sentry_key) is absent or empty."""
+
+    status = Status.AUTH_MISSING_PUBLIC_KEY
+    text = "missing public key in auth header"
+
+
+def _subclasses(kind: type) -> Iterator[type]:
+    for below in kind.__subclasses__():
+        yield below
+        yield from _subclasses(below)
+
+
+_ERRORS = {int(kind.status): kind for kind in _subclasses(Error) if kind.status != -1}
+
+
+def error_of(status: int) -> Error:
+    """Returns the exception of a status other than OK."""
+    kind = _ERRORS.get(status)
+    return Error(status) if kind is None else kind()
+
+
+def done(status: int) -> None:
+    """Raises the error of a status other than OK."""
+    if status != Status.OK:
+        raise error_of(status)
