@@ -4,7 +4,7 @@ use crate::asked::said_of;
 use crate::auths::said_auth;
 use crate::bytes::{decoded, of_bytes};
 use crate::dsns::{said_default_port, said_dsn};
-use crate::envelopes::of_reader;
+use crate::envelopes::rewritten_in_turn;
 use crate::equal::of_two_trees;
 use crate::ledger::of_history;
 use crate::made::{of_custom, of_new, of_other_unit, of_parts};
@@ -43,7 +43,7 @@ fn of_list(alloc: Global, name: &str, items: &[Value]) -> Result<Value, AllocErr
             let pairs = pairs_of(alloc, items)?;
             said_of(alloc, Auth::from_pairs(alloc, pairs.as_slice()), said_auth)
         }
-        "EnvelopeReader" => of_reader(alloc, items),
+        "rewritten in turn" => rewritten_in_turn(alloc, items),
         _ => of_numbers(alloc, name, items),
     }
 }

@@ -7,9 +7,11 @@ use crate::envelopes::{
 };
 use crate::filters::{of_answers, of_filter};
 use crate::form::{of_apart, of_flat, of_tape};
+use crate::forwarding::{of_any_frames, of_forward};
 use crate::ledger::of_recorded;
 use crate::said::{as_tree, list, text};
 use crate::trees::of_tree;
+use crate::typed::{of_forwarded, of_frame_losses, of_typed};
 use sentry_types::protocol::v7::Value;
 use std::alloc::{AllocError, Global};
 use std::str;
@@ -44,8 +46,14 @@ pub fn of_bytes(alloc: Global, name: &str, bytes: &[u8]) -> Option<Result<Value,
     if let Some(words) = name.strip_prefix("recorded ") {
         return Some(of_recorded(alloc, words, bytes));
     }
+    if let Some(words) = name.strip_prefix("forwarded ") {
+        return Some(of_forwarded(alloc, words, bytes));
+    }
     if let Some(words) = name.strip_prefix("asked ") {
         return Some(of_answers(alloc, words, bytes));
+    }
+    if let Some(words) = name.strip_prefix("forward ") {
+        return Some(of_forward(alloc, words, bytes));
     }
     if let Some(words) = name.strip_prefix("built ") {
         return Some(of_built(alloc, words, bytes));
@@ -58,8 +66,11 @@ pub fn of_bytes(alloc: Global, name: &str, bytes: &[u8]) -> Option<Result<Value,
         "envelope" => said_of(alloc, read(alloc, bytes), said_steady),
         "rewritten" => said_of(alloc, read(alloc, bytes), said_envelope),
         "frames" => of_frames(alloc, bytes),
+        "any_frames" => of_any_frames(alloc, bytes),
         "containers" => said_of(alloc, read(alloc, bytes), said_containers),
         "losses" => said_of(alloc, read(alloc, bytes), said_losses),
+        "typed" => of_typed(alloc, bytes),
+        "frame losses" => of_frame_losses(alloc, bytes),
         _ => return None,
     })
 }

@@ -2,11 +2,12 @@
 
 use crate::asked::{holds, is_same, said_of};
 use crate::bytes::said_bytes;
+use crate::counting::Counting;
 use crate::said::{as_tree, list, maybe, refused, text};
 use rand_pcg::Pcg32;
 use sentry_types::protocol::v7::{
-    CountedWriter, Envelope, EnvelopeError, EnvelopeItem, EnvelopeReader, EnvelopeWriteError,
-    Frames, ItemContainer, ItemFrame, ItemLoss, LossSource, Moment, Value,
+    CountedWriter, Envelope, EnvelopeError, EnvelopeItem, EnvelopeWriteError, Frames,
+    ItemContainer, ItemFrame, ItemLoss, LossSource, Moment, Value,
 };
 use std::alloc::{AllocError, Global};
 
@@ -74,15 +75,14 @@ pub fn said_steady(alloc: Global, envelope: &Envelope) -> Result<Value, AllocErr
     }
 }
 
-/// What is written of the envelopes that texts spell, one after the other, by one reader and with
-/// one generator of ids.
-pub fn of_reader(alloc: Global, texts: &[Value]) -> Result<Value, AllocError> {
-    let now = Moment::new(0, 0).unwrap();
-    let (mut reader, mut ids) = (EnvelopeReader::new(alloc), Pcg32::new(42, 54));
+/// What is written of the envelopes that texts spell at second 0, one after the other, with one
+/// generator of ids, whose words count from 1.
+pub fn rewritten_in_turn(alloc: Global, texts: &[Value]) -> Result<Value, AllocError> {
+    let (now, mut ids) = (Moment::new(0, 0).unwrap(), Counting(0));
     let mut told = Vec::new(alloc);
     for given in texts {
         let bytes = given.as_str().unwrap_or("").as_bytes();
-        let made = reader.read(bytes, now, &mut ids);
+        let made = Envelope::from_slice(alloc, bytes, now, &mut ids);
         let said = said_of(alloc, made, said_envelope);
         told.push(said?)?;
     }

@@ -7,9 +7,9 @@ use crate::said::{as_tree, list};
 use sentry_types::protocol::v7::{Envelope, EnvelopeFilter, EnvelopeItem, LossSource, Value};
 use std::alloc::{AllocError, Global};
 
-/// Refuses items whose kinds are among some words, and notes what is lost with the items that go.
+// Refuses items whose types are among some words, and notes what is lost with the items that go.
 #[derive(Drop)]
-pub struct ByKinds<'a> {
+struct ByKinds<'a> {
     alloc: Global,
     words: &'a str,
     losses: Vec<Value>,
@@ -24,8 +24,14 @@ pub fn word_of(item: &EnvelopeItem) -> &'static str {
     }
 }
 
+/// Whether the word of an item's type is none of some words.
+pub fn is_kept(words: &str, item: &EnvelopeItem) -> bool {
+    let kind = word_of(item);
+    !words.split(' ').any(|word| word == kind)
+}
+
 impl<'a> ByKinds<'a> {
-    pub fn new(alloc: Global, words: &'a str) -> ByKinds<'a> {
+    fn new(alloc: Global, words: &'a str) -> ByKinds<'a> {
         ByKinds {
             alloc,
             words,
@@ -34,8 +40,8 @@ impl<'a> ByKinds<'a> {
         }
     }
 
-    /// The losses that were noted, if each could be.
-    pub fn told(self) -> Result<Value, AllocError> {
+    // The losses that were noted, if each could be.
+    fn told(self) -> Result<Value, AllocError> {
         if self.failed {
             return Err(AllocError);
         }
@@ -64,8 +70,7 @@ impl EnvelopeFilter for ByKinds<'_> {
     ghost hand_keeps = { λ first item next ready given. tt };
 
     fn filter(&mut self, item: &EnvelopeItem) -> bool {
-        let kind = word_of(item);
-        !self.words.split(' ').any(|word| word == kind)
+        is_kept(self.words, item)
     }
 
     fn on_filtered(&mut self, item: EnvelopeItem) {
@@ -121,7 +126,7 @@ fn left_by(
 
 // What is left of an envelope, or null, by a filter that is handed over.
 fn left_by_value(alloc: Global, envelope: Envelope, words: &str) -> Result<Value, AllocError> {
-    match envelope.filter(alloc, ByKinds::new(alloc, words)) {
+    match envelope.filter(alloc, |item: &EnvelopeItem| { is_kept(words, item) }) {
         Ok(left) => said_left(alloc, left),
         Err((envelope, filter)) => {
             drop(envelope);

@@ -104,7 +104,7 @@ fn beside_tape<F: ReadCodec<T>, T: Drop>(
 ) -> Result<Value, AllocError> {
     let texts = Bump::new(alloc);
     let mut tape = Tape::new(alloc, &texts);
-    let by_tape = match tape.parse(line) {
+    let by_tape = match tape.parse(line)? {
         Some(root) => F::from_node(alloc, &root),
         None => return Ok(told),
     };
@@ -179,7 +179,7 @@ fn beside_tape_at<F: ReadCodecAt<T>, T: Drop>(
 ) -> Result<Value, AllocError> {
     let texts = Bump::new(alloc);
     let mut tape = Tape::new(alloc, &texts);
-    let by_tape = match tape.parse(line) {
+    let by_tape = match tape.parse(line)? {
         Some(root) => F::from_node(alloc, &root, now(), &mut ids()),
         None => return Ok(told),
     };
@@ -271,7 +271,7 @@ pub fn debugged<T: Debug + Drop>(
 pub fn of_tape(alloc: Global, line: &[u8]) -> Result<Value, AllocError> {
     let texts = Bump::new(alloc);
     let mut tape = Tape::new(alloc, &texts);
-    let Some(root) = tape.parse(line) else {
+    let Some(root) = tape.parse(line)? else {
         return match read_tree(alloc, line) {
             Ok(_) => text(alloc, "by tree"),
             Err(error) => refused(alloc, &error),
@@ -296,7 +296,7 @@ fn found(alloc: Global, place: &Option<Scalar<'_>>) -> Result<Value, AllocError>
 pub fn of_apart(alloc: Global, line: &[u8]) -> Result<Value, AllocError> {
     let texts = Bump::new(alloc);
     let mut tape = Tape::new(alloc, &texts);
-    let Some((root, apart)) = tape.parse_at(line, &["a", "b"], "c") else {
+    let Some((root, apart)) = tape.parse_at(line, &["a", "b"], "c")? else {
         return Ok(Value::from(false));
     };
     let object = match apart {

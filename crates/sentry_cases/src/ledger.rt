@@ -2,13 +2,13 @@
 
 use crate::asked::taken;
 use crate::envelopes::{read, said_loss};
-use crate::filters::{ByKinds, said_left};
+use crate::filters::{is_kept, said_left};
 use crate::said::{as_tree, list, text};
 use sentry_types::IndexedEnum;
 use sentry_types::protocol::v7::client_report::{
     Category, ItemLoss, Ledger, Reason, Step, StepAnswer, filter_recorded, run_steps,
 };
-use sentry_types::protocol::v7::{Envelope, Member, Moment, Value, Word};
+use sentry_types::protocol::v7::{Envelope, EnvelopeItem, Member, Moment, Value, Word};
 use std::alloc::{AllocError, Global};
 
 // `flush SECONDS`, or `add CATEGORY QUANTITY REASON`, after which the loss's own reason may stand.
@@ -58,8 +58,8 @@ fn said_answer(alloc: Global, answer: &StepAnswer) -> Result<Value, AllocError> 
     }
 }
 
-// What is held of each category and reason above 0, in order, or `empty`.
-fn said_held(alloc: Global, ledger: &Ledger) -> Result<Value, AllocError> {
+/// What is held of each category and reason above 0, in order, or `empty`.
+pub fn said_held(alloc: Global, ledger: &Ledger) -> Result<Value, AllocError> {
     if ledger.is_empty() {
         return text(alloc, "empty");
     }
@@ -102,7 +102,7 @@ fn said_recorded(
     reason: Reason,
     ledger: &mut Ledger,
 ) -> Result<Value, AllocError> {
-    let filter = ByKinds::new(alloc, kinds);
+    let filter = |item: &EnvelopeItem| { is_kept(kinds, item) };
     match filter_recorded(alloc, envelope, filter, reason, ledger) {
         Ok((left, refused)) => {
             let left = said_left(alloc, left);
@@ -115,17 +115,29 @@ fn said_recorded(
     }
 }
 
+/// The ledger after the steps that stand after `; `, the reason that is the first word, and the
+/// words after the reason; `None` where there are no such steps or no such reason.
+pub fn begun<'w>(
+    alloc: Global,
+    words: &'w str,
+) -> Result<Option<(Ledger, Reason, &'w str)>, AllocError> {
+    let (words, before) = words.split_once("; ").unwrap_or((words, ""));
+    let (reason, others) = words.split_once(' ').unwrap_or((words, ""));
+    let (Some(reason), Some(steps)) = (Reason::of_word(reason), steps_of(alloc, before)?) else {
+        return Ok(None);
+    };
+    let mut ledger = Ledger::new();
+    drop(run_steps(alloc, &mut ledger, steps.as_slice())?);
+    Ok(Some((ledger, reason, others)))
+}
+
 /// What is left of the envelope that bytes spell without the items of some kinds, how many of their
 /// losses are refused, and what is held afterwards. The first word is the reason; steps may stand
 /// after `; `, and come first.
 pub fn of_recorded(alloc: Global, words: &str, bytes: &[u8]) -> Result<Value, AllocError> {
-    let (words, before) = words.split_once("; ").unwrap_or((words, ""));
-    let (reason, kinds) = words.split_once(' ').unwrap_or((words, ""));
-    let (Some(reason), Some(steps)) = (Reason::of_word(reason), steps_of(alloc, before)?) else {
+    let Some((mut ledger, reason, kinds)) = begun(alloc, words)? else {
         return text(alloc, "no steps");
     };
-    let mut ledger = Ledger::new();
-    drop(run_steps(alloc, &mut ledger, steps.as_slice())?);
     taken(
         alloc,
         read(alloc, bytes),

@@ -37,7 +37,7 @@ pub enum MonitorSchedule {
 #[derive(Debug, Drop, Error)]
 pub enum ScheduleError {
     /// Not a valid crontab schedule.
-    #[error("invalid crontab schedule")]
+    #[error("Invalid")]
     Invalid(CrontabParseError),
     /// An allocation failed.
     #[error("out of memory")]

@@ -38,15 +38,15 @@ fn others_are_printed(rt: HostRuntime) -> Result<(), Fail> {
     let alloc = rt.alloc();
     let header = "missing envelope header";
     wanted(
-        prints(alloc, ApiUrlError::NotAUrl, "invalid url")
-            && prints(alloc, AttachmentWriteError::Io, "write failed")
-            && prints(alloc, EnvelopeWriteError::Io, "write failed")
-            && prints(alloc, EnvelopeWriteError::NotPlain, "envelope is not plain")
-            && prints(alloc, LedgerFull(an_error()), "ledger is full")
+        prints(alloc, ApiUrlError::NotAUrl, "NotAUrl")
+            && prints(alloc, AttachmentWriteError::Io, "Io")
+            && prints(alloc, EnvelopeWriteError::Io, "Io")
+            && prints(alloc, EnvelopeWriteError::NotPlain, "NotPlain")
+            && prints(alloc, LedgerFull(an_error()), "LedgerFull")
             && prints(
                 alloc,
                 AddRefused::RawEnvelope(EnvelopeItem::Raw),
-                "envelope is raw",
+                "RawEnvelope",
             )
             && prints(alloc, EnvelopeError::MissingHeader, header)
             && prints(

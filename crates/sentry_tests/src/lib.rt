@@ -16,6 +16,8 @@ mod errors;
 #[cfg(test)]
 mod filters;
 #[cfg(test)]
+mod forwarding;
+#[cfg(test)]
 mod frames;
 #[cfg(test)]
 mod guide;

@@ -3,9 +3,9 @@
 use crate::envelopes::read;
 use crate::wanted::wanted;
 use sentry_types::protocol::v7::{
-    Envelope, EnvelopeError, EnvelopeItem, EnvelopeWriteError, Frames, ItemKind,
+    AnyFrame, Envelope, EnvelopeError, EnvelopeItem, EnvelopeWriteError, ItemKind, forward,
 };
-use std::alloc::{AllocError, Global};
+use std::alloc::Global;
 use std::test::Fail;
 
 /// Returns the public key of the DSN that an envelope is sent to.
@@ -33,7 +33,7 @@ impl Quota {
 
 /// Returns the text of what a quota admits of an envelope, with its header; `None` if nothing is
 /// left.
-fn forward(
+fn admitted(
     alloc: Global,
     envelope: Envelope,
     quota: &mut Quota,
@@ -63,7 +63,7 @@ const FIRST: &str = concat!(
 
 /// The text of what a quota admits of `EVENTS`.
 fn forwarded(alloc: Global, quota: &mut Quota) -> Result<Option<Vec<u8>>, Fail> {
-    Ok(forward(alloc, read(alloc, EVENTS.as_bytes())?, quota)?)
+    Ok(admitted(alloc, read(alloc, EVENTS.as_bytes())?, quota)?)
 }
 
 #[test]
@@ -79,35 +79,25 @@ fn a_quota_is_used_up(rt: HostRuntime) -> Result<(), Fail> {
     wanted(forwarded(alloc, &mut quota)?.is_none())
 }
 
-fn push_line(out: &mut Vec<u8>, line: &[u8]) -> Result<(), AllocError> {
-    out.extend_from_slice(line)?;
-    out.push(b'\n')?;
-    Ok(())
-}
-
-/// Appends the envelope that bytes spell, without its attachments. Headers are read, payloads are
-/// copied as they are.
-fn forward_frames(alloc: Global, bytes: &[u8], out: &mut Vec<u8>) -> Result<(), EnvelopeError> {
-    let mut frames = Frames::new(bytes);
-    push_line(out, frames.header_line())?;
-    for _ in 0..bytes.len() {
-        let Some(item) = frames.next_item(alloc) else {
-            break;
-        };
-        let (frame, header) = item?;
-        if header.kind != ItemKind::Attachment {
-            push_line(out, frame.header)?;
-            push_line(out, frame.payload)?;
-        }
+/// Returns the bytes of an envelope without its attachments of more than 1 MB, whatever else is in
+/// it; `None` if no item is left.
+fn pass_on(alloc: Global, bytes: &[u8]) -> Result<Option<Vec<u8>>, EnvelopeError> {
+    let mut filter = |frame: &AnyFrame<'_>| {
+        !matches!(frame.kind(), Some(ItemKind::Attachment)) || frame.payload.len() <= 1_000_000
+    };
+    let left = forward(alloc, bytes, &mut filter)?;
+    if left.nonempty_parts().is_none() {
+        return Ok(None);
     }
-    Ok(())
+    Ok(Some(left.to_vec(alloc)?))
 }
 
 #[test]
-fn frames_are_forwarded(rt: HostRuntime) -> Result<(), Fail> {
+fn any_items_are_passed_on(rt: HostRuntime) -> Result<(), Fail> {
     let alloc = rt.alloc();
-    let bytes = b"{}\n{\"type\":\"attachment\"}\nabc\n{\"type\":\"event\"}\nnot read\n";
-    let mut out = Vec::new(alloc);
-    forward_frames(alloc, bytes, &mut out)?;
-    wanted(out.as_slice() == b"{}\n{\"type\":\"event\"}\nnot read\n".as_slice())
+    let bytes = b"{}\n{\"type\":\"profile\",\"rate\":0.5}\nnot read\n\n{\"type\":\"event\"}\n{";
+    let left = pass_on(alloc, bytes)?;
+    wanted(matches!(&left, Some(left) if left.as_slice() == bytes.as_slice()))?;
+    drop(left);
+    wanted(pass_on(alloc, b"{}\n")?.is_none())
 }

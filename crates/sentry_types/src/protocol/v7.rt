@@ -9,10 +9,13 @@ pub use sentry_envelope::called::{Asked, Given};
 pub use sentry_envelope::timed::read_line_at;
 pub use sentry_envelope::{
     AddRefused, CountedReader, CountedWriter, Envelope, EnvelopeError, EnvelopeFilter,
-    EnvelopeFilterCallbacks, EnvelopeHeaders, EnvelopeItemIter, EnvelopeReader, EnvelopeWriteError,
-    Frames, IntoItems, ItemFrame, laws,
+    EnvelopeFilterCallbacks, EnvelopeHeaders, EnvelopeItemIter, EnvelopeWriteError, Frames,
+    IntoItems, ItemFrame, laws, read_item,
 };
 pub use sentry_event::{AsFingerprint, Event, Span, Transaction};
+pub use sentry_forward::{
+    AnyFrame, AnyFrames, ForwardError, ForwardRules, Forwarded, forward, forward_by,
+};
 pub use sentry_framing::{ItemHeader, ItemKind, read_item_header};
 pub use sentry_items::{
     Attachment, AttachmentType, AttachmentWriteError, EnvelopeItem, ItemContainer, ItemLossIter,
@@ -69,7 +72,10 @@ pub use self::value::Value;
 /// Losses, client reports, and the ledger that holds losses until they are reported.
 pub mod client_report {
     pub use sentry_items::{ItemLossIter, LossSlice, LossSource};
-    pub use sentry_ledger::{Ledger, LedgerFull, Step, StepAnswer, filter_recorded, run_steps};
+    pub use sentry_ledger::{
+        ForwardFailed, Ledger, LedgerFull, Step, StepAnswer, category_of_type, filter_recorded,
+        forward_recorded, frame_losses, run_steps,
+    };
     pub use sentry_reports::{Category, Item, ItemLoss, Reason, Report};
 }
 
