@@ -183,12 +183,10 @@ class Envelopes(unittest.TestCase):
 
 
 def without_attachments(data: bytes, ledger: Ledger):
-    """Removes attachments and hands on what is left; what is lost is recorded, under its own reason
-    where it has one."""
+    """Removes attachments, and records their bytes as lost."""
     filtered = curdmesa.filter(data, {ItemKind.ATTACHMENT}, keep_headers=True)
     for loss in filtered.losses:
-        reason = Reason.EVENT_PROCESSOR if loss.reason is None else loss.reason
-        ledger.record(loss.category, reason, loss.quantity)
+        ledger.record(loss.category, Reason.EVENT_PROCESSOR, loss.quantity)
     return filtered.envelope
 
 
