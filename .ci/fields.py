@@ -1,4 +1,4 @@
-"""Compares the field tables of docs/FORMAT.md with those of the crates' `specs/`, row by row: key, rule and kind."""
+"""Compares docs/FORMAT.md with the crates' `specs/`: field tables row by row, by key, rule and kind; enumerations by their words."""
 import re
 from pathlib import Path
 
@@ -55,10 +55,10 @@ def phrases(rule, kind):
     """What FORMAT may say behind a key of a rule and a kind."""
     word, _, default = (rule[1:-1] if rule.startswith("(") else rule).partition(" ")
     text = re.fullmatch(r'\(text \(codes "(.*)"\)\)', default)
-    told = f"`{text[1]}`" if text else DEFAULTS[default] if word in ("default", "always") else ""
+    told = f"`{text[1]}`" if text else DEFAULTS.get(default, default) if word in ("default", "always") else ""
     said = RULES[word].format(told) if told is not None else "always" if word == "always" else ""
-    forms = {", ".join(filter(None, (said, KINDS[kind])))}
-    if KINDS[kind] in ("span id", "trace id") or kind == "truth_kind" and told:
+    forms = {", ".join(filter(None, (said, KINDS.get(kind, kind))))}
+    if kind in ("span_id_kind", "trace_id_kind") or kind == "truth_kind" and told:
         forms.add(said)
     return forms
 
@@ -91,8 +91,21 @@ def told():
     return tables
 
 
+def word_faults():
+    """Where the enumerations of FORMAT and the specs differ: the words of each, in order."""
+    rows = re.findall(r"^\| .*\(`(\w+)`\) \| (`.*?) \| .*\|$", FORMAT.read_text(), re.M)
+    in_format = {of: re.findall(r"`([\w.]+)`", re.sub(r"\(.*?\)", "", words)) for of, words in rows}
+    for file in sorted(Path("crates").glob("*/specs/*.antt")):
+        text = file.read_text()
+        for name, of in re.findall(r"^\w+ pub (\w+) : (\w+) → List ℕ$", text, re.M):
+            words = re.findall(rf'^{name} \(?\w+\.\w.* = codes "(.*)"$', text, re.M)
+            if words and in_format.get(of) != words:
+                yield f"{FORMAT}: words of {of}: {in_format.get(of)}, not {words}"
+
+
 def faults():
     """Where FORMAT and the specs differ."""
+    yield from word_faults()
     in_format, in_specs = told(), defined()
     yield from (f"{FORMAT}: no table of {name}" for name in in_specs if name not in in_format)
     for name, rows in in_specs.items():
