@@ -615,7 +615,7 @@ class Header(unittest.TestCase):
     def test_numbers(self):
         enums = re.findall(r"^enum \{(.*?)\};", self.text, re.M | re.S)
         numbers = dict(re.findall(r"CURDMESA_(\w+) = (-?\d+)", " ".join(enums)))
-        sums = {"LOSSES": "120", "LEDGER": "108", "VERSION": "1000"}
+        sums = {"LOSSES": "120", "LEDGER": "108", "VERSION": "2000"}
         self.assertEqual(dict(re.findall(r"#define CURDMESA_(\w+) (\d+)", self.text)), sums)
         kinds = {"": Status, "ITEM_": ItemKind, "CATEGORY_": Category, "REASON_": Reason}
         due = {prefix + each.name: str(each.value) for prefix, kind in kinds.items()
