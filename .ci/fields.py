@@ -1,8 +1,10 @@
-"""Compares docs/FORMAT.md with the crates' `specs/`: field tables row by row, by key, rule and kind; enumerations by their words."""
+"""Compares docs/FORMAT.md with the crates' `specs/`: field tables row by row, by key, rule and kind; enumerations by their
+words. And the keys of the tables by which `bench` makes envelopes."""
 import re
 from pathlib import Path
 
 FORMAT = Path("docs/FORMAT.md")
+SCHEMA = Path("bench/src/schema.rs")
 
 # Tables without a row of their own in FORMAT: those of a container's list, of any kind, and one that lends its text.
 UNTOLD = {"listed_fields", "lent_fields", "LentCrontab"}
@@ -91,6 +93,22 @@ def told():
     return tables
 
 
+def schema_faults(in_specs):
+    """The tables of specs whose keys no table of the schema has. An authentication stands in no envelope."""
+    text, tables = SCHEMA.read_text(), []
+    for begin in re.finditer(r"\b(?:table|open)\(&\[", text):
+        depth, at = 1, begin.end()
+        keys = set()
+        while depth:
+            found = re.compile(r'[\[\]]|\b(?:must|may|drawn)\(\s*"(\w+)"').search(text, at)
+            at = found.end()
+            depth += {"[": 1, "]": -1}.get(found[0], 0)
+            keys |= {found[1]} if found[1] and depth == 1 else set()
+        tables.append(keys)
+    keys = {name: {key for key, _, _ in rows} for name, rows in in_specs.items() if name != "Auth"}
+    yield from (f"{SCHEMA}: no table of {name}: {', '.join(sorted(keys[name]))}" for name in keys if keys[name] not in tables)
+
+
 def word_faults():
     """Where the enumerations of FORMAT and the specs differ: the words of each, in order."""
     rows = re.findall(r"^\| .*\(`(\w+)`\) \| (`.*?) \| .*\|$", FORMAT.read_text(), re.M)
@@ -107,6 +125,7 @@ def faults():
     """Where FORMAT and the specs differ."""
     yield from word_faults()
     in_format, in_specs = told(), defined()
+    yield from schema_faults(in_specs)
     yield from (f"{FORMAT}: no table of {name}" for name in in_specs if name not in in_format)
     for name, rows in in_specs.items():
         said = in_format.get(name, {})
