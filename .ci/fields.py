@@ -1,10 +1,10 @@
 """Compares docs/FORMAT.md with the crates' `specs/`: field tables row by row, by key, rule and kind; enumerations by their
-words. And the keys of the tables by which `bench` makes envelopes."""
+words. And the keys of the tables by which tools/envelopes makes envelopes."""
 import re
 from pathlib import Path
 
 FORMAT = Path("docs/FORMAT.md")
-SCHEMA = Path("bench/src/schema.rs")
+SCHEMA = Path("tools/envelopes/src/schema.rs")
 
 # Tables without a row of their own in FORMAT: those of a container's list, of any kind, and one that lends its text.
 UNTOLD = {"listed_fields", "lent_fields", "LentCrontab"}

@@ -3,18 +3,10 @@
 mod agree;
 mod answers;
 mod compare;
-mod damage;
 mod differences;
-mod envelopes;
-mod forms;
 mod frames;
-mod json;
-mod make;
-mod random;
 mod rows;
-mod schema;
 mod speed;
-mod texts;
 
 use std::process::ExitCode;
 
