@@ -44,8 +44,8 @@ sentry_sdk.flush()
 
 
 def python_with_sdk():
-    """Returns a Python that has sentry_sdk, or None."""
-    for python in sys.executable, "/usr/bin/python3":
+    """Returns a Python that has sentry_sdk: this one, or the system's; or None."""
+    for python in filter(os.path.exists, [sys.executable, "/usr/bin/python3"]):
         ran = subprocess.run([python, "-c", "import sentry_sdk"], stderr=subprocess.DEVNULL)
         if ran.returncode == 0:
             return python
@@ -279,12 +279,14 @@ class Relay(unittest.TestCase):
         self.stop()
         self.assertEqual(self.sink.envelopes, [])
 
-    @unittest.skipUnless(python_with_sdk(), "no sentry_sdk")
     def test_the_sdk_for_python(self):
+        python = python_with_sdk()
+        if python is None:
+            self.skipTest("no sentry_sdk")
         self.start("--drop", "transaction", "--largest", "100")
         dsn = f"http://{KEY}@127.0.0.1:{self.port}/{PROJECT}"
         environment = {**os.environ, "NO_PROXY": "127.0.0.1", "no_proxy": "127.0.0.1"}
-        subprocess.run([python_with_sdk(), "-c", SDK, dsn], check=True, timeout=120,
+        subprocess.run([python, "-c", SDK, dsn], check=True, timeout=120,
                        env=environment)
         self.stop()
         given = Counter(error=7, attachment=1010, transaction=3, span=9)
