@@ -59,16 +59,16 @@ uint32_t curdmesa_version(void);
 enum {
     /* Done; all results are set. */
     CURDMESA_OK = 0,
-    /* The text is longer than `out`, which is unchanged; `*needed` is set, and the filter's
-     * losses. */
+    /* The text is longer than `out`, which is unchanged; `*needed` is set, and the losses of the
+     * calls that filter or forward. */
     CURDMESA_NO_ROOM = 1,
     /* No such moment: past the year 9999, or 10^9 nanoseconds or more. */
     CURDMESA_NO_MOMENT = 2,
     /* The text isn't UTF-8. */
     CURDMESA_NOT_UTF8 = 3,
-    /* The text isn't a timestamp, or isn't a crontab schedule. */
+    /* The text isn't a timestamp, isn't a crontab schedule, or isn't a known word. */
     CURDMESA_INVALID_TEXT = 4,
-    /* A number, an offset or the length of a table is out of range. */
+    /* A number, an offset, an answer or the length of a table is out of range. */
     CURDMESA_INVALID_ARGUMENT = 5,
     /* No item is left; or the ledger holds no loss. */
     CURDMESA_NOTHING_LEFT = 6,
@@ -120,9 +120,17 @@ enum {
     CURDMESA_AUTH_MISSING_PUBLIC_KEY = 32
 };
 
+/*
+ * Writes what a status means to `out`, in English, such as "the text isn't UTF-8".
+ *
+ * CURDMESA_OK, CURDMESA_NO_ROOM, CURDMESA_INVALID_ARGUMENT if no status has the number.
+ */
+int32_t curdmesa_status_text(int32_t status, uint8_t *out, size_t out_len, uint64_t *needed);
+
 /* ---- envelopes ----------------------------------------------------------------------------- */
 
-/* Item types: the number of an item in CurdmesaFrame, and its bit in the filter's `kinds`. */
+/* Item types: the number of an item in CurdmesaFrame and CurdmesaAnyFrame, and its bit in the
+ * filter's `kinds`. */
 enum {
     CURDMESA_ITEM_EVENT = 0,
     CURDMESA_ITEM_SESSION = 1,
@@ -140,6 +148,24 @@ enum {
 
 /* The bit of an item type in the filter's `kinds`. */
 #define CURDMESA_KIND(item) ((uint32_t)1 << (item))
+
+/* The number of every other item type in CurdmesaAnyFrame. */
+#define CURDMESA_ITEM_UNKNOWN UINT32_MAX
+
+/*
+ * Writes the word of an item type to `out`: its `type` in item headers, such as "event".
+ *
+ * CURDMESA_OK, CURDMESA_NO_ROOM, CURDMESA_INVALID_ARGUMENT if `kind` is 11 or more.
+ */
+int32_t curdmesa_item_word(uint32_t kind, uint8_t *out, size_t out_len, uint64_t *needed);
+
+/*
+ * Sets `*kind` to the number of the item type that a word names; unchanged unless the status is
+ * CURDMESA_OK. Doesn't allocate.
+ *
+ * CURDMESA_OK, CURDMESA_NOT_UTF8, CURDMESA_INVALID_TEXT if no item type has the word.
+ */
+int32_t curdmesa_item_of_word(const uint8_t *word, size_t word_len, uint32_t *kind);
 
 /*
  * Parses an envelope and writes its normal form to `out`.
@@ -161,7 +187,7 @@ int32_t curdmesa_envelope_normalize(const uint8_t *bytes, size_t bytes_len, uint
  * CURDMESA_OK, CURDMESA_NO_MOMENT, CURDMESA_UNEXPECTED_EOF to CURDMESA_OUT_OF_MEMORY.
  */
 int32_t curdmesa_envelope_check(const uint8_t *bytes, size_t bytes_len, uint64_t now_secs,
-                                uint32_t now_nanos, uint64_t seed);
+                                uint32_t now_nanos);
 
 /*
  * Parses an envelope, removes items by their type, and writes what is left to `out`.
@@ -212,6 +238,88 @@ typedef struct CurdmesaFrame {
 int32_t curdmesa_frames_next(const uint8_t *bytes, size_t bytes_len, uint64_t *offset,
                              CurdmesaFrame *frame);
 
+/* ---- items of any type --------------------------------------------------------------------- */
+
+/* An item of any type: places of the item, its header and its payload in the envelope's bytes. */
+typedef struct CurdmesaAnyFrame {
+    /* All bytes of the item: the white space in front, its header and payload, and the line feeds.
+     * An envelope is its header line with the line feed, and the bytes of its items. */
+    uint64_t item_offset;
+    uint64_t item_length;
+    /* The item header, from its '{' to its '}'. */
+    uint64_t header_offset;
+    uint64_t header_length;
+    /* The payload, without the line feeds around it. */
+    uint64_t payload_offset;
+    uint64_t payload_length;
+    /* The item type: CURDMESA_ITEM_EVENT to CURDMESA_ITEM_CLIENT_REPORT, or
+     * CURDMESA_ITEM_UNKNOWN. */
+    uint32_t kind;
+} CurdmesaAnyFrame;
+
+/*
+ * Finds the next item of an envelope, of any type, and writes the word of its type to `out`: the
+ * string `type` of the item header, unescaped. Payloads aren't parsed, and of item headers only
+ * `type` and `length` are read; floats are allowed.
+ *
+ * `*offset` is 0 at first, and afterwards what the call before has set: where the next item
+ * begins. With every status but CURDMESA_OK `*offset` and `*frame` are unchanged.
+ *
+ * CURDMESA_OK, CURDMESA_NO_ROOM, CURDMESA_NOTHING_LEFT after the last item,
+ * CURDMESA_INVALID_ARGUMENT if `*offset` is neither 0 nor `bytes_len` nor directly behind a line
+ * feed, CURDMESA_INVALID_HEADER if `*offset` is 0 and the first line isn't one JSON object,
+ * CURDMESA_UNEXPECTED_EOF, CURDMESA_MISSING_NEWLINE, CURDMESA_INVALID_ITEM_HEADER,
+ * CURDMESA_OUT_OF_MEMORY.
+ */
+int32_t curdmesa_any_frames_next(const uint8_t *bytes, size_t bytes_len, uint64_t *offset,
+                                 CurdmesaAnyFrame *frame, uint8_t *out, size_t out_len,
+                                 uint64_t *needed);
+
+/*
+ * Forwards an envelope: writes it to `out` without the items that are dropped, byte for byte.
+ *
+ * `keep` has an answer for each item, in the order of curdmesa_any_frames_next: 1 keeps the item, 0
+ * drops it. With `attachments_follow` all attachments are dropped if an event or a transaction is
+ * dropped and none is kept.
+ *
+ * `losses` has CURDMESA_LOSSES (120) sums, and becomes what is lost with the dropped items, as
+ * curdmesa_frame_losses tells of each; a sum stops at 2^64-1. Losses are set with CURDMESA_OK,
+ * CURDMESA_NO_ROOM and CURDMESA_NOTHING_LEFT, and unchanged with every other status.
+ *
+ * CURDMESA_OK, CURDMESA_NO_ROOM, CURDMESA_NOTHING_LEFT if no item is left,
+ * CURDMESA_INVALID_ARGUMENT if `keep_len` isn't the number of items, an answer is neither 0 nor 1,
+ * or `losses_len` isn't 120, CURDMESA_INVALID_HEADER, CURDMESA_UNEXPECTED_EOF,
+ * CURDMESA_MISSING_NEWLINE, CURDMESA_INVALID_ITEM_HEADER, CURDMESA_OUT_OF_MEMORY.
+ */
+int32_t curdmesa_envelope_forward(const uint8_t *bytes, size_t bytes_len, const uint8_t *keep,
+                                  size_t keep_len, bool attachments_follow, uint8_t *out,
+                                  size_t out_len, uint64_t *needed, uint64_t *losses,
+                                  size_t losses_len);
+
+/*
+ * Sets `losses` to what is lost if an envelope isn't sent: the sums over all its items, as
+ * curdmesa_frame_losses tells of each; a sum stops at 2^64-1. `losses` is unchanged unless the
+ * status is CURDMESA_OK.
+ *
+ * CURDMESA_OK, CURDMESA_INVALID_ARGUMENT if `losses_len` isn't 120, CURDMESA_INVALID_HEADER,
+ * CURDMESA_UNEXPECTED_EOF, CURDMESA_MISSING_NEWLINE, CURDMESA_INVALID_ITEM_HEADER,
+ * CURDMESA_OUT_OF_MEMORY.
+ */
+int32_t curdmesa_envelope_losses(const uint8_t *bytes, size_t bytes_len, uint64_t *losses,
+                                 size_t losses_len);
+
+/*
+ * Sets `losses` to what is lost if an item isn't sent, given its header and its payload. An item
+ * that can't be read counts 1 in the category of its type, an attachment the bytes of its payload,
+ * and an item of a type without a category nothing. `losses` is unchanged unless the status is
+ * CURDMESA_OK.
+ *
+ * CURDMESA_OK, CURDMESA_INVALID_ARGUMENT if `losses_len` isn't 120, CURDMESA_INVALID_ITEM_HEADER,
+ * CURDMESA_OUT_OF_MEMORY.
+ */
+int32_t curdmesa_frame_losses(const uint8_t *header, size_t header_len, const uint8_t *payload,
+                              size_t payload_len, uint64_t *losses, size_t losses_len);
+
 /* ---- small texts --------------------------------------------------------------------------- */
 
 /* A place in a text: `length` bytes from byte `offset` on. Length 0 where there is no text. */
@@ -252,6 +360,27 @@ typedef struct CurdmesaDsn {
 int32_t curdmesa_dsn_parse(const uint8_t *text, size_t text_len, uint8_t *out, size_t out_len,
                            uint64_t *needed, CurdmesaDsn *dsn);
 
+/*
+ * Parses a DSN, and writes the URL of its envelope endpoint to `out`:
+ * SCHEME://HOST:PORT/PATH/api/PROJECT_ID/envelope/, without the port if it is the scheme's default.
+ *
+ * The statuses of curdmesa_dsn_parse.
+ */
+int32_t curdmesa_dsn_envelope_url(const uint8_t *text, size_t text_len, uint8_t *out,
+                                  size_t out_len, uint64_t *needed);
+
+/*
+ * Parses a DSN, and writes a client's X-Sentry-Auth header to `out`: the DSN's keys, protocol
+ * version 7, the timestamp `now`, and the client's name and version, such as "my-client/1.0";
+ * without a client `client_len` is 0.
+ *
+ * CURDMESA_NO_MOMENT, CURDMESA_NOT_UTF8 also if the client isn't, and the statuses of
+ * curdmesa_dsn_parse.
+ */
+int32_t curdmesa_dsn_auth(const uint8_t *text, size_t text_len, uint64_t now_secs,
+                          uint32_t now_nanos, const uint8_t *client, size_t client_len,
+                          uint8_t *out, size_t out_len, uint64_t *needed);
+
 /* The parts of client authentication, as places in the text that was written to `out`. */
 typedef struct CurdmesaAuth {
     CurdmesaPlace public_key;
@@ -280,6 +409,17 @@ typedef struct CurdmesaAuth {
  */
 int32_t curdmesa_auth_parse(const uint8_t *text, size_t text_len, uint8_t *out, size_t out_len,
                             uint64_t *needed, CurdmesaAuth *auth);
+
+/*
+ * Parses client authentication in the query string of a URL, such as
+ * "sentry_key=abc&sentry_version=7", as curdmesa_auth_parse does in a header. Keys and values are
+ * percent-decoded, with the replacement character in place of what isn't UTF-8.
+ *
+ * CURDMESA_OK, CURDMESA_NO_ROOM, CURDMESA_OUT_OF_MEMORY, CURDMESA_AUTH_INVALID_VERSION,
+ * CURDMESA_AUTH_MISSING_PUBLIC_KEY.
+ */
+int32_t curdmesa_auth_from_query(const uint8_t *query, size_t query_len, uint8_t *out,
+                                 size_t out_len, uint64_t *needed, CurdmesaAuth *auth);
 
 /*
  * Parses an RFC 3339 timestamp: seconds since 1970-01-01T00:00:00Z, and nanoseconds. Both are
@@ -337,11 +477,41 @@ enum {
     CURDMESA_REASON_BEFORE_SEND = 7,
     CURDMESA_REASON_SAMPLE_RATE = 8,
     CURDMESA_REASONS = 9,
-    /* In the filter's losses: no reason is known. */
+    /* In losses: no reason is known. */
     CURDMESA_NO_REASON = -1
 };
 
-/* Number of sums in the filter's losses, and the place of one. */
+/*
+ * Writes the word of a category in client reports to `out`, such as "error".
+ *
+ * CURDMESA_OK, CURDMESA_NO_ROOM, CURDMESA_INVALID_ARGUMENT if `category` is 12 or more.
+ */
+int32_t curdmesa_category_word(uint32_t category, uint8_t *out, size_t out_len, uint64_t *needed);
+
+/*
+ * Sets `*category` to the number of the category that a word names; unchanged unless the status is
+ * CURDMESA_OK. Doesn't allocate.
+ *
+ * CURDMESA_OK, CURDMESA_NOT_UTF8, CURDMESA_INVALID_TEXT if no category has the word.
+ */
+int32_t curdmesa_category_of_word(const uint8_t *word, size_t word_len, uint32_t *category);
+
+/*
+ * Writes the word of a reason in client reports to `out`, such as "before_send".
+ *
+ * CURDMESA_OK, CURDMESA_NO_ROOM, CURDMESA_INVALID_ARGUMENT if `reason` is 9 or more.
+ */
+int32_t curdmesa_reason_word(uint32_t reason, uint8_t *out, size_t out_len, uint64_t *needed);
+
+/*
+ * Sets `*reason` to the number of the reason that a word names; unchanged unless the status is
+ * CURDMESA_OK. Doesn't allocate.
+ *
+ * CURDMESA_OK, CURDMESA_NOT_UTF8, CURDMESA_INVALID_TEXT if no reason has the word.
+ */
+int32_t curdmesa_reason_of_word(const uint8_t *word, size_t word_len, uint32_t *reason);
+
+/* Number of sums in losses, and the place of one. */
 #define CURDMESA_LOSSES 120
 #define CURDMESA_LOSS(category, reason) (10 * (category) + (reason) + 1)
 
@@ -360,6 +530,20 @@ enum {
  */
 int32_t curdmesa_ledger_record(uint64_t *ledger, size_t ledger_len, uint32_t category,
                                uint32_t reason, uint64_t quantity);
+
+/*
+ * Adds losses to a ledger, sum by sum: those of a category without a reason under `reason`, all
+ * others under their own.
+ *
+ * A sum is refused, and not added, if the ledger's would exceed 2^64-1; `*refused` becomes the
+ * number of refused sums. With every status but CURDMESA_OK the ledger and `*refused` are
+ * unchanged.
+ *
+ * CURDMESA_OK, CURDMESA_INVALID_ARGUMENT if `reason` is 9 or more, `ledger_len` isn't 108, or
+ * `losses_len` isn't 120.
+ */
+int32_t curdmesa_ledger_record_losses(uint64_t *ledger, size_t ledger_len, const uint64_t *losses,
+                                      size_t losses_len, uint32_t reason, uint64_t *refused);
 
 /*
  * Sets `*quantity` to what a ledger holds of a category and a reason; unchanged unless the status

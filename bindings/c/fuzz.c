@@ -89,7 +89,7 @@ int LLVMFuzzerTestOneInput(const uint8_t *data, size_t size) {
     int32_t status;
     size_t len = 0;
     uint8_t *text = normal_form(bytes, size, &len, &status);
-    wanted(curdmesa_envelope_check(bytes, size, 1595256674, 0, 42) == status,
+    wanted(curdmesa_envelope_check(bytes, size, 1595256674, 0) == status,
            "check and normalize");
     int32_t framed = frames_stand(bytes, size);
     if (text) {

@@ -150,7 +150,7 @@ static void refuses(const char *what, Call *call, int32_t due) {
     "\"event_id\":\"22d00b3f-d1b1-4b5d-8d20-49d138cd8a9c\"}\n"
 
 static int32_t check(const uint8_t *bytes, size_t len) {
-    return curdmesa_envelope_check(bytes, len, 1700000000, 0, 42);
+    return curdmesa_envelope_check(bytes, len, 1700000000, 0);
 }
 
 static void test_normalize(const char *what, const char *text, const char *due) {
@@ -221,8 +221,8 @@ static void test_moments(void) {
            CURDMESA_NO_MOMENT);
     expect("moment", (long long)needed, 0);
     expect("moment", is_untouched(out, 0, 3), 1);
-    expect("moment", curdmesa_envelope_check(bytes, 2, 0, 1000000000, 0), CURDMESA_NO_MOMENT);
-    expect("moment", curdmesa_envelope_check(bytes, 2, 253402300799, 999999999, 0), CURDMESA_OK);
+    expect("moment", curdmesa_envelope_check(bytes, 2, 0, 1000000000), CURDMESA_NO_MOMENT);
+    expect("moment", curdmesa_envelope_check(bytes, 2, 253402300799, 999999999), CURDMESA_OK);
     free(bytes);
     free(out);
 }

@@ -104,11 +104,12 @@ pub extern "C" fn curdmesa_envelope_normalize(
 }
 
 #[tactic(auto, using(crate::proofs::Envelopes::is_spelled))]
-fn checked(alloc: Global, bytes: &[u8], now: Moment, seed: u64) -> Result<(), EnvelopeError>
+fn checked(alloc: Global, bytes: &[u8], now: Moment) -> Result<(), EnvelopeError>
     ensures spelled { OnOk result (IsSpelled bytes.now (moment_cell now)) }
     ensures fault { IfErr result (λ x. x ≢ EnvelopeError.OutOfMemory → Fault profile bytes.now x) }
 {
-    read(alloc, bytes, now, seed)?;
+    // The ids that are drawn are dropped.
+    read(alloc, bytes, now, 0)?;
     Ok(())
 }
 
@@ -126,7 +127,6 @@ pub extern "C" fn curdmesa_envelope_check(
     bytes: &[u8],
     now_secs: u64,
     now_nanos: u32,
-    seed: u64,
 ) -> i32
     ensures spelled { result ≡ OK → IsSpelled bytes.now (moment now_secs now_nanos) }
     ensures fault { (x : Refusal) → result ≡ refusal_status x → x ≢ refusals.OutOfMemory →
@@ -139,7 +139,7 @@ pub extern "C" fn curdmesa_envelope_check(
     let Some(now) = Moment::new(now_secs, now_nanos) else {
         return NO_MOMENT;
     };
-    match checked(alloc, bytes, now, seed) {
+    match checked(alloc, bytes, now) {
         Ok(()) => OK,
         Err(error) => status_of_envelope_error(&error),
     }

@@ -1,7 +1,7 @@
 //! The items of an envelope, as places in its bytes.
 
 ghost use Rattle.std.specs.Prelude.{◌≡◌, ◌≢◌, ◌⊎◌, ◌+◌, ◌<◌, ◌≤◌, [], ℕ, List, IfNone, IfSome, length, min};
-ghost use Rattle.sentry_framing.specs.Framing.{IsFault, IsFirstFrame};
+ghost use Rattle.sentry_framing.specs.Framing.{IsFault, IsFirstFrame, Reading};
 ghost use Rattle.sentry_framing.specs.ItemHeader.{stated_length};
 ghost use Rattle.sentry_framing.specs.ItemWords.{item_words, kind_place};
 ghost use Rattle.sentry_framing.specs.View.{frame_of};
@@ -73,12 +73,12 @@ fn payload_offset(bytes: &[u8], header_end: usize) -> usize
 }
 
 // Returns the places of the first frame of a body, with which the bytes end.
-fn placed(bytes: &[u8], body: &[u8], item: &ItemFrame<'_>, kind: ItemKind) -> CurdmesaFrame
+pub(crate) fn placed(bytes: &[u8], body: &[u8], item: &ItemFrame<'_>, kind: u32) -> CurdmesaFrame
     requires ends { EndsWith bytes.now body.now }
-    requires first { (rest : List ℕ) ×
-        IsFirstFrame (stated_length item_words) body.now (frame_of item.now) rest }
+    requires first { (reads : Reading) × (rest : List ℕ) ×
+        IsFirstFrame reads body.now (frame_of item.now) rest }
     ensures placed { IsPlaced bytes.now result (frame_of item.now) }
-    ensures kind { result.kind ≡ kind_place kind }
+    ensures kind { result.kind ≡ kind }
 {
     let front = skip_space(body);
     let header_offset = bytes.len() - front.len();
@@ -88,7 +88,7 @@ fn placed(bytes: &[u8], body: &[u8], item: &ItemFrame<'_>, kind: ItemKind) -> Cu
         header_length: item.header.len() as u64,
         payload_offset: payload_offset(bytes, header_end) as u64,
         payload_length: item.payload.len() as u64,
-        kind: number_of(kind),
+        kind,
     }
 }
 
@@ -130,7 +130,7 @@ pub extern "C" fn curdmesa_frames_next(
     let body = frames.rest();
     match frames.next_item(alloc) {
         Some(Ok((item, header))) => {
-            *frame = placed(bytes, body, &item, header.kind);
+            *frame = placed(bytes, body, &item, number_of(header.kind));
             *offset = (bytes.len() - frames.rest().len()) as u64;
             OK
         }

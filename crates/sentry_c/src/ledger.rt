@@ -22,13 +22,13 @@ use sentry_types::protocol::v7::client_report::{Category, Reason, Report};
 use sentry_types::protocol::v7::{Envelope, EnvelopeItem, Moment};
 use std::alloc::{AllocError, Global};
 
-fn category_of(number: u32) -> Option<Category>
+pub(crate) fn category_of(number: u32) -> Option<Category>
     ensures { result ≡ slice_get categories number }
 {
     Category::VARIANTS.get(number as usize).copied()
 }
 
-fn reason_of(number: u32) -> Option<Reason>
+pub(crate) fn reason_of(number: u32) -> Option<Reason>
     ensures { result ≡ slice_get reasons number }
 {
     Reason::VARIANTS.get(number as usize).copied()

@@ -6,11 +6,16 @@
 //! a caller owes.
 #![tactic(auto)]
 
+pub mod any_frames;
 pub mod envelope;
 mod filter;
+pub mod forwarding;
 pub mod frames;
+pub mod keys;
 pub mod ledger;
+pub mod losses;
 mod output;
 pub mod status;
 pub mod texts;
 pub mod version;
+pub mod words;

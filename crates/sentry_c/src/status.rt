@@ -4,6 +4,7 @@ ghost use Rattle.std.specs.Prelude.{◌≡◌, ◌≢◌};
 ghost use Rattle.sentry_c.specs.Statuses.{auth_status, dsn_status, refusal_status};
 ghost use Rattle.sentry_framing.specs.declared.error.EnvelopeError.{EnvelopeError as Refusal};
 
+use crate::output::deliver;
 use sentry_types::protocol::v7::EnvelopeError;
 use sentry_types::{ParseAuthError, ParseDsnError};
 
@@ -15,9 +16,9 @@ pub const NO_ROOM: i32 = 1;
 pub const NO_MOMENT: i32 = 2;
 /// The text isn't UTF-8.
 pub const NOT_UTF8: i32 = 3;
-/// The text isn't a timestamp, or isn't a crontab schedule.
+/// The text isn't a timestamp, isn't a crontab schedule, or isn't a known word.
 pub const INVALID_TEXT: i32 = 4;
-/// A number, an offset or the length of a table is out of range.
+/// A number, an offset, an answer or the length of a table is out of range.
 pub const INVALID_ARGUMENT: i32 = 5;
 /// No item is left, or the ledger holds no loss.
 pub const NOTHING_LEFT: i32 = 6;
@@ -77,5 +78,53 @@ pub fn status_of_auth_error(error: &ParseAuthError) -> i32
         ParseAuthError::InvalidVersion => 31,
         ParseAuthError::MissingPublicKey => 32,
         ParseAuthError::Memory => OUT_OF_MEMORY,
+    }
+}
+
+// Returns what a status means; `None` for a number that no status has.
+fn meaning(status: i32) -> Option<&'static str> {
+    match status {
+        0 => Some("success"),
+        1 => Some("the text is longer than the room for it"),
+        2 => Some("no such moment"),
+        3 => Some("the text isn't UTF-8"),
+        4 => Some("the text can't be parsed"),
+        5 => Some("invalid argument"),
+        6 => Some("nothing left"),
+        7 => Some("the ledger is full"),
+        10 => Some("unexpected end of the envelope"),
+        11 => Some("missing envelope header"),
+        12 => Some("missing item header"),
+        13 => Some("missing line feed"),
+        14 => Some("invalid envelope header"),
+        15 => Some("invalid item header"),
+        16 => Some("invalid item payload"),
+        17 => Some("out of memory"),
+        20 => Some("the DSN isn't a URL with a host"),
+        21 => Some("the DSN's scheme is neither http nor https"),
+        22 => Some("the DSN has no public key"),
+        23 => Some("the DSN has no project id"),
+        24 => Some("the DSN's project id is empty"),
+        30 => Some("the authentication isn't Sentry's"),
+        31 => Some("invalid protocol version"),
+        32 => Some("missing public key"),
+        _ => None,
+    }
+}
+
+/// Writes what a status means to `out`, in English.
+///
+/// # Returns
+///
+/// - `OK` if the text was written; `needed` is its length.
+/// - `NO_ROOM` if the text is longer than `out`; `needed` is its length.
+/// - `INVALID_ARGUMENT` if no status has the number.
+#[unsafe(no_mangle)]
+pub extern "C" fn curdmesa_status_text(status: i32, out: &mut [u8], needed: &mut u64) -> i32 {
+    *needed = 0;
+    match meaning(status) {
+        Some(text) if deliver(text.as_bytes(), out, needed) => OK,
+        Some(_) => NO_ROOM,
+        None => INVALID_ARGUMENT,
     }
 }

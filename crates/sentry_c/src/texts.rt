@@ -248,7 +248,7 @@ fn numbers_of(timestamp: Option<Moment>) -> (u64, u32, u32)
 }
 
 // Returns the places in the printed form, of `total` bytes.
-fn parts_of_auth(auth: &Auth, total: usize) -> CurdmesaAuth
+pub(crate) fn parts_of_auth(auth: &Auth, total: usize) -> CurdmesaAuth
     requires { total ≡ length (auth_text (parts_of auth.now)) }
     ensures { ShowsAuth result (parts_of auth.now) }
 {
