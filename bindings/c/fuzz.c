@@ -1,6 +1,6 @@
 /*
- * A fuzz target: of any bytes, what the calls on envelopes answer agrees, and a normal form is its
- * own normal form.
+ * A fuzz target: of any bytes, what the calls on envelopes answer agrees, a normal form is its own
+ * normal form, and what is forwarded is the bytes of the header line and of the kept items.
  *
  *   make fuzz LIB=.. KIT_C=.. && mkdir -p corpus && cp ../../.ci/?*.envelope corpus && ./fuzz corpus
  */
@@ -70,6 +70,117 @@ static int32_t frames_stand(const uint8_t *bytes, size_t len) {
     }
 }
 
+/* What is lost with the frames, one by one, is what is lost with the envelope. */
+static void sums_agree(const uint64_t *each, const uint8_t *bytes, size_t len) {
+    uint64_t *all = (uint64_t *)(void *)block(CURDMESA_LOSSES * sizeof(uint64_t));
+    wanted(curdmesa_envelope_losses(bytes, len, all, CURDMESA_LOSSES) == CURDMESA_OK, "losses");
+    wanted(memcmp(all, each, CURDMESA_LOSSES * sizeof(uint64_t)) == 0, "the same losses");
+    free(all);
+}
+
+static void adds(uint64_t *sums, const uint8_t *bytes, const CurdmesaAnyFrame *frame) {
+    uint64_t *one = (uint64_t *)(void *)block(CURDMESA_LOSSES * sizeof(uint64_t));
+    wanted(curdmesa_frame_losses(bytes + frame->header_offset, (size_t)frame->header_length,
+                                 bytes + frame->payload_offset, (size_t)frame->payload_length, one,
+                                 CURDMESA_LOSSES) == CURDMESA_OK,
+           "losses of a frame");
+    for (int i = 0; i < CURDMESA_LOSSES; i++)
+        sums[i] = sums[i] > UINT64_MAX - one[i] ? UINT64_MAX : sums[i] + one[i];
+    free(one);
+}
+
+/* Forwards each second item, and then all: the bytes that are left are those of the header line and
+ * of the kept items. */
+static void forwards(const uint8_t *bytes, size_t len, const uint8_t *left, size_t left_len,
+                     size_t items) {
+    uint64_t needed = 0, *losses = (uint64_t *)(void *)block(CURDMESA_LOSSES * sizeof(uint64_t));
+    uint8_t *keep = block(items), *out = block(len);
+    for (size_t i = 0; i < items; i++)
+        keep[i] = i % 2 == 0;
+    int32_t status = curdmesa_envelope_forward(bytes, len, keep, items, false, out, len, &needed,
+                                               losses, CURDMESA_LOSSES);
+    wanted(status == (items == 0 ? CURDMESA_NOTHING_LEFT : CURDMESA_OK), "forwarded");
+    wanted(items == 0 || (needed == left_len && memcmp(out, left, left_len) == 0), "what is left");
+    memset(keep, 1, items);
+    status = curdmesa_envelope_forward(bytes, len, keep, items, true, out, len, &needed, losses,
+                                       CURDMESA_LOSSES);
+    wanted(items == 0 || (status == CURDMESA_OK && needed == len && memcmp(out, bytes, len) == 0),
+           "all is left");
+    for (int i = 0; i < CURDMESA_LOSSES; i++)
+        wanted(losses[i] == 0, "nothing lost");
+    free(out);
+    free(keep);
+    free(losses);
+}
+
+/* Items of any type stand in the bytes, one behind the other. */
+static int32_t items_stand(const uint8_t *bytes, size_t len) {
+    uint64_t offset = 0, needed, *losses;
+    losses = (uint64_t *)(void *)block(CURDMESA_LOSSES * sizeof(uint64_t));
+    uint8_t *word = block(len), *left = block(len);
+    size_t left_len = 0, items = 0;
+    CurdmesaAnyFrame frame = {0};
+    int32_t status;
+    while ((status = curdmesa_any_frames_next(bytes, len, &offset, &frame, word, len, &needed)) ==
+           CURDMESA_OK) {
+        if (items == 0) {
+            left_len = (size_t)frame.item_offset;
+            memcpy(left, bytes, left_len);
+        }
+        uint32_t kind = CURDMESA_ITEM_UNKNOWN;
+        wanted((curdmesa_item_of_word(word, (size_t)needed, &kind) == CURDMESA_OK) ==
+                   (frame.kind < CURDMESA_ITEMS),
+               "a word");
+        wanted(kind == frame.kind, "the word's kind");
+        wanted(frame.item_offset + frame.item_length == offset && offset <= len, "items go on");
+        wanted(frame.item_offset <= frame.header_offset &&
+                   frame.header_offset + frame.header_length <= frame.payload_offset &&
+                   frame.payload_offset + frame.payload_length <= offset,
+               "in order");
+        if (items % 2 == 0) {
+            memcpy(left + left_len, bytes + frame.item_offset, (size_t)frame.item_length);
+            left_len += (size_t)frame.item_length;
+        }
+        adds(losses, bytes, &frame);
+        items++;
+    }
+    if (status == CURDMESA_NOTHING_LEFT) {
+        sums_agree(losses, bytes, len);
+        forwards(bytes, len, left, left_len, items);
+    } else
+        wanted(curdmesa_envelope_losses(bytes, len, losses, CURDMESA_LOSSES) == status,
+               "the same refusal");
+    free(word);
+    free(left);
+    free(losses);
+    return status;
+}
+
+/* Any bytes as the small texts whose calls have no parts that the tests don't ask. */
+static void texts(const uint8_t *bytes, size_t len) {
+    uint64_t needed = 0;
+    CurdmesaAuth auth;
+    memset(&auth, 0, sizeof auth);
+    uint32_t number = 0;
+    uint8_t *none = block(0), *out;
+    int32_t status = curdmesa_auth_from_query(bytes, len, none, 0, &needed, &auth);
+    if (status == CURDMESA_NO_ROOM) {
+        out = block((size_t)needed);
+        wanted(curdmesa_auth_from_query(bytes, len, out, (size_t)needed, &needed, &auth) ==
+                   CURDMESA_OK,
+               "the same authentication with room");
+        wanted(auth.public_key.length > 0 &&
+                   auth.public_key.offset + auth.public_key.length <= needed,
+               "a key within");
+        free(out);
+    }
+    curdmesa_dsn_envelope_url(bytes, len, none, 0, &needed);
+    curdmesa_dsn_auth(bytes, len, 5, 0, bytes, len, none, 0, &needed);
+    curdmesa_category_of_word(bytes, len, &number);
+    curdmesa_reason_of_word(bytes, len, &number);
+    free(none);
+}
+
 static void filters(const uint8_t *bytes, size_t len, uint32_t kinds, bool keep) {
     uint64_t needed = 0, *losses = (uint64_t *)(void *)block(CURDMESA_LOSSES * sizeof(uint64_t));
     uint8_t *out = block(len + 512);
@@ -91,10 +202,12 @@ int LLVMFuzzerTestOneInput(const uint8_t *data, size_t size) {
     uint8_t *text = normal_form(bytes, size, &len, &status);
     wanted(curdmesa_envelope_check(bytes, size, 1595256674, 0) == status,
            "check and normalize");
-    int32_t framed = frames_stand(bytes, size);
+    int32_t framed = frames_stand(bytes, size), items = items_stand(bytes, size);
+    texts(bytes, size);
     if (text) {
         is_steady(text, len);
         wanted(framed == CURDMESA_NOTHING_LEFT, "an envelope's frames");
+        wanted(items == CURDMESA_NOTHING_LEFT, "an envelope's items");
         filters(bytes, size, (uint32_t)(size % (1u << CURDMESA_ITEMS)), size & 1);
     }
     free(text);

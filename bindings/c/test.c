@@ -1,8 +1,9 @@
 /*
- * Tests every exported function. Each buffer is a heap block of exactly the length that is told,
- * so that AddressSanitizer sees a read or a write past its end.
+ * Tests every exported function: envelopes, small texts and the ledger here, the rest in
+ * test_items.c. Each buffer is a heap block of exactly the length that is told, so that
+ * AddressSanitizer sees a read or a write past its end.
  */
-#include "curdmesa.h"
+#include "test.h"
 
 #include <stdio.h>
 #include <stdlib.h>
@@ -10,22 +11,21 @@
 
 static int failures;
 
-static void expect(const char *what, long long got, long long due) {
+void expect(const char *what, long long got, long long due) {
     if (got == due)
         return;
     printf("%s: got %lld, expected %lld\n", what, got, due);
     failures++;
 }
 
-static void expect_text(const char *what, const uint8_t *got, size_t len, const char *due) {
+void expect_text(const char *what, const uint8_t *got, size_t len, const char *due) {
     if (len == strlen(due) && memcmp(got, due, len) == 0)
         return;
     printf("%s: got %.*s, expected %s\n", what, (int)len, (const char *)got, due);
     failures++;
 }
 
-/* A block of exactly `len` bytes, one at least where malloc(0) might give null. */
-static uint8_t *block(const void *from, size_t len) {
+uint8_t *block(const void *from, size_t len) {
     uint8_t *to = malloc(len == 0 ? 1 : len);
     if (to == NULL)
         exit(2);
@@ -36,7 +36,7 @@ static uint8_t *block(const void *from, size_t len) {
     return to;
 }
 
-static int is_untouched(const uint8_t *bytes, size_t from, size_t to) {
+int is_untouched(const uint8_t *bytes, size_t from, size_t to) {
     for (size_t i = from; i < to; i++)
         if (bytes[i] != 0xA5)
             return 0;
@@ -44,22 +44,6 @@ static int is_untouched(const uint8_t *bytes, size_t from, size_t to) {
 }
 
 /* ---- texts that are written to a caller's room --------------------------------------------- */
-
-/* A call that writes a text, over all that it needs. */
-typedef struct Call Call;
-struct Call {
-    int32_t (*run)(Call *call, uint8_t *out, size_t out_len, uint64_t *needed);
-    const uint8_t *bytes;
-    size_t len;
-    uint32_t kinds;
-    bool keep, keep_headers;
-    uint64_t *losses;
-    uint64_t *ledger;
-    CurdmesaDsn dsn;
-    CurdmesaAuth auth;
-    uint64_t secs;
-    uint32_t nanos;
-};
 
 static int32_t run_normalize(Call *call, uint8_t *out, size_t out_len, uint64_t *needed) {
     return curdmesa_envelope_normalize(call->bytes, call->len, 1700000000, 0, 42, out, out_len,
@@ -89,11 +73,7 @@ static int32_t run_flush(Call *call, uint8_t *out, size_t out_len, uint64_t *nee
                                  out_len, needed);
 }
 
-/*
- * Runs a call that gives a text: with every room that is too short, with one that fits exactly,
- * and, if it can be repeated, with one that is longer.
- */
-static void gives(const char *what, Call *call, const char *due, int repeated) {
+void gives(const char *what, Call *call, const char *due, int repeated) {
     size_t len = strlen(due);
     for (size_t room = 0; room <= len + (repeated ? 7 : 0); room++) {
         uint8_t *out = block(NULL, room);
@@ -111,8 +91,7 @@ static void gives(const char *what, Call *call, const char *due, int repeated) {
     }
 }
 
-/* Runs a call that gives no text. */
-static void refuses(const char *what, Call *call, int32_t due) {
+void refuses(const char *what, Call *call, int32_t due) {
     uint8_t *out = block(NULL, 400);
     uint64_t needed = 99;
     expect(what, call->run(call, out, 400, &needed), due);
@@ -251,7 +230,7 @@ static void test_beginnings(void) {
 
 /* ---- the filter ---------------------------------------------------------------------------- */
 
-static void expect_losses(const char *what, const uint64_t *losses, const uint64_t *due) {
+void expect_losses(const char *what, const uint64_t *losses, const uint64_t *due) {
     for (int i = 0; i < CURDMESA_LOSSES; i++)
         expect(what, (long long)losses[i], (long long)due[i]);
 }
@@ -410,8 +389,7 @@ static void test_frames(void) {
 
 /* ---- small texts --------------------------------------------------------------------------- */
 
-/* Runs a call on a text in a block of its own; the printed form is left in `out`. */
-static int32_t run_text(Call *call, const char *text, uint8_t *out, size_t room, uint64_t *needed) {
+int32_t run_text(Call *call, const char *text, uint8_t *out, size_t room, uint64_t *needed) {
     uint8_t *bytes = block(text, strlen(text));
     call->bytes = bytes;
     call->len = strlen(text);
@@ -420,7 +398,7 @@ static int32_t run_text(Call *call, const char *text, uint8_t *out, size_t room,
     return status;
 }
 
-static void expect_part(const char *what, const uint8_t *out, CurdmesaPlace place,
+void expect_part(const char *what, const uint8_t *out, CurdmesaPlace place,
                         const char *due) {
     expect_text(what, out + place.offset, (size_t)place.length, due);
 }
@@ -708,6 +686,7 @@ int main(void) {
     test_times();
     test_crontabs();
     test_ledger();
+    test_items();
     if (failures == 0)
         puts("ok");
     else

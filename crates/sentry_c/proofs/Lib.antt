@@ -4,3 +4,5 @@ pub mod Rows
 pub mod Parts
 pub mod Envelopes
 pub mod Filtering
+pub mod Items
+pub mod Asking

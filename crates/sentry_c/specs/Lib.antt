@@ -2,6 +2,9 @@ pub mod Statuses
 pub mod Output
 pub mod Places
 pub mod Frames
+pub mod AnyFrames
+pub mod Forwarding
+pub mod Words
 pub mod Kinds
 pub mod Losses
 pub mod Filtering

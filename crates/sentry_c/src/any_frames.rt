@@ -1,12 +1,18 @@
 //! The items of an envelope of any type, as places in its bytes.
 
-ghost use Rattle.std.specs.Prelude.{◌≡◌, ◌≢◌, ◌⊎◌, [], ℕ, List, Some, IfErr, IfNone, IfOk, IfSome, length};
+ghost use Rattle.std.specs.Prelude.{◌≡◌, ◌≢◌, ◌⊎◌, ◌++◌, [], ℕ, List, Some, IfErr, IfNone, IfOk, IfSome, length};
 ghost use Rattle.sentry_framing.specs.Framing.{IsFault, IsFirstFrame};
+ghost use Rattle.sentry_framing.specs.ItemWords.{kind_of_word};
 ghost use Rattle.sentry_framing.specs.View.{frame_of};
 ghost use Rattle.sentry_framing.specs.declared.error.EnvelopeError.{EnvelopeError as Refusal};
 ghost use Rattle.sentry_framing.specs.declared.error.EnvelopeError.TheVariants as refusals;
 ghost use Rattle.sentry_forward.specs.AnyHeader.{any_header, any_reading};
 ghost use Rattle.sentry_forward.specs.HeaderView.{any_view};
+ghost use Rattle.sentry_c.specs.AnyFrames.{FindsItem, IsItemFault, IsItemPlaced, IsNextWord, ItemsFrom, kind_number};
+ghost use Rattle.sentry_c.specs.Frames.{MayBegin};
+ghost use Rattle.sentry_c.specs.Output.{IsTooLong, Puts};
+ghost use Rattle.sentry_c.specs.Places.{EndsWith};
+ghost use Rattle.sentry_c.specs.Statuses.{refusal_status};
 
 use crate::frames::{number_of, placed};
 use crate::output::deliver;
@@ -39,7 +45,9 @@ pub struct CurdmesaAnyFrame {
     pub kind: u32,
 }
 
-fn number_of_word(word: &str) -> u32 {
+fn number_of_word(word: &str) -> u32
+    ensures { result ≡ kind_number (kind_of_word word.now) }
+{
     match ItemKind::from_word(word) {
         Some(kind) => number_of(kind),
         None => ITEM_UNKNOWN,
@@ -48,7 +56,15 @@ fn number_of_word(word: &str) -> u32 {
 
 // Returns the bytes from an offset on, at 0 those behind the header line; `None` if no item can
 // begin there.
-fn body_from(alloc: Global, bytes: &[u8], offset: usize) -> Result<Option<&[u8]>, EnvelopeError> {
+fn body_from(alloc: Global, bytes: &[u8], offset: usize) -> Result<Option<&[u8]>, EnvelopeError>
+    ensures body { IfOk result (λ found. IfSome found (λ body.
+        ItemsFrom bytes.now offset body.now)) }
+    ensures may { IfOk result (λ found. IfSome found (λ body. MayBegin bytes.now offset)) }
+    ensures none { IfOk result (λ found. IfNone found (¬ MayBegin bytes.now offset)) }
+    ensures start { IfErr result (λ e. offset ≡ 0) }
+    ensures fault { IfErr result (λ e. e ≢ EnvelopeError.OutOfMemory →
+        IsItemFault bytes.now offset e) }
+{
     if offset == 0 {
         let frames = AnyFrames::new(alloc, bytes)?;
         return Ok(Some(frames.rest()));
@@ -83,7 +99,13 @@ fn placed_item(
     rest: &[u8],
     item: &ItemFrame<'_>,
     kind: u32,
-) -> CurdmesaAnyFrame {
+) -> CurdmesaAnyFrame
+    requires ends { EndsWith bytes.now body.now }
+    requires first { IsFirstFrame any_reading body.now (frame_of item.now) rest.now }
+    ensures placed { (whole : List ℕ) × (body.now ≡ whole ++ rest.now) ×
+        IsItemPlaced bytes.now result whole (frame_of item.now) }
+    ensures kind { result.kind ≡ kind }
+{
     let frame = placed(bytes, body, item, kind);
     CurdmesaAnyFrame {
         item_offset: (bytes.len() - body.len()) as u64,
@@ -120,7 +142,23 @@ pub extern "C" fn curdmesa_any_frames_next(
     frame: &mut CurdmesaAnyFrame,
     out: &mut [u8],
     needed: &mut u64,
-) -> i32 {
+) -> i32
+    ensures found { result ≡ OK →
+        Puts (FindsItem bytes.now offset.old frame.new offset.new) out.old out.new needed.new }
+    ensures no_room { result ≡ NO_ROOM →
+        IsTooLong (IsNextWord bytes.now offset.old) out.old needed.new }
+    ensures nothing { result ≡ NOTHING_LEFT → ItemsFrom bytes.now offset.old [] }
+    ensures fault { (x : Refusal) → result ≡ refusal_status x → x ≢ refusals.OutOfMemory →
+        IsItemFault bytes.now offset.old x }
+    ensures argument { result ≡ INVALID_ARGUMENT → ¬ MayBegin bytes.now offset.old }
+    ensures may { result ≢ INVALID_ARGUMENT → MayBegin bytes.now offset.old }
+    ensures offset_unchanged { result ≢ OK → offset.new ≡ offset.old }
+    ensures frame_unchanged { result ≢ OK → frame.new ≡ frame.old }
+    ensures unchanged { result ≢ OK → out.new ≡ out.old }
+    ensures no_text { result ≢ OK → result ≢ NO_ROOM → needed.new ≡ 0 }
+    ensures answers { (result ≡ OK) ⊎ ((result ≡ NO_ROOM) ⊎ ((result ≡ NOTHING_LEFT) ⊎
+        ((result ≡ INVALID_ARGUMENT) ⊎ ((x : Refusal) × (result ≡ refusal_status x))))) }
+{
     *needed = 0;
     let body = match body_from(alloc, bytes, *offset as usize) {
         Ok(Some(body)) => body,

@@ -1,38 +1,14 @@
 //! Forwarding envelopes.
 
+use crate::answered::{are_answers, forward_answered};
 use crate::losses::sums_of_frames;
 use crate::output::deliver;
 use crate::status::{
     INVALID_ARGUMENT, NO_ROOM, NOTHING_LEFT, OK, OUT_OF_MEMORY, status_of_envelope_error,
 };
 use sentry_ledger::loss_sums::SUMS;
-use sentry_types::protocol::v7::{AnyFrame, ForwardError, ForwardRules, Forwarded, forward_by};
+use sentry_types::protocol::v7::{ForwardError, ForwardRules};
 use std::alloc::Global;
-
-// Whether each answer is 0 or 1.
-fn are_answers(keep: &[u8]) -> bool {
-    keep.iter().all(|answer| *answer <= 1)
-}
-
-// Forwards an envelope by the answers, one for each item; an item without an answer is dropped.
-pub(crate) fn forward_answered<'a>(
-    alloc: Global,
-    bytes: &'a [u8],
-    rules: ForwardRules,
-    keep: &[u8],
-) -> Result<Forwarded<'a>, ForwardError> {
-    let mut left = keep;
-    let mut filter = |_: &AnyFrame<'_>| -> bool {
-        match left.split_first() {
-            Some((answer, rest)) => {
-                left = rest;
-                *answer == 1
-            }
-            None => false,
-        }
-    };
-    forward_by(alloc, bytes, rules, &mut filter)
-}
 
 /// Forwards an envelope: writes it to `out` without the items that are dropped, byte for byte.
 ///

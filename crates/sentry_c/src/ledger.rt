@@ -22,13 +22,13 @@ use sentry_types::protocol::v7::client_report::{Category, Reason, Report};
 use sentry_types::protocol::v7::{Envelope, EnvelopeItem, Moment};
 use std::alloc::{AllocError, Global};
 
-pub(crate) fn category_of(number: u32) -> Option<Category>
+pub(crate) fn category_at(number: u32) -> Option<Category>
     ensures { result ≡ slice_get categories number }
 {
     Category::VARIANTS.get(number as usize).copied()
 }
 
-pub(crate) fn reason_of(number: u32) -> Option<Reason>
+pub(crate) fn reason_at(number: u32) -> Option<Reason>
     ensures { result ≡ slice_get reasons number }
 {
     Reason::VARIANTS.get(number as usize).copied()
@@ -47,8 +47,8 @@ fn place_in(ledger: &[u64], category: u32, reason: u32) -> Option<usize>
     if ledger.len() != PAIRS {
         return None;
     }
-    let category = category_of(category)?;
-    let reason = reason_of(reason)?;
+    let category = category_at(category)?;
+    let reason = reason_at(reason)?;
     Some(pair_place(category, reason))
 }
 

@@ -6,6 +6,7 @@
 //! a caller owes.
 #![tactic(auto)]
 
+mod answered;
 pub mod any_frames;
 pub mod envelope;
 mod filter;

@@ -1,7 +1,7 @@
 //! What is lost with envelopes and items that aren't sent, and losses that a ledger records.
 
-use crate::forwarding::forward_answered;
-use crate::ledger::reason_of;
+use crate::answered::forward_answered;
+use crate::ledger::reason_at;
 use crate::status::{INVALID_ARGUMENT, OK, OUT_OF_MEMORY, status_of_envelope_error};
 use sentry_forward::header::read_any_header;
 use sentry_ledger::loss_sums::{LossSums, SUMS};
@@ -170,7 +170,7 @@ pub extern "C" fn curdmesa_ledger_record_losses(
     reason: u32,
     refused: &mut u64,
 ) -> i32 {
-    let Some(reason) = reason_of(reason) else {
+    let Some(reason) = reason_at(reason) else {
         return INVALID_ARGUMENT;
     };
     if ledger.len() != PAIRS || losses.len() != SUMS {

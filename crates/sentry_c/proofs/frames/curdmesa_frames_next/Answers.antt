@@ -1,4 +1,4 @@
-use Rattle.std.proofs.Common.{arith}
+use Rattle.std.proofs.Common.{arith, ◌∙◌}
 use Rattle.sentry_framing.specs.HeaderView.{header_view}
 use Rattle.sentry_framing.specs.View.{frame_of}
 use Rattle.sentry_c.specs.Places.{EndsWith}
@@ -29,5 +29,5 @@ returns-in-Some-Ok-clause-found c = λ _.
       placed = c.placed.ensures.placed;
       fields = header_view c.in-Some-Ok.header;
       reads = reads;
-      kind = c.placed.ensures.kind;
+      kind = c.placed.ensures.kind ∙ c.number_of.ensures.place;
     }
