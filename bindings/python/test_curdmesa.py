@@ -790,8 +790,8 @@ class Header(unittest.TestCase):
         synopsis = page[page.index(".SH SYNOPSIS") : page.index(".SH DESCRIPTION")]
         declared = re.findall(r"u?int32_t curdmesa_\w+\(.*?\);", self.text, re.S)
         shown = re.sub(r"^\.BI|[\s\"]", "", synopsis, flags=re.M)
-        self.assertEqual(re.findall(r"u?int32_tcurdmesa_\w+\(.*?\);", shown),
-                         [re.sub(r"\s", "", one) for one in declared])
+        self.assertEqual(sorted(re.findall(r"u?int32_tcurdmesa_\w+\(.*?\);", shown)),
+                         sorted(re.sub(r"\s", "", one) for one in declared))
 
     def test_structs(self):
         found = re.findall(r"^typedef struct Curdmesa(\w+) \{(.*?)\}", self.text, re.M | re.S)
