@@ -32,7 +32,7 @@ static int32_t check(int32_t status) {
 
 /* Records losses. One that would exceed 2^64-1 is refused. */
 static void record(const uint64_t *losses, uint32_t reason) {
-    uint64_t refused = 0;
+    uint64_t refused;
     check(curdmesa_ledger_record_losses(ledger, CURDMESA_LEDGER, losses, CURDMESA_LOSSES, reason,
                                         &refused));
 }
@@ -40,9 +40,9 @@ static void record(const uint64_t *losses, uint32_t reason) {
 /* Prints an envelope without its attachments, and records what is lost with them. */
 static void send_without_attachments(const Envelope *it) {
     static uint8_t out[LONGEST];
-    uint8_t keep[ITEMS], word[64] = {0};
-    uint64_t losses[CURDMESA_LOSSES] = {0}, offset = 0, needed = 0;
-    CurdmesaAnyFrame frame = {0};
+    uint8_t keep[ITEMS], word[64];
+    uint64_t losses[CURDMESA_LOSSES], offset = 0, needed;
+    CurdmesaAnyFrame frame;
     size_t items = 0;
     while (items < ITEMS &&
            check(curdmesa_any_frames_next(it->bytes, it->len, &offset, &frame, word, sizeof word,
@@ -56,7 +56,7 @@ static void send_without_attachments(const Envelope *it) {
 
 int main(int argc, char **argv) {
     static Envelope queue[ROOM], report;
-    uint64_t losses[CURDMESA_LOSSES] = {0}, needed = 0;
+    uint64_t losses[CURDMESA_LOSSES], needed;
     for (int at = 1; at < argc; at++) {
         Envelope *it = &queue[at % ROOM];
         if (at > ROOM) { /* The oldest one makes room. */

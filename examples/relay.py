@@ -1,12 +1,14 @@
 """A relay: takes envelopes from Sentry's SDKs, drops items, forwards the rest byte for byte, and
 reports what it lost. It needs the package curdmesa, and Python's standard library.
 
-    relay.py DSN [--port PORT] [--drop TYPE]... [--largest BYTES] [--seconds SECONDS]
+    relay.py DSN [--port PORT] [--drop TYPE]... [--largest BYTES] [--room ENVELOPES]
+             [--seconds SECONDS]
 
 It listens on 127.0.0.1, prints its port, and sends on to the server of the DSN. A client's DSN is
 that DSN with the relay's host and port. `--drop` names item types that are dropped, known ones or
-not, and attachments above `--largest` bytes are dropped too. A report is due every so many seconds.
-SIGINT or SIGTERM ends the relay once all that waits is sent.
+not, and attachments above `--largest` bytes are dropped too, as are envelopes for which there is no
+room while others wait. A report is due every so many seconds. SIGINT or SIGTERM ends the relay once
+all that waits is sent.
 
 A client is answered 200 once its envelope waits to be sent. What the relay drops or can't send after
 that is in its reports, so in each data category what came in is what went out and what was reported.
@@ -17,15 +19,14 @@ encoding. An event that an older client posts by itself is framed.
 
 import argparse
 import contextlib
+import http.client
 import http.server
 import json
 import queue
 import signal
 import threading
 import time
-import urllib.error
 import urllib.parse
-import urllib.request
 import zlib
 
 import curdmesa
@@ -33,16 +34,14 @@ from curdmesa import Auth, Dsn, ItemKind, Ledger, Reason
 
 #: The longest body, and the longest envelope that it may unpack to, in bytes.
 LONGEST_BODY, LONGEST_ENVELOPE = 1 << 20, 8 << 20
-#: How many envelopes may wait to be sent.
-ROOM = 100
 
 
 class Relay:
     """Drops, queues and sends envelopes, and keeps a ledger of what is lost."""
 
-    def __init__(self, dsn, drop, largest, seconds):
+    def __init__(self, dsn, drop, largest, room, seconds):
         self.dsn, self.drop, self.largest, self.seconds = dsn, drop, largest, seconds
-        self.ledger, self.waiting = Ledger(), queue.Queue(ROOM)
+        self.ledger, self.waiting = Ledger(), queue.Queue(room)
 
     def keep(self, frame):
         """Tells whether an item is forwarded."""
@@ -67,20 +66,29 @@ class Relay:
         self.ledger.record_losses(curdmesa.losses(envelope), reason)
 
     def send(self, envelope):
-        """Sends an envelope, or records its losses. What a server answers with 429 it counts."""
+        """Sends an envelope, or records its losses."""
+        status = self.post(envelope)
+        if status is None:
+            self.lose(envelope, Reason.NETWORK_ERROR)
+        elif not 200 <= status < 300 and status != 429:  # what is answered 429 the server counts
+            self.lose(envelope, Reason.SEND_ERROR)
+
+    def post(self, envelope):
+        """Posts an envelope to the server. Returns its status, or None if it doesn't answer."""
+        kind = http.client.HTTPSConnection if self.dsn.is_https else http.client.HTTPConnection
+        connection = kind(self.dsn.host, self.dsn.port, timeout=10)
+        path = urllib.parse.urlsplit(self.dsn.envelope_url()).path
         headers = {
             "X-Sentry-Auth": self.dsn.auth("curdmesa-relay/1.0"),
             "Content-Type": "application/x-sentry-envelope",
         }
-        request = urllib.request.Request(self.dsn.envelope_url(), envelope, headers)
         try:
-            urllib.request.urlopen(request, timeout=10).close()
-        except urllib.error.HTTPError as error:
-            error.close()
-            if error.code != 429:
-                self.lose(envelope, Reason.SEND_ERROR)
-        except OSError:
-            self.lose(envelope, Reason.NETWORK_ERROR)
+            connection.request("POST", path, envelope, headers)
+            return connection.getresponse().status
+        except (OSError, http.client.HTTPException):
+            return None
+        finally:
+            connection.close()
 
     def report(self):
         """Sends what was lost since the last report, if anything was."""
@@ -207,13 +215,14 @@ def main():
     parser.add_argument("--port", type=int, default=0, help="default: one that is free")
     parser.add_argument("--drop", action="append", default=[], metavar="TYPE")
     parser.add_argument("--largest", type=int, default=LONGEST_ENVELOPE, metavar="BYTES")
+    parser.add_argument("--room", type=int, default=100, help="envelopes that may wait")
     parser.add_argument("--seconds", type=float, default=60.0, help="between reports")
     given = parser.parse_args()
     try:
         dsn = Dsn.parse(given.dsn)
     except curdmesa.DsnError as error:
         parser.error(f"{given.dsn}: {error}")
-    relay = Handler.relay = Relay(dsn, given.drop, given.largest, given.seconds)
+    relay = Handler.relay = Relay(dsn, given.drop, given.largest, given.room, given.seconds)
     server = http.server.ThreadingHTTPServer(("127.0.0.1", given.port), Handler)
     server.daemon_threads = False  # so that each request is answered before the end
     sender = threading.Thread(target=relay.run)

@@ -5,9 +5,11 @@ import gzip
 import http.client
 import http.server
 import json
+import os
 import subprocess
 import sys
 import threading
+import time
 import unittest
 import zlib
 from collections import Counter
@@ -42,8 +44,8 @@ sentry_sdk.flush()
 
 
 def python_with_sdk():
-    """Returns a Python that has sentry_sdk, or None."""
-    for python in sys.executable, "/usr/bin/python3":
+    """Returns a Python that has sentry_sdk: this one, or the system's; or None."""
+    for python in filter(os.path.exists, [sys.executable, "/usr/bin/python3"]):
         ran = subprocess.run([python, "-c", "import sentry_sdk"], stderr=subprocess.DEVNULL)
         if ran.returncode == 0:
             return python
@@ -82,14 +84,16 @@ def counts(envelopes):
 
 
 class Sink(http.server.ThreadingHTTPServer):
-    """A server that keeps each envelope it accepts. It answers the next requests with `answers`, and
-    all others with 200."""
+    """A server that keeps each envelope it accepts. It answers the next requests with `answers`,
+    where None is no status, and all others with 200."""
 
     daemon_threads = True
 
     def __init__(self, port=0):
         super().__init__(("127.0.0.1", port), SinkHandler)
         self.envelopes, self.auths, self.answers = [], [], []
+        self.is_open = threading.Event()
+        self.is_open.set()
         threading.Thread(target=self.serve_forever, daemon=True).start()
 
     @property
@@ -118,12 +122,17 @@ class Sink(http.server.ThreadingHTTPServer):
 class SinkHandler(http.server.BaseHTTPRequestHandler):
     def do_POST(self):
         body = self.rfile.read(int(self.headers["Content-Length"]))
+        self.server.is_open.wait()
         status = self.server.answers.pop(0) if self.server.answers else 200
         if status == 200:
             self.server.envelopes.append(body)
             self.server.auths.append((self.path, self.headers["X-Sentry-Auth"]))
+        if status is None:
+            self.wfile.write(b"nonsense\r\n\r\n")
+            return
         self.send_response(status)
         self.send_header("Content-Length", "0")
+        self.send_header("Location", self.path)  # which a 302 doesn't have the relay follow
         self.end_headers()
 
     def log_message(self, *_):
@@ -196,35 +205,52 @@ class Relay(unittest.TestCase):
         self.assertTrue(report)
 
     def test_what_a_server_refuses_is_reported(self):
-        self.start("--seconds", "0.2")
-        self.sink.answers += [503, 429, 400]
-        for name in "event", "session", "transaction", "log":
+        self.start()
+        self.sink.answers += [503, 429, 400, 302]
+        for name in "event", "session", "transaction", "attachment", "log":
             self.post(read(name))
         self.stop()
         # (What is answered with 429 is counted by the server.)
         lost = {("error", "send_error"): 1, ("transaction", "send_error"): 1,
-                ("span", "send_error"): 2}
+                ("span", "send_error"): 2, ("attachment", "send_error"): 10}
         self.assertEqual(self.sink.reported, lost)
         self.assertIn(read("log"), self.sink.envelopes)
+
+    def test_what_has_no_room_is_reported(self):
+        self.start("--room", "2")
+        self.sink.is_open.clear()
+        # One is on its way at most, and two wait.
+        for _ in range(5):
+            self.post(read("event"))
+        self.sink.is_open.set()
+        self.stop()
+        sent = counts(self.sink.envelopes)["error"]
+        self.assertIn(sent, (2, 3))
+        self.assertEqual(self.sink.reported, {("error", "queue_overflow"): 5 - sent})
 
     def test_a_report_that_is_not_sent_is_put_back(self):
         self.start("--drop", "event", "--seconds", "0.2")
         self.sink.answers += [503] * 3
         self.post(read("event"))
         while self.sink.answers:
-            threading.Event().wait(0.05)
+            time.sleep(0.05)
         self.stop()
         self.assertEqual(self.sink.reported, {("error", "event_processor"): 1})
 
     def test_what_reaches_no_server_is_reported(self):
         self.start("--seconds", "0.2")
-        port = self.sink.server_address[1]
-        self.sink.close()
+        self.sink.answers += [None]
+        self.post(read("session"))
+        while self.sink.answers:
+            time.sleep(0.05)
+        first = self.sink
+        first.close()
         self.post(read("event"))
-        threading.Event().wait(0.5)
-        self.sink = Sink(port)
+        time.sleep(0.5)
+        self.sink = Sink(first.server_address[1])
         self.stop()
-        self.assertEqual(self.sink.reported, {("error", "network_error"): 1})
+        lost = {("error", "network_error"): 1, ("session", "network_error"): 1}
+        self.assertEqual(first.reported + self.sink.reported, lost)
 
     def test_refusals(self):
         self.start()
@@ -253,11 +279,15 @@ class Relay(unittest.TestCase):
         self.stop()
         self.assertEqual(self.sink.envelopes, [])
 
-    @unittest.skipUnless(python_with_sdk(), "no sentry_sdk")
     def test_the_sdk_for_python(self):
+        python = python_with_sdk()
+        if python is None:
+            self.skipTest("no sentry_sdk")
         self.start("--drop", "transaction", "--largest", "100")
         dsn = f"http://{KEY}@127.0.0.1:{self.port}/{PROJECT}"
-        subprocess.run([python_with_sdk(), "-c", SDK, dsn], check=True, timeout=120)
+        environment = {**os.environ, "NO_PROXY": "127.0.0.1", "no_proxy": "127.0.0.1"}
+        subprocess.run([python, "-c", SDK, dsn], check=True, timeout=120,
+                       env=environment)
         self.stop()
         given = Counter(error=7, attachment=1010, transaction=3, span=9)
         self.assertEqual(counts(self.sink.envelopes), Counter(error=7, attachment=10))

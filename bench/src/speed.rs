@@ -60,7 +60,7 @@ impl Work {
     /// accepted.
     fn accepts(self, bytes: &[u8], out: &mut Vec<u8>) -> bool {
         match self {
-            Work::OursRead => curdmesa::check(bytes, NOW, SEED).is_ok(),
+            Work::OursRead => curdmesa::check(bytes, NOW).is_ok(),
             Work::OursBoth => black_box(&curdmesa::normalize_into(bytes, NOW, SEED, out)).is_ok(),
             Work::TheirsRead => black_box(&Envelope::from_slice(bytes)).is_ok(),
             Work::TheirsBoth => {

@@ -15,9 +15,8 @@ from .words import Category, Reason, member
 class Ledger:
     """The quantity of each category that was lost for each reason and isn't reported yet. Threads
     may share a ledger: its calls wait for each other. A finalizer or a handler of signals that runs
-    during such a call may record a loss too; a child that is forked meanwhile may not.
-
-    A ledger is pickled and copied with its losses, as they are at that moment.
+    during such a call may record a loss too. In a child that is forked while another thread is in
+    such a call the ledger stays locked. Pickling and copying take its losses along.
     """
 
     def __init__(self, sums: Iterable[int] = ()) -> None:
