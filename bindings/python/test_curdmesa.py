@@ -2,6 +2,7 @@
 
 import copy
 import ctypes
+import doctest
 import importlib.util
 import json
 import os
@@ -189,6 +190,14 @@ def without_attachments(data: bytes, ledger: Ledger):
     for loss in filtered.losses:
         ledger.record(loss.category, Reason.EVENT_PROCESSOR, loss.quantity)
     return filtered.envelope
+
+
+class Documentation(unittest.TestCase):
+    def test_examples(self):
+        modules = [it for name, it in sys.modules.items() if name.startswith("curdmesa.")]
+        results = [doctest.testmod(module) for module in modules]
+        self.assertEqual(sum(result.failed for result in results), 0)
+        self.assertGreater(sum(result.attempted for result in results), 10)
 
 
 class Filters(unittest.TestCase):

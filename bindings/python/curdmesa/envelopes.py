@@ -32,6 +32,11 @@ def normalize(data: Data, now: Optional[When] = None, seed: Optional[int] = None
     events without an id get the same id. Raises NoMoment, the EnvelopeError of the first check that
     fails, OutOfMemory, ValueError for a datetime without a time zone or a seed outside 0 to 2^64-1,
     and TypeError for a number that isn't whole.
+
+    >>> print(normalize(b'{}\\n{"type":"replay_recording"}\\nabc').decode(), end="")
+    {}
+    {"length":3,"type":"replay_recording"}
+    abc
     """
     data, drawn_from = data_bytes(data), _drawn_from(now, seed)
     return written(

@@ -96,6 +96,13 @@ def forward(
     on. With `attachments_follow` all attachments are dropped if an event or a transaction is dropped
     and none is kept. Raises the errors of any_frames; `keep` wasn't called then, except for
     OutOfMemory.
+
+    >>> data = b'{}\\n{"type":"x"}\\n1.5\\n{"type":"attachment"}\\nab'
+    >>> left = forward(data, lambda item: item.kind != ItemKind.ATTACHMENT)
+    >>> left.envelope
+    b'{}\\n{"type":"x"}\\n1.5\\n'
+    >>> left.losses
+    [Loss(category=<Category.ATTACHMENT: 4>, reason=None, quantity=2)]
     """
     data = data_bytes(data)
     answers = bytes([bool(keep(frame)) for frame in list(_any_frames(data))])

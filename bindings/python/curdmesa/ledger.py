@@ -17,6 +17,13 @@ class Ledger:
     may share a ledger: its calls wait for each other. A finalizer or a handler of signals that runs
     during such a call may record a loss too. In a child that is forked while another thread is in
     such a call the ledger stays locked. Pickling and copying take its losses along.
+
+    >>> ledger = Ledger()
+    >>> ledger.record(Category.ERROR, Reason.NETWORK_ERROR, 2)
+    >>> ledger.flush((60, 0)).splitlines()[-1].decode()
+    '{"discarded_events":[{"category":"error","quantity":2,"reason":"network_error"}],"timestamp":60}'
+    >>> ledger.flush() is None
+    True
     """
 
     def __init__(self, sums: Iterable[int] = ()) -> None:

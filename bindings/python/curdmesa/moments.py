@@ -55,6 +55,9 @@ def rfc3339_parse(text: Text) -> Moment:
     """Parses an RFC 3339 timestamp, from 1970 to the year 9999.
 
     Raises NotUtf8, and InvalidText, also for another year.
+
+    >>> rfc3339_parse("1970-01-01T01:00:01.50+01:00")
+    Moment(secs=1, nanos=500000000)
     """
     data = text_bytes(text)
     secs, nanos = U64(0), U32(0)

@@ -12,7 +12,12 @@ from .moments import Moment, When
 
 @dataclass(frozen=True)
 class Dsn:
-    """A DSN: where a client sends its envelopes, and its keys. Its text is the printed form."""
+    """A DSN: where a client sends its envelopes, and its keys. Its text is the printed form.
+
+    >>> dsn = Dsn.parse("https://key@o42.ingest.sentry.io/7")
+    >>> dsn.public_key, dsn.project_id, dsn.org_id, dsn.envelope_url()
+    ('key', '7', 42, 'https://o42.ingest.sentry.io/api/7/envelope/')
+    """
 
     text: str
     is_https: bool
@@ -81,7 +86,11 @@ class Dsn:
 
 @dataclass(frozen=True)
 class Auth:
-    """The value of an X-Sentry-Auth header. Its text is the printed form."""
+    """The value of an X-Sentry-Auth header. Its text is the printed form.
+
+    >>> Auth.parse("Sentry sentry_key=abc, sentry_client=my-client/1.0").client_agent
+    'my-client/1.0'
+    """
 
     text: str
     public_key: str
@@ -131,6 +140,9 @@ class Auth:
 
 
 def crontab_check(text: Text) -> None:
-    """Checks that a text is a crontab schedule of five fields. Raises NotUtf8, InvalidText."""
+    """Checks that a text is a crontab schedule of five fields. Raises NotUtf8, InvalidText.
+
+    >>> crontab_check("*/10 0-6 * * mon")
+    """
     data = text_bytes(text)
     done(library.curdmesa_crontab_check(data, len(data)))

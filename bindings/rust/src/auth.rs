@@ -8,6 +8,13 @@ use std::fmt;
 use std::str::FromStr;
 
 /// The value of an `X-Sentry-Auth` header.
+///
+/// ```
+/// let auth = curdmesa::Auth::parse("Sentry sentry_key=abc, sentry_client=my-client/1.0")?;
+/// assert_eq!((auth.public_key(), auth.version()), ("abc", 7));
+/// assert_eq!(curdmesa::Auth::from_query("sentry_key=abc")?.public_key(), "abc");
+/// # Ok::<(), curdmesa::Error>(())
+/// ```
 #[derive(Clone)]
 pub struct Auth {
     text: String,

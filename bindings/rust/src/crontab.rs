@@ -5,6 +5,11 @@ use crate::sys;
 
 /// Checks that a text is a crontab schedule of five fields.
 ///
+/// ```
+/// assert!(curdmesa::crontab::check("*/10 0-6 * * mon").is_ok());
+/// assert!(curdmesa::crontab::check("60 * * * *").is_err());
+/// ```
+///
 /// # Errors
 ///
 /// [`Error::NotUtf8`], [`Error::InvalidText`].

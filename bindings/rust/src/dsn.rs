@@ -8,6 +8,13 @@ use std::fmt;
 use std::str::FromStr;
 
 /// A DSN: where a client sends its envelopes, and its keys.
+///
+/// ```
+/// let dsn = curdmesa::Dsn::parse("https://key@o42.ingest.sentry.io/7")?;
+/// assert_eq!((dsn.public_key(), dsn.project_id(), dsn.org_id()), ("key", "7", Some(42)));
+/// assert_eq!(dsn.envelope_url()?, "https://o42.ingest.sentry.io/api/7/envelope/");
+/// # Ok::<(), curdmesa::Error>(())
+/// ```
 #[derive(Clone)]
 pub struct Dsn {
     text: String,

@@ -138,6 +138,16 @@ pub struct Filtered {
 /// envelope headers but the event id stay; without, none does. The event id becomes that of the
 /// first event or transaction that is left. `now` and `seed` are those of [`normalize`].
 ///
+/// ```
+/// use curdmesa::{filter, Category, ItemKind, Kinds};
+///
+/// let bytes = b"{}\n{\"type\":\"attachment\"}\nhelloworld";
+/// let filtered = filter(bytes, (0, 0), 42, Kinds::Remove(&[ItemKind::Attachment]), true)?;
+/// assert_eq!(filtered.envelope, None);
+/// assert_eq!(filtered.losses.get(Category::Attachment, None), 10);
+/// # Ok::<(), curdmesa::Error>(())
+/// ```
+///
 /// # Errors
 ///
 /// Those of [`normalize`].

@@ -13,6 +13,21 @@ const SUMS: usize = 108;
 const ROOM: usize = 1024;
 
 /// A ledger: the quantity of each category that was lost for each reason and isn't reported yet.
+///
+/// ```
+/// use curdmesa::{Category, Ledger, Reason};
+///
+/// let mut ledger = Ledger::new();
+/// ledger.record(Category::Error, Reason::NetworkError, 2)?;
+/// let report = String::from_utf8(ledger.flush((60, 0))?.unwrap()).unwrap();
+/// assert_eq!(
+///     report.lines().last(),
+///     Some("{\"discarded_events\":[{\"category\":\"error\",\"quantity\":2,\
+///           \"reason\":\"network_error\"}],\"timestamp\":60}")
+/// );
+/// assert_eq!(ledger.flush((60, 0))?, None);
+/// # Ok::<(), curdmesa::Error>(())
+/// ```
 #[derive(Clone, Debug, PartialEq, Eq)]
 pub struct Ledger {
     sums: [u64; SUMS],

@@ -9,6 +9,14 @@ const LONGEST: usize = 30;
 
 /// Parses an RFC 3339 timestamp, from 1970 to the year 9999.
 ///
+/// ```
+/// use curdmesa::rfc3339;
+///
+/// let moment = rfc3339::parse("1970-01-01T01:00:01.50+01:00")?;
+/// assert_eq!(rfc3339::format(moment)?, "1970-01-01T00:00:01.5Z");
+/// # Ok::<(), curdmesa::Error>(())
+/// ```
+///
 /// # Errors
 ///
 /// [`Error::NotUtf8`]; [`Error::InvalidText`], also for another year.
