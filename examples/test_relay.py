@@ -96,6 +96,14 @@ class Sink(http.server.ThreadingHTTPServer):
         self.is_open.set()
         threading.Thread(target=self.serve_forever, daemon=True).start()
 
+    def wait_for_requests(self):
+        """Waits until each of `answers` was given."""
+        for _ in range(1200):
+            if not self.answers:
+                return
+            time.sleep(0.05)
+        raise TimeoutError(f"not asked for {self.answers}")
+
     @property
     def reported(self):
         """What client reports say, by category and reason."""
@@ -232,8 +240,7 @@ class Relay(unittest.TestCase):
         self.start("--drop", "event", "--seconds", "0.2")
         self.sink.answers += [503] * 3
         self.post(read("event"))
-        while self.sink.answers:
-            time.sleep(0.05)
+        self.sink.wait_for_requests()
         self.stop()
         self.assertEqual(self.sink.reported, {("error", "event_processor"): 1})
 
@@ -241,8 +248,7 @@ class Relay(unittest.TestCase):
         self.start("--seconds", "0.2")
         self.sink.answers += [None]
         self.post(read("session"))
-        while self.sink.answers:
-            time.sleep(0.05)
+        self.sink.wait_for_requests()
         first = self.sink
         first.close()
         self.post(read("event"))

@@ -6,3 +6,4 @@ pub mod Envelopes
 pub mod Filtering
 pub mod Items
 pub mod Asking
+pub mod Refusals

@@ -1,9 +1,9 @@
 -- Forwarding by a list of answers.
-use Rattle.std.specs.Prelude.{◌≡◌, ◌==◌, ℕ, Bool, false, true, List, [], ◌∷◌, map, length}
+use Rattle.std.specs.Prelude.{◌≡◌, ◌≢◌, ◌==◌, ◌⊎◌, ℕ, Bool, false, true, List, [], ◌∷◌, map, length}
 use Rattle.std.specs.List.{All}
 use Rattle.sentry_forward.specs.AnyHeader.{any_reading, is_object_line}
 use Rattle.sentry_forward.specs.Forward.{Leaves, dropped}
-use Rattle.sentry_forward.specs.View.{AreNamed, IsPlaced, decided, piece_of, text_of}
+use Rattle.sentry_forward.specs.View.{AreNamed, IsOver, IsPlaced, decided, piece_of, text_of}
 use Rattle.sentry_forward.specs.declared.forwarding.Forwarded.{Forwarded}
 use Rattle.sentry_forward.specs.declared.frames.AnyFrame.{AnyFrame}
 
@@ -31,3 +31,7 @@ pub record IsForwardedAs (bytes keep : List ℕ) (follow : Bool) (result : Forwa
   pub left : Leaves any_reading bytes line (map piece_of frames) (decided follow frames (answers_by keep frames)) (text_of result)
   pub gone : result.dropped.items ≡ dropped frames (decided follow frames (answers_by keep frames))
   pub count : result.items ≡ length frames
+
+-- the envelope in these bytes has more frames than so many, or all are another number of them
+abbrev pub HasOtherCount : List ℕ → ℕ → Type 0
+HasOtherCount bytes count = IsOver bytes count ⊎ ((keep : List ℕ) × (follow : Bool) × (result : Forwarded) × IsForwardedAs bytes keep follow result × (result.items ≢ count))

@@ -7,7 +7,9 @@ pub mod Forwarding
 pub mod Words
 pub mod Kinds
 pub mod Losses
+pub mod Left
 pub mod Filtering
 pub mod Envelopes
 pub mod Texts
 pub mod Sums
+pub mod Recording

@@ -1,13 +1,62 @@
 -- Sums of losses in one row: one for each category and reason, or none.
-use Rattle.std.specs.Prelude.{◌≡◌, ℕ, List, length, slice_index, Option}
+use Rattle.std.specs.Prelude.{◌≡◌, true, ℕ, List, length, map, slice_index, Option, Some}
 use Rattle.sentry_items.specs.Losses.{losses_of_items}
 use Rattle.sentry_items.specs.declared.item.EnvelopeItem.{EnvelopeItem}
+use Rattle.sentry_forward.specs.View.{AreNamed, piece_of}
+use Rattle.sentry_forward.specs.AnyHeader.{any_header, any_reading, is_object_line}
+use Rattle.sentry_forward.specs.Forward.{ArePieces}
+use Rattle.sentry_forward.specs.declared.frames.AnyFrame.{AnyFrame}
+use Rattle.sentry_framing.specs.Framing.{Frame, IsLineAndBody}
+use Rattle.sentry_ledger.specs.FrameLosses.{AreLosses, AreLossesOfAll}
+use Rattle.sentry_ledger.specs.LossSums.{SumsLosses}
+use Rattle.sentry_ledger.specs.declared.loss_sums.LossSums.{LossSums}
 use Rattle.sentry_ledger.specs.declared.loss_sums.TheConstants.{SUMS}
 use Rattle.sentry_reports.specs.Sums.{place, shown}
 use Rattle.sentry_reports.specs.declared.category.Category.{Category}
+use Rattle.sentry_reports.specs.declared.item_loss.ItemLoss.{ItemLoss}
 use Rattle.sentry_reports.specs.declared.reason.Reason.{Reason}
 
 -- each sum in the row is that of the losses of these items
 pub record SumsItemLosses (row : List ℕ) (items : List EnvelopeItem) : Type 0 where
   pub long : length row ≡ SUMS
   pub each : (category : Category) (reason : Option Reason) → slice_index row (place category reason) ≡ shown category reason (losses_of_items items)
+
+-- these sums are those of the losses of frames
+abbrev pub SumsFrames : List AnyFrame → LossSums → Type 0
+SumsFrames frames sums = (losses : List ItemLoss) × AreLossesOfAll frames losses × SumsLosses sums losses
+
+-- the row has the sums of the losses of frames
+abbrev pub IsRowOfFrames : List ℕ → List AnyFrame → Type 0
+IsRowOfFrames row frames = (sums : LossSums) × (row ≡ sums.row) × SumsFrames frames sums
+
+-- The envelope in these bytes consists of these frames, below a header line that is one JSON
+-- object.
+pub record AreFramesOf (bytes : List ℕ) (frames : List AnyFrame) : Type 0 where
+  pub line : List ℕ
+  pub body : List ℕ
+  pub header : IsLineAndBody bytes line body
+  pub object : is_object_line line ≡ true
+  pub framed : ArePieces any_reading body (map piece_of frames)
+  pub named : AreNamed frames
+
+-- these sums are those of what is lost with all frames of the envelope in these bytes
+abbrev pub SumsEnvelope : List ℕ → LossSums → Type 0
+SumsEnvelope bytes sums = (frames : List AnyFrame) × AreFramesOf bytes frames × SumsFrames frames sums
+
+-- the row has the sums of what is lost with the envelope in these bytes
+abbrev pub IsRowOfEnvelope : List ℕ → List ℕ → Type 0
+IsRowOfEnvelope bytes row = (sums : LossSums) × (row ≡ sums.row) × SumsEnvelope bytes sums
+
+-- These sums are those of what is lost with the frame of this header and this payload, whose type
+-- has the word that the header says.
+pub record SumsFrame (header payload : List ℕ) (sums : LossSums) : Type 0 where
+  pub word : List ℕ
+  pub stated : Option ℕ
+  pub says : any_header header ≡ Some (record { word = word; length = stated })
+  pub losses : List ItemLoss
+  pub are : AreLosses (record { header = header; payload = payload }) word losses
+  pub sums_are : SumsLosses sums losses
+
+-- the row has the sums of what is lost with the frame of this header and this payload
+abbrev pub IsRowOfFrame : List ℕ → List ℕ → List ℕ → Type 0
+IsRowOfFrame header payload row = (sums : LossSums) × (row ≡ sums.row) × SumsFrame header payload sums

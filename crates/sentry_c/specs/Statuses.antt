@@ -2,8 +2,8 @@
 use Rattle.std.specs.Prelude.{◌≡◌, ℕ, ℤ, pos, List}
 use Rattle.sentry_framing.specs.declared.error.EnvelopeError.{EnvelopeError}
 use Rattle.sentry_framing.specs.declared.error.EnvelopeError.TheVariants as refusals
-use Rattle.sentry_keys.specs.Auth.{HasNoKey, HasUnreadableVersion}
-use Rattle.sentry_keys.specs.AuthText.{BeginsWithSentry, header_pairs}
+use Rattle.sentry_keys.specs.Auth.{HasNoKey, HasUnreadableVersion, Pair}
+use Rattle.sentry_keys.specs.AuthText.{BeginsWithSentry, header_pairs, query_pairs}
 use Rattle.sentry_keys.specs.Dsn.{IsRefused, UnlessMemory}
 use Rattle.sentry_keys.specs.declared.auth.ParseAuthError.{ParseAuthError}
 use Rattle.sentry_keys.specs.declared.auth.ParseAuthError.TheVariants as auth
@@ -55,3 +55,16 @@ pub record IsAuthRefusal (text : List ℕ) (status : ℤ) : Type 0 where
   pub error : ParseAuthError
   pub status_is : status ≡ auth_status error
   pub refused : RefusesHeader text error
+
+-- what refuses the pairs of a query, by the error
+abbrev pub RefusesPairs : List Pair → ParseAuthError → Type 0
+RefusesPairs pairs auth.NonSentryAuth = ⊥
+RefusesPairs pairs auth.InvalidVersion = HasUnreadableVersion pairs
+RefusesPairs pairs auth.MissingPublicKey = HasNoKey pairs
+RefusesPairs pairs auth.Memory = Unit {0}
+
+-- The status is that of an error that refuses the query.
+pub record IsQueryRefusal (query : List ℕ) (status : ℤ) : Type 0 where
+  pub error : ParseAuthError
+  pub status_is : status ≡ auth_status error
+  pub refused : RefusesPairs (query_pairs query) error

@@ -1,10 +1,13 @@
 -- The parts of small texts as places in their printed form.
-use Rattle.std.specs.Prelude.{◌≡◌, ◌⊎◌, ℕ, ◌+◌, ◌-◌, List, [], length, Option, Some, None, unwrap_or}
+use Rattle.std.specs.Prelude.{◌≡◌, ◌==◌, ◌⊎◌, ℕ, ◌+◌, ◌-◌, List, [], length, Option, Some, None, if◌then◌else◌, unwrap_or}
 use Rattle.sentry_keys.specs.Auth.{IsAuth, Parts, Time}
 use Rattle.sentry_keys.specs.AuthText.{BeginsWithSentry, auth_text, header_pairs}
 use Rattle.sentry_keys.specs.Dsn.{DsnParts, IsDsnText, dsn_text, port_of}
+use Rattle.sentry_keys.specs.DsnApi.{envelope_url}
+use Rattle.sentry_keys.specs.DsnAuth.{auth_of}
 use Rattle.sentry_keys.specs.DsnOrganization.{NamesOrganization}
 use Rattle.sentry_keys.specs.DsnScheme.{scheme_index}
+use Rattle.sentry_moments.specs.declared.moment.Moment.{Moment}
 use Rattle.sentry_c.specs.Places.{Stands}
 use Rattle.sentry_c.specs.declared.texts.CurdmesaAuth.{CurdmesaAuth}
 use Rattle.sentry_c.specs.declared.texts.CurdmesaDsn.{CurdmesaDsn}
@@ -79,15 +82,36 @@ pub record ShowsAuth (shown : CurdmesaAuth) (parts : Parts) : Type 0 where
 abbrev pub IsHeader : List ℕ → Parts → Type 0
 IsHeader given parts = BeginsWithSentry given × IsAuth (header_pairs given) parts
 
--- the printed form of the authentication that a header tells
-pub record IsAuthPrinted (given printed : List ℕ) : Type 0 where
+-- the printed form of an authentication that is told
+pub record IsAuthPrinted (tells : Parts → Type 0) (printed : List ℕ) : Type 0 where
   pub parts : Parts
-  pub is : IsHeader given parts
+  pub is : tells parts
   pub printed_is : printed ≡ auth_text parts
 
 -- the same, and these are its parts
-pub record IsAuthAt (given : List ℕ) (shown : CurdmesaAuth) (printed : List ℕ) : Type 0 where
+pub record IsAuthAt (tells : Parts → Type 0) (shown : CurdmesaAuth) (printed : List ℕ) : Type 0 where
   pub parts : Parts
-  pub is : IsHeader given parts
+  pub is : tells parts
   pub printed_is : printed ≡ auth_text parts
   pub shows : ShowsAuth shown parts
+
+-- ---- what is made of a DSN
+
+-- the URL of the envelope endpoint of the DSN that a text spells
+pub record IsEnvelopeUrl (given printed : List ℕ) : Type 0 where
+  pub parts : DsnParts
+  pub is : IsDsnText given parts
+  pub printed_is : printed ≡ envelope_url parts
+
+-- a client's name and version, unless the text is empty
+abbrev pub agent_in : List ℕ → Option (List ℕ)
+agent_in text = if length text == 0 then None else Some text
+
+-- the printed form of a client's authentication at a moment, by the DSN that a text spells
+pub record IsClientAuth (given : List ℕ) (secs nanos : ℕ) (client printed : List ℕ) : Type 0 where
+  pub parts : DsnParts
+  pub is : IsDsnText given parts
+  pub now : Moment
+  pub secs_are : now.secs ≡ secs
+  pub nanos_are : now.nanos ≡ nanos
+  pub printed_is : printed ≡ auth_text (auth_of parts now (agent_in client))

@@ -1,14 +1,53 @@
 //! Forwarding envelopes.
 
+ghost use Rattle.std.specs.Prelude.{◌≡◌, ◌≢◌, ◌⊎◌, ◌≤◌, Err, IfOk, MatchOption, length};
+ghost use Rattle.std.specs.List.{All};
+ghost use Rattle.sentry_framing.specs.declared.error.EnvelopeError.{EnvelopeError as Refusal};
+ghost use Rattle.sentry_framing.specs.declared.error.EnvelopeError.TheVariants as refusals;
+ghost use Rattle.sentry_forward.specs.View.{IsRefused};
+ghost use Rattle.sentry_c.specs.Forwarding.{HasOtherCount};
+ghost use Rattle.sentry_c.specs.Left.{IsTextLeft, IsTextLeftBy, LeavesNoItem, LeavesNoItemBy};
+ghost use Rattle.sentry_c.specs.Output.{IsTooLong, Puts};
+ghost use Rattle.sentry_c.specs.Statuses.{refusal_status};
+
 use crate::answered::{are_answers, forward_answered};
 use crate::losses::sums_of_frames;
 use crate::output::deliver;
-use crate::status::{
-    INVALID_ARGUMENT, NO_ROOM, NOTHING_LEFT, OK, OUT_OF_MEMORY, status_of_envelope_error,
-};
-use sentry_ledger::loss_sums::SUMS;
+use crate::status::{INVALID_ARGUMENT, NO_ROOM, NOTHING_LEFT, OK, status_of_envelope_error};
+use sentry_ledger::loss_sums::{LossSums, SUMS};
 use sentry_types::protocol::v7::{ForwardError, ForwardRules};
 use std::alloc::Global;
+
+// Returns what is left of an envelope by an answer for each item, if any item is left, and the sums
+// of what is lost with the others; `TooManyItems` if there isn't an answer for each item.
+fn text_left(
+    alloc: Global,
+    bytes: &[u8],
+    keep: &[u8],
+    attachments_follow: bool,
+) -> Result<(Option<Vec<u8>>, LossSums), ForwardError>
+    ensures left { IfOk result (λ x. MatchOption x.0
+        (LeavesNoItem bytes.now keep.now attachments_follow x.1)
+        (λ text. IsTextLeft bytes.now keep.now attachments_follow x.1 text.items)) }
+    ensures other { result ≡ Err ForwardError.TooManyItems →
+        HasOtherCount bytes.now (length keep.now) }
+    ensures refused { (x : Refusal) → result ≡ Err (ForwardError.Envelope x) →
+        x ≢ refusals.OutOfMemory → IsRefused bytes.now x }
+{
+    let rules = ForwardRules {
+        max_items: keep.len(),
+        attachments_follow,
+    };
+    let left = forward_answered(alloc, bytes, rules, keep)?;
+    if left.items != keep.len() {
+        return Err(ForwardError::TooManyItems);
+    }
+    let sums = sums_of_frames(alloc, &left.dropped)?;
+    if left.nonempty_parts().is_none() {
+        return Ok((None, sums));
+    }
+    Ok((Some(left.to_vec(alloc)?), sums))
+}
 
 /// Forwards an envelope: writes it to `out` without the items that are dropped, byte for byte.
 ///
@@ -35,37 +74,41 @@ pub extern "C" fn curdmesa_envelope_forward(
     out: &mut [u8],
     needed: &mut u64,
     losses: &mut [u64],
-) -> i32 {
+) -> i32
+    ensures written { result ≡ OK →
+        Puts (IsTextLeftBy bytes.now keep.now attachments_follow losses.new)
+        out.old out.new needed.new }
+    ensures no_room { result ≡ NO_ROOM →
+        IsTooLong (IsTextLeftBy bytes.now keep.now attachments_follow losses.new)
+        out.old needed.new }
+    ensures nothing { result ≡ NOTHING_LEFT →
+        LeavesNoItemBy bytes.now keep.now attachments_follow losses.new }
+    ensures fault { (x : Refusal) → result ≡ refusal_status x → x ≢ refusals.OutOfMemory →
+        IsRefused bytes.now x }
+    ensures argument { result ≡ INVALID_ARGUMENT → (length losses.old ≢ SUMS) ⊎
+        ((¬ All (λ answer. answer ≤ 1) keep.now) ⊎ HasOtherCount bytes.now (length keep.now)) }
+    ensures long { result ≢ INVALID_ARGUMENT → length losses.old ≡ SUMS }
+    ensures answered { result ≢ INVALID_ARGUMENT → All (λ answer. answer ≤ 1) keep.now }
+    ensures unchanged { result ≢ OK → out.new ≡ out.old }
+    ensures losses_unchanged { result ≢ OK → result ≢ NO_ROOM → result ≢ NOTHING_LEFT →
+        losses.new ≡ losses.old }
+    ensures no_text { result ≢ OK → result ≢ NO_ROOM → needed.new ≡ 0 }
+    ensures answers { (result ≡ OK) ⊎ ((result ≡ NO_ROOM) ⊎ ((result ≡ NOTHING_LEFT) ⊎
+        ((result ≡ INVALID_ARGUMENT) ⊎ ((x : Refusal) × (result ≡ refusal_status x))))) }
+{
     *needed = 0;
     if losses.len() != SUMS || !are_answers(keep) {
         return INVALID_ARGUMENT;
     }
-    let rules = ForwardRules {
-        max_items: keep.len(),
-        attachments_follow,
-    };
-    let left = match forward_answered(alloc, bytes, rules, keep) {
+    let (text, sums) = match text_left(alloc, bytes, keep, attachments_follow) {
         Ok(left) => left,
         Err(ForwardError::TooManyItems) => return INVALID_ARGUMENT,
         Err(ForwardError::Envelope(error)) => return status_of_envelope_error(&error),
     };
-    if left.items != keep.len() {
-        return INVALID_ARGUMENT;
-    }
-    let Ok(sums) = sums_of_frames(alloc, &left.dropped) else {
-        return OUT_OF_MEMORY;
-    };
-    if left.nonempty_parts().is_none() {
-        losses.copy_from_slice(sums.as_slice());
-        return NOTHING_LEFT;
-    }
-    let Ok(text) = left.to_vec(alloc) else {
-        return OUT_OF_MEMORY;
-    };
     losses.copy_from_slice(sums.as_slice());
-    if deliver(&text, out, needed) {
-        OK
-    } else {
-        NO_ROOM
+    match text {
+        Some(text) if deliver(&text, out, needed) => OK,
+        Some(_) => NO_ROOM,
+        None => NOTHING_LEFT,
     }
 }

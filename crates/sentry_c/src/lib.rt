@@ -16,6 +16,7 @@ pub mod keys;
 pub mod ledger;
 pub mod losses;
 mod output;
+pub mod recording;
 pub mod status;
 pub mod texts;
 pub mod version;

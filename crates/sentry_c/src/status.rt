@@ -1,6 +1,6 @@
 //! The statuses that exported functions return.
 
-ghost use Rattle.std.specs.Prelude.{◌≡◌, ◌≢◌};
+ghost use Rattle.std.specs.Prelude.{◌≡◌, ◌≢◌, ◌⊎◌, ◌<◌, ◌≤◌, length};
 ghost use Rattle.sentry_c.specs.Statuses.{auth_status, dsn_status, refusal_status};
 ghost use Rattle.sentry_framing.specs.declared.error.EnvelopeError.{EnvelopeError as Refusal};
 
@@ -120,7 +120,13 @@ fn meaning(status: i32) -> Option<&'static str> {
 /// - `NO_ROOM` if the text is longer than `out`; `needed` is its length.
 /// - `INVALID_ARGUMENT` if no status has the number.
 #[unsafe(no_mangle)]
-pub extern "C" fn curdmesa_status_text(status: i32, out: &mut [u8], needed: &mut u64) -> i32 {
+pub extern "C" fn curdmesa_status_text(status: i32, out: &mut [u8], needed: &mut u64) -> i32
+    ensures fits { result ≡ OK → needed.new ≤ length out.old }
+    ensures no_room { result ≡ NO_ROOM → length out.old < needed.new }
+    ensures unchanged { result ≢ OK → out.new ≡ out.old }
+    ensures no_text { result ≢ OK → result ≢ NO_ROOM → needed.new ≡ 0 }
+    ensures answers { (result ≡ OK) ⊎ ((result ≡ NO_ROOM) ⊎ (result ≡ INVALID_ARGUMENT)) }
+{
     *needed = 0;
     match meaning(status) {
         Some(text) if deliver(text.as_bytes(), out, needed) => OK,

@@ -11,7 +11,7 @@ ghost use Rattle.sentry_keys.specs.Dsn.{dsn_parts, dsn_text};
 ghost use Rattle.sentry_keys.specs.DsnScheme.{scheme_index, scheme_text};
 ghost use Rattle.sentry_c.specs.Output.{IsTooLong, Puts};
 ghost use Rattle.sentry_c.specs.Statuses.{IsAuthRefusal, IsDsnRefusal};
-ghost use Rattle.sentry_c.specs.Texts.{IsAuthAt, IsAuthPrinted, IsDsnAt, IsDsnPrinted, IsOptionalEnd, IsOrganization, IsTimestamp, ShowsAuth, ShowsDsn, optional_len};
+ghost use Rattle.sentry_c.specs.Texts.{IsAuthAt, IsAuthPrinted, IsDsnAt, IsDsnPrinted, IsHeader, IsOptionalEnd, IsOrganization, IsTimestamp, ShowsAuth, ShowsDsn, optional_len};
 
 use crate::output::deliver;
 use crate::status::{
@@ -286,8 +286,10 @@ pub extern "C" fn curdmesa_auth_parse(
     needed: &mut u64,
     parts: &mut CurdmesaAuth,
 ) -> i32
-    ensures written { result ≡ OK → Puts (IsAuthAt text.now parts.new) out.old out.new needed.new }
-    ensures no_room { result ≡ NO_ROOM → IsTooLong (IsAuthPrinted text.now) out.old needed.new }
+    ensures written { result ≡ OK → Puts (IsAuthAt (IsHeader text.now) parts.new)
+        out.old out.new needed.new }
+    ensures no_room { result ≡ NO_ROOM →
+        IsTooLong (IsAuthPrinted (IsHeader text.now)) out.old needed.new }
     ensures not_utf8 { result ≡ NOT_UTF8 → ¬ IsUtf8 text.now }
     ensures utf8 { result ≢ NOT_UTF8 → IsUtf8 text.now }
     ensures unchanged { result ≢ OK → out.new ≡ out.old }

@@ -1,0 +1,30 @@
+-- Losses in a row of sums, as a ledger in a row of sums records them.
+use Rattle.std.specs.Prelude.{ℕ, List, ◌∷◌, map, slice_index, Option, Some, None}
+use Rattle.std.specs.List.{flat_map}
+use Rattle.sentry_ledger.specs.Recorded.{Records}
+use Rattle.sentry_ledger.specs.declared.recorded.Recording.{Recording}
+use Rattle.sentry_reports.specs.Categories.{categories, reasons}
+use Rattle.sentry_reports.specs.Sums.{place}
+use Rattle.sentry_reports.specs.declared.category.Category.{Category}
+use Rattle.sentry_reports.specs.declared.item_loss.ItemLoss.{ItemLoss}
+use Rattle.sentry_reports.specs.declared.reason.Reason.{Reason}
+
+-- the loss that a row has of a category, for a reason or without one
+abbrev pub loss_in : List ℕ → Category → Option Reason → ItemLoss
+loss_in row category reason = record { category = category; quantity = slice_index row (place category reason); reason = reason }
+
+-- the losses of a category: the one without a reason, and one for each reason
+abbrev pub losses_in : List ℕ → Category → List ItemLoss
+losses_in row category = loss_in row category None ∷ map (λ reason. loss_in row category (Some reason)) reasons
+
+-- the losses of a row, category by category
+abbrev pub losses_told : List ℕ → List ItemLoss
+losses_told row = flat_map (losses_in row) categories
+
+-- A ledger in a row records the losses of a row of sums, one after another; so many are refused.
+abbrev pub RecordsRow : List ℕ → List ℕ → Reason → List ℕ → ℕ → Type 0
+RecordsRow old new reason losses refused = Records (record { row = old }) (record { row = new }) reason (losses_told losses) refused
+
+-- a ledger in a row, the reason for losses without one, and how many were refused
+abbrev pub recording : List ℕ → Reason → ℕ → Recording
+recording row reason refused = record { ledger = record { row = row }; reason = reason; refused = refused }
