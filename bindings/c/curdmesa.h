@@ -13,10 +13,11 @@
  *   or to one element without a length. A length in bytes is at most PTRDIFF_MAX.
  * - What a function writes (every parameter that isn't const) overlaps none of its other
  *   parameters.
- * - Memory that is read is initialized, also what a parameter that isn't const points to: set
- *   structs, counts and buffers to zero before the first call. A bool is 0 or 1.
- * - Functions aren't called from a signal handler, nor in the forked child of a process with
- *   threads. Each calls malloc, realloc and free of the program, and keeps nothing allocated.
+ * - What a function reads is set: what its const parameters point to, `*offset` and a ledger. What
+ *   it only writes needn't be, such as `out`, `*needed`, structs and losses. A bool is 0 or 1.
+ * - Functions aren't called from a signal handler, and in the forked child of a process with threads
+ *   only where malloc may be called there: glibc's may, though POSIX doesn't promise it. Each calls
+ *   malloc, realloc and free of the program, and keeps nothing allocated.
  * - There are 128 KiB of stack: as measured, an envelope whose JSON nests as deep as it may takes
  *   96. What memory a call takes grows with the input, as measured up to 165 times its length:
  *   limit the length of what you hand in.
@@ -47,8 +48,8 @@ extern "C" {
 
 /* The version of this header: 1,000,000 for each major version, 1,000 for each minor one, and 1 for
  * each patch. */
-#define CURDMESA_VERSION 1000
-#define CURDMESA_VERSION_TEXT "0.1.0"
+#define CURDMESA_VERSION 2000
+#define CURDMESA_VERSION_TEXT "0.2.0"
 
 /* Returns the version of the library. It is CURDMESA_VERSION, if both are of one release. */
 uint32_t curdmesa_version(void);

@@ -53,6 +53,74 @@ def of_frames(given):
     return told
 
 
+def of_any_frames(given):
+    data = given.encode()
+    told = [data.split(b"\n")[0].decode()]
+    try:
+        for frame in curdmesa.any_frames(data):
+            assert data[frame.header_start :].startswith(frame.header), frame
+            assert data[frame.payload_start :].startswith(frame.payload), frame
+            kind = None if frame.kind is None else frame.kind.word
+            offsets = [frame.start, frame.header_start, frame.payload_start]
+            told.append([frame.word, kind, frame.header.decode(), frame.payload.decode(), offsets])
+    except curdmesa.InvalidHeader:
+        return curdmesa.InvalidHeader
+    except curdmesa.Error as error:
+        told.append(type(error))
+    return told
+
+
+def of_forward(words):
+    """Returns the call that forwards: the words are -a, where attachments follow, and answers."""
+    answers = "" if words[-1:] in ([], ["-a"]) else words[-1]
+
+    def call(given):
+        asked = []
+
+        def keep(frame):
+            asked.append(frame.word)
+            return answers[len(asked) - 1 : len(asked)] == "y"
+
+        left = curdmesa.forward(given.encode(), keep, attachments_follow=words[:1] == ["-a"])
+        return [None if left.envelope is None else left.envelope.decode(), asked]
+
+    return call
+
+
+def of_frame_losses(given):
+    told = []
+    try:
+        for frame in curdmesa.any_frames(given.encode()):
+            told.append(sums(frame.losses()))
+    except curdmesa.Error as error:
+        told.append(type(error))
+    return told
+
+
+def of_losses(given):
+    return sums(curdmesa.losses(given.encode()))
+
+
+def of_forwarded(words):
+    """Returns the call that forwards without some item types, and records what is lost: the words are
+    the reason and the types, and steps that come first behind `; `."""
+    words, _, before = " ".join(words).partition("; ")
+    reason, *dropped = words.split()
+
+    def call(given):
+        ledger = curdmesa.Ledger()
+        for step in before.split("; ") if before else []:
+            of_step(ledger, step.split())
+        left = curdmesa.forward(given.encode(), lambda frame: frame.word not in dropped)
+        refused = ledger.record_losses(left.losses, word_in(Reason, reason))
+        # (where no item is left, the case tells of the header line)
+        line = given[: given.find("\n") + 1] or given
+        envelope = line if left.envelope is None else left.envelope.decode()
+        return [envelope, refused, held_of(ledger)]
+
+    return call
+
+
 def of_filter(words):
     """Returns the call of a filter: the words are -k, where the header is kept, and item types."""
     kinds = {kind for kind in ItemKind if kind.word in words}
@@ -60,9 +128,14 @@ def of_filter(words):
     def call(given):
         filtered = curdmesa.filter(given.encode(), kinds, NOW, SEED, keep_headers=words[:1] == ["-k"])
         left = None if filtered.envelope is None else filtered.envelope.decode()
-        return [left, {(loss.category, loss.reason): loss.quantity for loss in filtered.losses}]
+        return [left, sums(filtered.losses)]
 
     return call
+
+
+def sums(losses):
+    """Returns losses by category and reason."""
+    return {(loss.category, loss.reason): loss.quantity for loss in losses}
 
 
 def sums_of(losses):
@@ -95,7 +168,14 @@ def of_dsn(given):
 
 
 def of_auth(given):
-    auth = curdmesa.Auth.parse(given)
+    return said_auth(curdmesa.Auth.parse(given))
+
+
+def of_query(given):
+    return said_auth(curdmesa.Auth.from_query(given))
+
+
+def said_auth(auth):
     return [auth.text, auth.client_agent, auth.version, auth.public_key, auth.secret_key]
 
 
@@ -123,9 +203,13 @@ def of_step(ledger, words):
 def of_ledger(given):
     ledger = curdmesa.Ledger()
     told = [of_step(ledger, step.split()) for step in given.split("; ") if step]
+    return [told, held_of(ledger)]
+
+
+def held_of(ledger):
     pairs = [(category, reason) for category in Category for reason in Reason]
     held = [[pair[0].word, ledger.held(*pair), pair[1].word] for pair in pairs if ledger.held(*pair)]
-    return [told, held or "empty"]
+    return held or "empty"
 
 
 def wanted_of(name, wanted):
@@ -136,13 +220,23 @@ def wanted_of(name, wanted):
         return MESSAGES[wanted]
     if name == "frames":
         return [MESSAGES[it] if isinstance(it, str) and it.startswith("!") else it for it in wanted]
+    if name == "any_frames":
+        line, *frames = wanted
+        # (without the length that the header states)
+        return [line, *(MESSAGES[it] if isinstance(it, str) else [it[0], *it[2:]] for it in frames)]
+    if name.split()[0] == "forward":
+        return [wanted[0] if wanted[3] else None, wanted[2]]
+    if name == "frame losses":
+        return [MESSAGES[it] if isinstance(it, str) else sums_of(it) for it in wanted]
+    if name == "losses":
+        return sums_of(wanted)
     if name.startswith("filter "):
         return [wanted[0], sums_of(wanted[1])]
     if name == "Moment::from_rfc3339":
         return [wanted[0], wanted[1], wanted[2]]
     if name == "Dsn":
         return wanted[:2]
-    if name == "Auth":
+    if name in ("Auth", "Auth::from_querystring"):
         return [wanted[0], wanted[2], wanted[3], wanted[4], wanted[5]]
     if name == "validate" and wanted is False:
         return curdmesa.InvalidText
@@ -152,30 +246,48 @@ def wanted_of(name, wanted):
 CALLS = {
     "envelope": of_envelope,
     "frames": of_frames,
+    "any_frames": of_any_frames,
+    "frame losses": of_frame_losses,
+    "losses": of_losses,
     "Moment::from_rfc3339": of_rfc3339,
     "validate": of_crontab,
     "Dsn": of_dsn,
     "Auth": of_auth,
+    "Auth::from_querystring": of_query,
     "ledger": of_ledger,
 }
 
 
+# Calls whose names have words behind them.
+WORDED = {"filter": of_filter, "forward": of_forward, "forwarded": of_forwarded}
+
+
+def is_asked(name, words, wanted):
+    """Whether the library can be asked a case."""
+    if words[0] == "forwarded":
+        # A ledger that refuses losses one by one may hold another part of them than one that
+        # refuses their sums.
+        return wanted[1] == 0
+    # A filter that is handed over (`-v`) and a bound on items (`-m`) are matters of Rust's.
+    return name in CALLS or words[0] in WORDED and not {"-v", "-m"} & {*words}
+
+
 class Cases(unittest.TestCase):
     def test_each(self):
-        asked = {}
+        asked = set()
         with open(FILE, encoding="utf-8") as lines:
             for line in lines:
                 name, *rest = line.rstrip("\n").split("\t")
                 words = name.split()
-                call = of_filter(words[1:]) if words[0] == "filter" else CALLS.get(name)
-                # A filter that is handed over (`-v`) is a matter of Rust's.
-                if call is None or words[:2] == ["filter", "-v"]:
+                if not rest or name not in CALLS and words[0] not in WORDED:
                     continue
                 given, wanted = map(json.loads, rest)
-                got = answer(call, given)
-                self.assertEqual(got, wanted_of(name, wanted), (name, given))
-                asked[name.split()[0]] = asked.get(name.split()[0], 0) + 1
-        self.assertEqual(set(asked), {*CALLS, "filter"})
+                if is_asked(name, words, wanted):
+                    call = CALLS.get(name) or WORDED[words[0]](words[1:])
+                    got = answer(call, given)
+                    self.assertEqual(got, wanted_of(name, wanted), (name, given))
+                    asked.add(name if name in CALLS else words[0])
+        self.assertEqual(asked, {*CALLS, *WORDED})
 
 
 if __name__ == "__main__":

@@ -10,13 +10,15 @@ environment variable CURDMESA_SO names.
 """
 
 from ._library import VERSION as __version__
-from .envelopes import Filtered, Frame, Loss, check, filter, frames, normalize
+from ._losses import Loss
+from .envelopes import Filtered, Frame, check, filter, frames, normalize
 from .errors import (
     AuthError, AuthInvalidVersion, AuthMissingPublicKey, AuthNonSentry, DsnError,
     DsnInvalidProjectId, DsnInvalidScheme, DsnInvalidUrl, DsnNoProjectId, DsnNoUsername,
     EnvelopeError, Error, InvalidArgument, InvalidHeader, InvalidItemHeader, InvalidItemPayload,
     InvalidText, LedgerFull, MissingHeader, MissingItemHeader, MissingNewline, NoMoment, NoRoom,
     NothingLeft, NotUtf8, OutOfMemory, Status, TextError, UnexpectedEof, error_of)
+from .forwarding import AnyFrame, Forwarded, any_frames, forward, losses
 from .ledger import Ledger
 from .moments import Moment, rfc3339_format, rfc3339_parse
 from .texts import Auth, Dsn, crontab_check
@@ -24,13 +26,13 @@ from .words import Category, ItemKind, Reason
 
 # All names but `filter`, which would hide Python's own where all are imported.
 __all__ = [
-    "Auth", "AuthError", "AuthInvalidVersion", "AuthMissingPublicKey", "AuthNonSentry",
-    "Category", "Dsn", "DsnError", "DsnInvalidProjectId", "DsnInvalidScheme", "DsnInvalidUrl",
-    "DsnNoProjectId", "DsnNoUsername", "EnvelopeError", "Error", "Filtered", "Frame",
-    "InvalidArgument", "InvalidHeader", "InvalidItemHeader", "InvalidItemPayload",
-    "InvalidText", "ItemKind", "Ledger", "LedgerFull", "Loss", "MissingHeader",
-    "MissingItemHeader", "MissingNewline", "Moment", "NoMoment", "NoRoom", "NotUtf8",
-    "NothingLeft", "OutOfMemory", "Reason", "Status", "TextError", "UnexpectedEof", "__version__",
-    "check", "crontab_check", "error_of", "frames", "normalize", "rfc3339_format",
-    "rfc3339_parse",
+    "AnyFrame", "Auth", "AuthError", "AuthInvalidVersion", "AuthMissingPublicKey",
+    "AuthNonSentry", "Category", "Dsn", "DsnError", "DsnInvalidProjectId", "DsnInvalidScheme",
+    "DsnInvalidUrl", "DsnNoProjectId", "DsnNoUsername", "EnvelopeError", "Error", "Filtered",
+    "Forwarded", "Frame", "InvalidArgument", "InvalidHeader", "InvalidItemHeader",
+    "InvalidItemPayload", "InvalidText", "ItemKind", "Ledger", "LedgerFull", "Loss",
+    "MissingHeader", "MissingItemHeader", "MissingNewline", "Moment", "NoMoment", "NoRoom",
+    "NotUtf8", "NothingLeft", "OutOfMemory", "Reason", "Status", "TextError", "UnexpectedEof",
+    "__version__", "any_frames", "check", "crontab_check", "error_of", "forward", "frames",
+    "losses", "normalize", "rfc3339_format", "rfc3339_parse",
 ]

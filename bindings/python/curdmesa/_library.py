@@ -11,7 +11,7 @@ from typing import Callable, Union
 
 from .errors import Status, done
 
-VERSION = "0.1.0"
+VERSION = "0.2.0"
 
 
 class Place(ctypes.Structure):
@@ -23,6 +23,18 @@ class Place(ctypes.Structure):
 
 class FrameParts(ctypes.Structure):
     _fields_ = [
+        ("header_offset", ctypes.c_uint64),
+        ("header_length", ctypes.c_uint64),
+        ("payload_offset", ctypes.c_uint64),
+        ("payload_length", ctypes.c_uint64),
+        ("kind", ctypes.c_uint32),
+    ]
+
+
+class AnyFrameParts(ctypes.Structure):
+    _fields_ = [
+        ("item_offset", ctypes.c_uint64),
+        ("item_length", ctypes.c_uint64),
         ("header_offset", ctypes.c_uint64),
         ("header_length", ctypes.c_uint64),
         ("payload_offset", ctypes.c_uint64),
@@ -71,18 +83,33 @@ MOMENT = [U64, U32]
 
 #: The functions of curdmesa.h, all of which return a status, with the types of their parameters.
 FUNCTIONS = {
+    "curdmesa_status_text": [ctypes.c_int32, *OUT],
+    "curdmesa_item_word": [U32, *OUT],
+    "curdmesa_item_of_word": [*BYTES, U32S],
     "curdmesa_envelope_normalize": [*BYTES, *MOMENT, U64, *OUT],
-    "curdmesa_envelope_check": [*BYTES, *MOMENT, U64],
+    "curdmesa_envelope_check": [*BYTES, *MOMENT],
     "curdmesa_envelope_filter": [
         *BYTES, *MOMENT, U64, U32, BOOL, BOOL, *OUT, U64S, SIZE,
     ],
     "curdmesa_frames_next": [*BYTES, U64S, ctypes.POINTER(FrameParts)],
+    "curdmesa_any_frames_next": [*BYTES, U64S, ctypes.POINTER(AnyFrameParts), *OUT],
+    "curdmesa_envelope_forward": [*BYTES, *BYTES, BOOL, *OUT, U64S, SIZE],
+    "curdmesa_envelope_losses": [*BYTES, U64S, SIZE],
+    "curdmesa_frame_losses": [*BYTES, *BYTES, U64S, SIZE],
     "curdmesa_dsn_parse": [*BYTES, *OUT, ctypes.POINTER(DsnParts)],
+    "curdmesa_dsn_envelope_url": [*BYTES, *OUT],
+    "curdmesa_dsn_auth": [*BYTES, *MOMENT, *BYTES, *OUT],
     "curdmesa_auth_parse": [*BYTES, *OUT, ctypes.POINTER(AuthParts)],
+    "curdmesa_auth_from_query": [*BYTES, *OUT, ctypes.POINTER(AuthParts)],
     "curdmesa_rfc3339_parse": [*BYTES, U64S, U32S],
     "curdmesa_rfc3339_format": [*MOMENT, *OUT],
     "curdmesa_crontab_check": [*BYTES],
+    "curdmesa_category_word": [U32, *OUT],
+    "curdmesa_category_of_word": [*BYTES, U32S],
+    "curdmesa_reason_word": [U32, *OUT],
+    "curdmesa_reason_of_word": [*BYTES, U32S],
     "curdmesa_ledger_record": [U64S, SIZE, U32, U32, U64],
+    "curdmesa_ledger_record_losses": [U64S, SIZE, U64S, SIZE, U32, U64S],
     "curdmesa_ledger_held": [U64S, SIZE, U32, U32, U64S],
     "curdmesa_ledger_flush": [U64S, SIZE, *MOMENT, *OUT],
 }
@@ -119,7 +146,7 @@ def _buffer_type(length: int) -> type:
     return ctypes.c_char * length
 
 
-def _buffer(room: int) -> ctypes.Array:
+def text_buffer(room: int) -> ctypes.Array:
     """Returns a buffer of at least `room` bytes. Its length is a power of two: ctypes makes a type
     for each length of an array, which takes longer than most calls, and keeps it."""
     return _buffer_type(max(256, 1 << (room - 1).bit_length()))()
@@ -129,10 +156,10 @@ def written(room: int, call: Callable[..., int]) -> bytes:
     """Returns the text that a call writes: with room for `room` bytes at first, and with as much
     as the text needs if that is too little."""
     needed = U64(0)
-    out = _buffer(room)
+    out = text_buffer(room)
     status = call(out, len(out), needed)
     while status == Status.NO_ROOM:
-        out = _buffer(needed.value)
+        out = text_buffer(needed.value)
         status = call(out, len(out), needed)
     done(status)
     return memoryview(out)[: needed.value].tobytes()

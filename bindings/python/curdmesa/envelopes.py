@@ -2,15 +2,15 @@
 
 from __future__ import annotations
 
-import ctypes
 import secrets
 from dataclasses import dataclass
 from typing import Iterable, Iterator, List, Optional, Tuple
 
 from ._library import LOSSES, U64, Data, FrameParts, data_bytes, library, whole, written
+from ._losses import Loss, losses_of, no_sums
 from .errors import NothingLeft, Status, done
 from .moments import Moment, When
-from .words import Category, ItemKind, Reason, member
+from .words import ItemKind, member
 
 
 def _room(data: bytes) -> int:
@@ -20,8 +20,8 @@ def _room(data: bytes) -> int:
 
 def _drawn_from(now: Optional[When], seed: Optional[int]) -> Tuple[int, int, int]:
     """Returns the moment in seconds and nanoseconds, and the seed."""
-    secs, nanos = Moment.now() if now is None else Moment.of(now)
-    return secs, nanos, secrets.randbits(64) if seed is None else whole(seed)
+    seed = secrets.randbits(64) if seed is None else whole(seed)
+    return (*Moment.of_or_now(now), seed)
 
 
 def normalize(data: Data, now: Optional[When] = None, seed: Optional[int] = None) -> bytes:
@@ -40,23 +40,11 @@ def normalize(data: Data, now: Optional[When] = None, seed: Optional[int] = None
     )
 
 
-def check(data: Data, now: Optional[When] = None, seed: Optional[int] = None) -> None:
+def check(data: Data, now: Optional[When] = None) -> None:
     """Parses an envelope, and returns nothing of it. The arguments and errors are those of
     normalize."""
-    data, drawn_from = data_bytes(data), _drawn_from(now, seed)
-    done(library.curdmesa_envelope_check(data, len(data), *drawn_from))
-
-
-@dataclass(frozen=True)
-class Loss:
-    """A quantity of a category that is lost for a reason."""
-
-    category: Category
-    #: The discard reason, where one is known: that of a client report's item. Compare it with None,
-    #: since the first reason is 0.
-    reason: Optional[Reason]
-    #: The quantity; it stops at 2^64-1.
-    quantity: int
+    data = data_bytes(data)
+    done(library.curdmesa_envelope_check(data, len(data), *Moment.of_or_now(now)))
 
 
 @dataclass(frozen=True)
@@ -68,14 +56,6 @@ class Filtered:
     #: What is lost with the removed items, above 0: by category; in each the loss without a reason
     #: first, then by reason.
     losses: List[Loss]
-
-
-#: The category and the reason of each sum.
-_PLACES = [(category, reason) for category in Category for reason in (None, *Reason)]
-
-
-def _losses(sums: ctypes.Array) -> List[Loss]:
-    return [Loss(*_PLACES[at], quantity) for at, quantity in enumerate(sums[:]) if quantity > 0]
 
 
 def filter(
@@ -98,7 +78,7 @@ def filter(
     """
     data, drawn_from = data_bytes(data), _drawn_from(now, seed)
     bits = sum(1 << kind for kind in {member(ItemKind, kind) for kind in kinds})
-    sums = (U64 * LOSSES)()
+    sums = no_sums()
     try:
         left = written(
             _room(data),
@@ -108,7 +88,7 @@ def filter(
         )
     except NothingLeft:
         left = None
-    return Filtered(left, _losses(sums))
+    return Filtered(left, losses_of(sums))
 
 
 @dataclass(frozen=True)

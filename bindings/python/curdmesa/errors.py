@@ -80,8 +80,8 @@ class NoMoment(Error):
     text = "no such moment"
 
 
-class NotUtf8(TextError):
-    """The text isn't UTF-8."""
+class NotUtf8(DsnError, AuthError):
+    """The text isn't UTF-8, and so is no DSN, no client authentication, and no other text."""
 
     status = Status.NOT_UTF8
     text = "text is not UTF-8"

@@ -3,9 +3,10 @@
 from __future__ import annotations
 
 import threading
-from typing import Optional
+from typing import Iterable, List, Optional
 
-from ._library import SUMS, U64, library, whole, written
+from ._library import LOSSES, SUMS, U64, library, whole, written
+from ._losses import Loss, sums_of
 from .errors import NothingLeft, done
 from .moments import Moment, When
 from .words import Category, Reason, member
@@ -14,11 +15,27 @@ from .words import Category, Reason, member
 class Ledger:
     """The quantity of each category that was lost for each reason and isn't reported yet. Threads
     may share a ledger: its calls wait for each other. A finalizer or a handler of signals that runs
-    during such a call may record a loss too."""
+    during such a call may record a loss too. In a child that is forked while another thread is in
+    such a call the ledger stays locked. Pickling and copying take its losses along.
+    """
 
-    def __init__(self) -> None:
-        self._sums = (U64 * SUMS)()
+    def __init__(self, sums: Iterable[int] = ()) -> None:
+        """A ledger without losses, or with the sums of another one. Raises ValueError for other
+        than 108 sums, or a sum outside 0 to 2^64-1."""
+        sums = [whole(each) for each in sums] or [0] * SUMS
+        if len(sums) != SUMS:
+            raise ValueError(f"a ledger has {SUMS} sums, not {len(sums)}")
+        self._sums = (U64 * SUMS)(*sums)
         self._lock = threading.RLock()
+
+    def __reduce__(self) -> tuple:
+        return type(self), (self.sums,)
+
+    @property
+    def sums(self) -> List[int]:
+        """What the ledger holds: for each category in turn the sum of each reason."""
+        with self._lock:
+            return self._sums[:]
 
     def record(self, category: Category, reason: Reason, quantity: int) -> None:
         """Adds a loss.
@@ -30,6 +47,19 @@ class Ledger:
         pair = member(Category, category), member(Reason, reason)
         with self._lock:
             done(library.curdmesa_ledger_record(self._sums, SUMS, *pair, whole(quantity)))
+
+    def record_losses(self, losses: Iterable[Loss], reason: Reason) -> int:
+        """Adds losses: those without a reason under `reason`, all others under their own. Returns
+        how many sums are refused, and not added, because the ledger's would exceed 2^64-1.
+
+        Raises ValueError and TypeError as `record` does; the ledger is unchanged.
+        """
+        sums, reason, refused = sums_of(losses), member(Reason, reason), U64(0)
+        with self._lock:
+            done(library.curdmesa_ledger_record_losses(
+                self._sums, SUMS, sums, LOSSES, reason, refused
+            ))
+        return refused.value
 
     def held(self, category: Category, reason: Reason) -> int:
         """Returns the quantity of a category and a reason that the ledger holds. Raises ValueError
@@ -44,11 +74,11 @@ class Ledger:
         """Moves all losses into a client report of the moment `now`, which defaults to the system's
         clock, and returns the envelope of that one item; None if the ledger holds no loss.
 
-        The losses are only in the envelope then: if it can't be sent, record them again. Raises
-        NoMoment, OutOfMemory, and ValueError for a datetime without a time zone; the ledger is
-        unchanged.
+        The losses are only in the envelope then: if it can't be sent, `record_losses` of its
+        `losses` puts them back, each under its own reason. Raises NoMoment, OutOfMemory, and
+        ValueError for a datetime without a time zone; the ledger is unchanged.
         """
-        secs, nanos = Moment.now() if now is None else Moment.of(now)
+        secs, nanos = Moment.of_or_now(now)
         with self._lock:
             try:
                 return written(

@@ -5,7 +5,7 @@ from __future__ import annotations
 import operator
 from datetime import datetime, timedelta, timezone
 from time import time_ns
-from typing import NamedTuple, Tuple, Union
+from typing import NamedTuple, Optional, Tuple, Union
 
 from ._library import U32, U64, Text, library, text_bytes, written
 from .errors import NoMoment, done
@@ -41,6 +41,11 @@ class Moment(NamedTuple):
     def now(cls) -> Moment:
         """Returns the moment that the system's clock shows, in whole microseconds."""
         return cls(*divmod(time_ns() // 1000 * 1000, 1_000_000_000))
+
+    @classmethod
+    def of_or_now(cls, time: Optional[When]) -> Moment:
+        """Converts as `of` does; None is the moment that the system's clock shows."""
+        return cls.now() if time is None else cls.of(time)
 
 
 When = Union[Moment, Tuple[int, int], datetime]

@@ -3,11 +3,11 @@
 from __future__ import annotations
 
 from dataclasses import dataclass
-from typing import Optional
+from typing import Callable, Optional
 
 from ._library import AuthParts, DsnParts, Text, library, text_bytes, written
 from .errors import done
-from .moments import Moment
+from .moments import Moment, When
 
 
 @dataclass(frozen=True)
@@ -29,6 +29,30 @@ class Dsn:
 
     def __str__(self) -> str:
         return self.text
+
+    def envelope_url(self) -> str:
+        """Returns the URL that envelopes are posted to. Raises OutOfMemory."""
+        data = self.text.encode()
+        return written(
+            len(data) + 64,
+            lambda *out: library.curdmesa_dsn_envelope_url(data, len(data), *out),
+        ).decode()
+
+    def auth(self, client: Text = "", now: Optional[When] = None) -> str:
+        """Returns the value of a client's X-Sentry-Auth header: the DSN's keys, protocol version 7,
+        the timestamp `now`, which defaults to the system's clock, and the client's name and
+        version, such as "my-client/1.0", if they aren't empty.
+
+        Raises NoMoment, NotUtf8, OutOfMemory, and ValueError for a datetime without a time zone.
+        """
+        data, client = self.text.encode(), text_bytes(client)
+        secs, nanos = Moment.of_or_now(now)
+        return written(
+            len(data) + len(client) + 128,
+            lambda *out: library.curdmesa_dsn_auth(
+                data, len(data), secs, nanos, client, len(client), *out
+            ),
+        ).decode()
 
     @classmethod
     def parse(cls, text: Text) -> Dsn:
@@ -78,10 +102,22 @@ class Auth:
 
         Raises NotUtf8, the AuthError of the first check that fails, OutOfMemory.
         """
-        data, parts = text_bytes(text), AuthParts()
+        return cls._parsed(library.curdmesa_auth_parse, text_bytes(text))
+
+    @classmethod
+    def from_query(cls, query: Text) -> Auth:
+        """Parses client authentication in the query string of a URL, such as
+        "sentry_key=abc&sentry_version=7". Keys and values are percent-decoded.
+
+        Raises AuthInvalidVersion, AuthMissingPublicKey, OutOfMemory.
+        """
+        return cls._parsed(library.curdmesa_auth_from_query, text_bytes(query))
+
+    @classmethod
+    def _parsed(cls, call: Callable[..., int], data: bytes) -> Auth:
+        parts = AuthParts()
         printed = written(
-            len(data) + 64,
-            lambda *out: library.curdmesa_auth_parse(data, len(data), *out, parts),
+            len(data) + 64, lambda *out: call(data, len(data), *out, parts)
         )
         moment = Moment(parts.timestamp_secs, parts.timestamp_nanos)
         return cls(

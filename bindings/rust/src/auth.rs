@@ -22,13 +22,27 @@ impl Auth {
     /// [`Error::NotUtf8`]; the first check that fails, [`Error::AuthNonSentry`] to
     /// [`Error::AuthMissingPublicKey`]; [`Error::OutOfMemory`].
     pub fn parse(bytes: impl AsRef<[u8]>) -> Result<Auth, Error> {
-        let bytes = bytes.as_ref();
+        Auth::parsed(sys::curdmesa_auth_parse, bytes.as_ref())
+    }
+
+    /// Parses client authentication in the query string of a URL, such as
+    /// `sentry_key=abc&sentry_version=7`. Keys and values are percent-decoded.
+    ///
+    /// # Errors
+    ///
+    /// [`Error::AuthInvalidVersion`], [`Error::AuthMissingPublicKey`], [`Error::OutOfMemory`].
+    pub fn from_query(bytes: impl AsRef<[u8]>) -> Result<Auth, Error> {
+        Auth::parsed(sys::curdmesa_auth_from_query, bytes.as_ref())
+    }
+
+    /// What one of the library's calls reads as client authentication.
+    fn parsed(call: sys::AuthCall, bytes: &[u8]) -> Result<Auth, Error> {
         let mut parts = sys::CurdmesaAuth::default();
         let printed = text(bytes.len() + 64, |out, needed| {
             // SAFETY: each pointer is a slice's, with its length, or a reference's; what is written
             // is borrowed mutably.
             unsafe {
-                sys::curdmesa_auth_parse(
+                call(
                     bytes.as_ptr(),
                     bytes.len(),
                     out.as_mut_ptr(),

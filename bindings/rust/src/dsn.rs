@@ -1,6 +1,7 @@
 //! DSNs.
 
 use crate::error::Error;
+use crate::moment::Moment;
 use crate::output::{range, text, utf8};
 use crate::sys;
 use std::fmt;
@@ -40,6 +41,60 @@ impl Dsn {
         })?;
         let text = utf8(printed)?;
         Ok(Dsn { text, parts })
+    }
+
+    /// Returns the URL that envelopes are posted to.
+    ///
+    /// # Errors
+    ///
+    /// [`Error::OutOfMemory`].
+    pub fn envelope_url(&self) -> Result<String, Error> {
+        let url = text(self.text.len() + 64, |out, needed| {
+            // SAFETY: each pointer is a slice's, with its length, or a reference's; what is written
+            // is borrowed mutably.
+            unsafe {
+                sys::curdmesa_dsn_envelope_url(
+                    self.text.as_ptr(),
+                    self.text.len(),
+                    out.as_mut_ptr(),
+                    out.len(),
+                    needed,
+                )
+            }
+        })?;
+        utf8(url)
+    }
+
+    /// Returns the value of a client's `X-Sentry-Auth` header: the DSN's keys, protocol version 7,
+    /// the timestamp `now`, and the client's name and version, such as `my-client/1.0`, if they
+    /// aren't empty.
+    ///
+    /// # Errors
+    ///
+    /// [`Error::NoMoment`], [`Error::OutOfMemory`].
+    pub fn auth<N>(&self, now: N, client: &str) -> Result<String, Error>
+    where
+        N: TryInto<Moment>,
+        Error: From<N::Error>,
+    {
+        let now = now.try_into()?;
+        let auth = text(self.text.len() + client.len() + 128, |out, needed| {
+            // SAFETY: as in `envelope_url`.
+            unsafe {
+                sys::curdmesa_dsn_auth(
+                    self.text.as_ptr(),
+                    self.text.len(),
+                    now.secs,
+                    now.nanos,
+                    client.as_ptr(),
+                    client.len(),
+                    out.as_mut_ptr(),
+                    out.len(),
+                    needed,
+                )
+            }
+        })?;
+        utf8(auth)
     }
 
     fn part(&self, place: sys::CurdmesaPlace) -> &str {

@@ -1,7 +1,8 @@
 //! Parsing, normalizing and filtering envelopes.
 
 use crate::error::{done, Error};
-use crate::kinds::{Category, ItemKind, Reason};
+use crate::kinds::ItemKind;
+use crate::losses::{Losses, LOSSES};
 use crate::moment::Moment;
 use crate::{output, sys};
 
@@ -89,16 +90,14 @@ where
 /// # Errors
 ///
 /// Those of [`normalize`].
-pub fn check<N>(bytes: &[u8], now: N, seed: u64) -> Result<(), Error>
+pub fn check<N>(bytes: &[u8], now: N) -> Result<(), Error>
 where
     N: TryInto<Moment>,
     Error: From<N::Error>,
 {
     let now = now.try_into()?;
     // SAFETY: the pointer is the slice's, with its length.
-    done(unsafe {
-        sys::curdmesa_envelope_check(bytes.as_ptr(), bytes.len(), now.secs, now.nanos, seed)
-    })
+    done(unsafe { sys::curdmesa_envelope_check(bytes.as_ptr(), bytes.len(), now.secs, now.nanos) })
 }
 
 /// Which items a filter keeps, by their type.
@@ -155,7 +154,7 @@ where
 {
     let now = now.try_into()?;
     let (kinds, keep) = kinds.bits();
-    let mut losses = Losses { sums: [0; LOSSES] };
+    let mut losses = Losses::default();
     let left = output::text(capacity(bytes.len()), |out, needed| {
         // SAFETY: each pointer is a slice's or an array's, with its length, or a reference's;
         // `out`, `needed` and `losses` are borrowed mutably.
@@ -179,49 +178,4 @@ where
     });
     let envelope = output::optional(left)?;
     Ok(Filtered { envelope, losses })
-}
-
-/// Number of sums: for each of 12 categories one without a reason, and one for each of 9 reasons.
-const LOSSES: usize = 120;
-
-/// A quantity of a category that is lost for a reason.
-#[derive(Clone, Copy, Debug, PartialEq, Eq)]
-pub struct Loss {
-    /// The data category.
-    pub category: Category,
-    /// The discard reason, where one is known: that of a client report's item.
-    pub reason: Option<Reason>,
-    /// The quantity; it stops at 2^64-1.
-    pub quantity: u64,
-}
-
-/// What is lost with the removed items: a sum for each category and reason, or for no known reason.
-#[derive(Clone, Debug, PartialEq, Eq)]
-pub struct Losses {
-    sums: [u64; LOSSES],
-}
-
-impl Losses {
-    /// Returns the quantity of a category that is lost for a reason, or without a known one.
-    pub fn get(&self, category: Category, reason: Option<Reason>) -> u64 {
-        let within = reason.map_or(0, |reason| reason as usize + 1);
-        self.sums[10 * category as usize + within]
-    }
-
-    /// Returns the losses above 0, by category; in each the one without a reason first, then by
-    /// reason.
-    pub fn iter(&self) -> impl Iterator<Item = Loss> + '_ {
-        let reasons = || std::iter::once(None).chain(Reason::ALL.iter().copied().map(Some));
-        let pairs = Category::ALL
-            .iter()
-            .flat_map(move |category| reasons().map(move |reason| (*category, reason)));
-        pairs.filter_map(|(category, reason)| match self.get(category, reason) {
-            0 => None,
-            quantity => Some(Loss {
-                category,
-                reason,
-                quantity,
-            }),
-        })
-    }
 }

@@ -141,3 +141,26 @@ impl From<Infallible> for Error {
 pub(crate) fn done(status: i32) -> Result<(), Error> {
     Error::from_status(status).map_or(Ok(()), Err)
 }
+
+#[cfg(test)]
+mod tests {
+    use super::*;
+    use crate::output::text;
+    use crate::sys;
+
+    fn said(status: i32) -> Result<Vec<u8>, Error> {
+        // SAFETY: the pointers are a slice's, with its length, and a reference's.
+        text(1, |out, needed| unsafe {
+            sys::curdmesa_status_text(status, out.as_mut_ptr(), out.len(), needed)
+        })
+    }
+
+    #[test]
+    fn statuses_are_the_librarys() {
+        for status in -1..99 {
+            let is_known = !matches!(Error::from_status(status), Some(Error::Unknown(_)));
+            assert_eq!(said(status).is_ok(), is_known, "{status}");
+        }
+        assert_eq!(said(99), Err(Error::InvalidArgument));
+    }
+}

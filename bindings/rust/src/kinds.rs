@@ -138,3 +138,48 @@ words! {
         SampleRate = "sample_rate",
     }
 }
+
+#[cfg(test)]
+mod tests {
+    use super::*;
+    use crate::output::text;
+    use crate::sys;
+
+    type Word = unsafe extern "C" fn(u32, *mut u8, usize, *mut u64) -> i32;
+    type OfWord = unsafe extern "C" fn(*const u8, usize, *mut u32) -> i32;
+
+    /// Asks the library for the word of each number, and for the number of that word.
+    fn words(due: &[&str], word: Word, of_word: OfWord) {
+        for (at, due) in due.iter().enumerate() {
+            // SAFETY: the pointers are a slice's, with its length, and a reference's.
+            let found = text(1, |out, needed| unsafe {
+                word(at as u32, out.as_mut_ptr(), out.len(), needed)
+            });
+            assert_eq!(found.unwrap(), due.as_bytes());
+            let mut number = 99;
+            // SAFETY: as before.
+            let status = unsafe { of_word(due.as_ptr(), due.len(), &mut number) };
+            assert_eq!((status, number), (0, at as u32));
+        }
+        // SAFETY: as before.
+        let past = text(99, |out, needed| unsafe {
+            word(due.len() as u32, out.as_mut_ptr(), out.len(), needed)
+        });
+        assert_eq!(past, Err(Error::InvalidArgument));
+    }
+
+    #[test]
+    fn words_are_the_librarys() {
+        let kinds: Vec<_> = ItemKind::ALL.iter().map(|kind| kind.as_str()).collect();
+        words(&kinds, sys::curdmesa_item_word, sys::curdmesa_item_of_word);
+        let categories: Vec<_> = Category::ALL.iter().map(|it| it.as_str()).collect();
+        let of_word = sys::curdmesa_category_of_word;
+        words(&categories, sys::curdmesa_category_word, of_word);
+        let reasons: Vec<_> = Reason::ALL.iter().map(|it| it.as_str()).collect();
+        words(
+            &reasons,
+            sys::curdmesa_reason_word,
+            sys::curdmesa_reason_of_word,
+        );
+    }
+}

@@ -2,6 +2,7 @@
 
 use crate::error::{done, Error};
 use crate::kinds::{Category, Reason};
+use crate::losses::{Losses, LOSSES};
 use crate::moment::Moment;
 use crate::{output, sys};
 
@@ -21,6 +22,16 @@ impl Ledger {
     /// Returns a ledger that holds no loss.
     pub const fn new() -> Ledger {
         Ledger { sums: [0; SUMS] }
+    }
+
+    /// Returns a ledger with the sums of another one, as a spool keeps them over a restart.
+    pub const fn from_sums(sums: [u64; SUMS]) -> Ledger {
+        Ledger { sums }
+    }
+
+    /// Returns what the ledger holds: for each category in turn the sum of each reason.
+    pub const fn sums(&self) -> &[u64; SUMS] {
+        &self.sums
     }
 
     /// Adds a loss.
@@ -46,6 +57,26 @@ impl Ledger {
         })
     }
 
+    /// Adds losses: those without a reason under `reason`, all others under their own. Returns how
+    /// many sums are refused, and not added, because the ledger's would exceed 2^64-1.
+    pub fn record_losses(&mut self, losses: &Losses, reason: Reason) -> u64 {
+        let mut refused = 0;
+        // SAFETY: the pointers are arrays', with their lengths, and a reference's; what is written
+        // is borrowed mutably.
+        let status = unsafe {
+            sys::curdmesa_ledger_record_losses(
+                self.sums.as_mut_ptr(),
+                SUMS,
+                losses.sums.as_ptr(),
+                LOSSES,
+                reason as u32,
+                &mut refused,
+            )
+        };
+        debug_assert_eq!(status, 0, "the number of a reason is in range");
+        refused
+    }
+
     /// Returns the quantity of a category and a reason that the ledger holds.
     pub fn held(&self, category: Category, reason: Reason) -> u64 {
         let mut quantity = 0;
@@ -69,7 +100,8 @@ impl Ledger {
     /// Moves all losses into a client report of the moment `now`, and returns the envelope of that
     /// one item; `None` if the ledger holds no loss.
     ///
-    /// The losses are only in the envelope then: if it can't be sent, record them again.
+    /// The losses are only in the envelope then: if it can't be sent, [`Ledger::record_losses`] of
+    /// its [`losses`](crate::losses) puts them back, each under its own reason.
     ///
     /// # Errors
     ///

@@ -24,6 +24,7 @@
 //! installed.
 #![warn(missing_docs)]
 
+mod any_frames;
 mod auth;
 pub mod crontab;
 mod dsn;
@@ -32,18 +33,21 @@ mod error;
 mod frames;
 mod kinds;
 mod ledger;
+mod losses;
 mod moment;
 mod output;
 pub mod rfc3339;
 mod sys;
 
+pub use any_frames::{any_frames, forward, AnyFrame, AnyFrames, Forwarded};
 pub use auth::Auth;
 pub use dsn::Dsn;
-pub use envelope::{check, filter, normalize, normalize_into, Filtered, Kinds, Loss, Losses};
+pub use envelope::{check, filter, normalize, normalize_into, Filtered, Kinds};
 pub use error::Error;
 pub use frames::{frames, Frame, Frames};
 pub use kinds::{Category, ItemKind, Reason};
 pub use ledger::Ledger;
+pub use losses::{losses, Loss, Losses};
 pub use moment::Moment;
 
 /// Returns the version of the library that is linked: major, minor and patch.

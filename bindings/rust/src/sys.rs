@@ -24,6 +24,19 @@ pub struct CurdmesaFrame {
     pub kind: u32,
 }
 
+/// An item of any type, as places in the bytes of its envelope.
+#[derive(Clone, Copy, Default)]
+#[repr(C)]
+pub struct CurdmesaAnyFrame {
+    pub item_offset: u64,
+    pub item_length: u64,
+    pub header_offset: u64,
+    pub header_length: u64,
+    pub payload_offset: u64,
+    pub payload_length: u64,
+    pub kind: u32,
+}
+
 /// The parts of a DSN.
 #[derive(Clone, Copy, Default)]
 #[repr(C)]
@@ -54,6 +67,16 @@ pub struct CurdmesaAuth {
     pub has_timestamp: u32,
 }
 
+/// A function that reads client authentication.
+pub type AuthCall = unsafe extern "C" fn(
+    text: *const u8,
+    text_len: usize,
+    out: *mut u8,
+    out_len: usize,
+    needed: *mut u64,
+    auth: *mut CurdmesaAuth,
+) -> i32;
+
 extern "C" {
     pub fn curdmesa_version() -> u32;
 
@@ -73,7 +96,6 @@ extern "C" {
         bytes_len: usize,
         now_secs: u64,
         now_nanos: u32,
-        seed: u64,
     ) -> i32;
 
     pub fn curdmesa_envelope_filter(
@@ -99,6 +121,45 @@ extern "C" {
         frame: *mut CurdmesaFrame,
     ) -> i32;
 
+    pub fn curdmesa_any_frames_next(
+        bytes: *const u8,
+        bytes_len: usize,
+        offset: *mut u64,
+        frame: *mut CurdmesaAnyFrame,
+        out: *mut u8,
+        out_len: usize,
+        needed: *mut u64,
+    ) -> i32;
+
+    pub fn curdmesa_envelope_forward(
+        bytes: *const u8,
+        bytes_len: usize,
+        keep: *const u8,
+        keep_len: usize,
+        attachments_follow: bool,
+        out: *mut u8,
+        out_len: usize,
+        needed: *mut u64,
+        losses: *mut u64,
+        losses_len: usize,
+    ) -> i32;
+
+    pub fn curdmesa_envelope_losses(
+        bytes: *const u8,
+        bytes_len: usize,
+        losses: *mut u64,
+        losses_len: usize,
+    ) -> i32;
+
+    pub fn curdmesa_frame_losses(
+        header: *const u8,
+        header_len: usize,
+        payload: *const u8,
+        payload_len: usize,
+        losses: *mut u64,
+        losses_len: usize,
+    ) -> i32;
+
     pub fn curdmesa_dsn_parse(
         text: *const u8,
         text_len: usize,
@@ -108,9 +169,38 @@ extern "C" {
         dsn: *mut CurdmesaDsn,
     ) -> i32;
 
+    pub fn curdmesa_dsn_envelope_url(
+        text: *const u8,
+        text_len: usize,
+        out: *mut u8,
+        out_len: usize,
+        needed: *mut u64,
+    ) -> i32;
+
+    pub fn curdmesa_dsn_auth(
+        text: *const u8,
+        text_len: usize,
+        now_secs: u64,
+        now_nanos: u32,
+        client: *const u8,
+        client_len: usize,
+        out: *mut u8,
+        out_len: usize,
+        needed: *mut u64,
+    ) -> i32;
+
     pub fn curdmesa_auth_parse(
         text: *const u8,
         text_len: usize,
+        out: *mut u8,
+        out_len: usize,
+        needed: *mut u64,
+        auth: *mut CurdmesaAuth,
+    ) -> i32;
+
+    pub fn curdmesa_auth_from_query(
+        query: *const u8,
+        query_len: usize,
         out: *mut u8,
         out_len: usize,
         needed: *mut u64,
@@ -142,6 +232,15 @@ extern "C" {
         quantity: u64,
     ) -> i32;
 
+    pub fn curdmesa_ledger_record_losses(
+        ledger: *mut u64,
+        ledger_len: usize,
+        losses: *const u64,
+        losses_len: usize,
+        reason: u32,
+        refused: *mut u64,
+    ) -> i32;
+
     pub fn curdmesa_ledger_held(
         ledger: *const u64,
         ledger_len: usize,
@@ -159,4 +258,29 @@ extern "C" {
         out_len: usize,
         needed: *mut u64,
     ) -> i32;
+}
+
+// The tests alone ask these: the crate has words and texts of its own.
+#[cfg(test)]
+extern "C" {
+    pub fn curdmesa_status_text(status: i32, out: *mut u8, out_len: usize, needed: *mut u64)
+        -> i32;
+
+    pub fn curdmesa_item_word(kind: u32, out: *mut u8, out_len: usize, needed: *mut u64) -> i32;
+
+    pub fn curdmesa_item_of_word(word: *const u8, word_len: usize, kind: *mut u32) -> i32;
+
+    pub fn curdmesa_category_word(
+        category: u32,
+        out: *mut u8,
+        out_len: usize,
+        needed: *mut u64,
+    ) -> i32;
+
+    pub fn curdmesa_category_of_word(word: *const u8, word_len: usize, category: *mut u32) -> i32;
+
+    pub fn curdmesa_reason_word(reason: u32, out: *mut u8, out_len: usize, needed: *mut u64)
+        -> i32;
+
+    pub fn curdmesa_reason_of_word(word: *const u8, word_len: usize, reason: *mut u32) -> i32;
 }

@@ -38,6 +38,7 @@ fn rust_type(c: &str) -> String {
         "uint8_t" => "u8",
         "uint32_t" => "u32",
         "uint64_t" => "u64",
+        "int32_t" => "i32",
         "size_t" => "usize",
         other => other,
     };
@@ -91,20 +92,22 @@ fn functions_are_declared_as_in_the_header() {
     // The only one without a status.
     let sys = sys.replace("pub fn curdmesa_version() -> u32;", "");
     assert!(header.contains(" uint32_t curdmesa_version(void);"));
-    let due = declarations(
+    let mut due = declarations(
         between(&header, " int32_t curdmesa_", ");"),
         '(',
         ',',
         c_declaration,
     );
-    let found = declarations(
+    let mut found = declarations(
         between(&sys, "pub fn curdmesa_", ") -> i32;"),
         '(',
         ',',
         rust_declaration,
     );
+    due.sort();
+    found.sort();
     assert_eq!(found, due);
-    assert_eq!(found.len(), 12);
+    assert_eq!(found.len(), 27);
 }
 
 #[test]
@@ -121,7 +124,7 @@ fn structs_are_declared_as_in_the_header() {
     due.sort();
     found.sort();
     assert_eq!(found, due);
-    assert_eq!(found.len(), 4);
+    assert_eq!(found.len(), 5);
 }
 
 /// The constants of the header's enumerations with a prefix, by their number.

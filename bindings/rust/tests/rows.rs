@@ -40,13 +40,13 @@ fn normalizes(given: &str, due: &str) {
     let normal = normalize(given.as_bytes(), NOW, 42).unwrap();
     assert_eq!(String::from_utf8_lossy(&normal), due);
     assert_eq!(normalize(&normal, NOW, 7), Ok(normal));
-    assert_eq!(check(given.as_bytes(), NOW, 42), Ok(()));
+    assert_eq!(check(given.as_bytes(), NOW), Ok(()));
 }
 
 #[track_caller]
 fn refuses(given: &str, due: Error) {
     assert_eq!(normalize(given.as_bytes(), NOW, 42), Err(due), "{given}");
-    assert_eq!(check(given.as_bytes(), NOW, 42), Err(due), "{given}");
+    assert_eq!(check(given.as_bytes(), NOW), Err(due), "{given}");
 }
 
 #[test]
@@ -148,21 +148,21 @@ fn beginnings_of_an_event_are_refused() {
             80..=166 => Err(Error::UnexpectedEof),
             _ => Ok(()),
         };
-        assert_eq!(check(&event.as_bytes()[..len], NOW, 0), due, "{len} bytes");
+        assert_eq!(check(&event.as_bytes()[..len], NOW), due, "{len} bytes");
     }
 }
 
 #[test]
 fn moments_end() {
-    assert_eq!(check(b"{}", (253_402_300_799, 999_999_999), 0), Ok(()));
-    assert_eq!(check(b"{}", (253_402_300_800, 0), 0), Err(Error::NoMoment));
+    assert_eq!(check(b"{}", (253_402_300_799, 999_999_999)), Ok(()));
+    assert_eq!(check(b"{}", (253_402_300_800, 0)), Err(Error::NoMoment));
     assert_eq!(
         normalize(b"{}", (0, 1_000_000_000), 0),
         Err(Error::NoMoment)
     );
     let before = UNIX_EPOCH - Duration::from_nanos(1);
-    assert_eq!(check(b"{}", before, 0), Err(Error::NoMoment));
-    assert_eq!(check(b"{}", SystemTime::now(), 0), Ok(()));
+    assert_eq!(check(b"{}", before), Err(Error::NoMoment));
+    assert_eq!(check(b"{}", SystemTime::now()), Ok(()));
     let moment = Moment {
         secs: 1,
         nanos: 500_000_000,
@@ -283,10 +283,7 @@ fn frames_are_slices() {
     let found: Result<Vec<_>, _> = frames(two.as_bytes()).collect();
     let payloads: Vec<_> = found.unwrap().iter().map(|frame| frame.payload).collect();
     assert_eq!(payloads, [&b"helloworld\n"[..], b"x"]);
-    assert_eq!(
-        check(two.as_bytes(), NOW, 0),
-        Err(Error::InvalidItemPayload)
-    );
+    assert_eq!(check(two.as_bytes(), NOW), Err(Error::InvalidItemPayload));
 
     assert!(frames(b"").next().is_none());
     assert!(frames(b"{}\n").next().is_none());
@@ -605,8 +602,7 @@ fn each_error_has_a_status() {
     assert_eq!(Error::DsnNoUsername.to_string(), "username is empty");
 }
 
-/// Removes attachments and hands on what is left; what is lost is recorded, under its own reason
-/// where it has one.
+/// Removes attachments, and records their bytes as lost.
 fn without_attachments(
     bytes: &[u8],
     now: SystemTime,
@@ -616,8 +612,7 @@ fn without_attachments(
     let kinds = Kinds::Remove(&[ItemKind::Attachment]);
     let filtered = filter(bytes, now, seed, kinds, true)?;
     for loss in filtered.losses.iter() {
-        let reason = loss.reason.unwrap_or(Reason::EventProcessor);
-        ledger.record(loss.category, reason, loss.quantity)?;
+        ledger.record(loss.category, Reason::EventProcessor, loss.quantity)?;
     }
     Ok(filtered.envelope)
 }
