@@ -7,3 +7,4 @@ pub mod Filtering
 pub mod Items
 pub mod Asking
 pub mod Refusals
+pub mod Dropping

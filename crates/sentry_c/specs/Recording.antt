@@ -1,8 +1,9 @@
 -- Losses in a row of sums, as a ledger in a row of sums records them.
-use Rattle.std.specs.Prelude.{ℕ, List, ◌∷◌, map, slice_index, Option, Some, None}
+use Rattle.std.specs.Prelude.{◌≡◌, ℕ, List, ◌∷◌, fold, map, slice_index, Option, Some, None}
 use Rattle.std.specs.List.{flat_map}
-use Rattle.sentry_ledger.specs.Recorded.{Records}
-use Rattle.sentry_ledger.specs.declared.recorded.Recording.{Recording}
+use Rattle.sentry_ledger.specs.Histories.{AnswersSteps}
+use Rattle.sentry_ledger.specs.Recorded.{Records, adds, counted}
+use Rattle.sentry_ledger.specs.declared.steps.StepAnswer.{StepAnswer}
 use Rattle.sentry_reports.specs.Categories.{categories, reasons}
 use Rattle.sentry_reports.specs.Sums.{place}
 use Rattle.sentry_reports.specs.declared.category.Category.{Category}
@@ -25,6 +26,10 @@ losses_told row = flat_map (losses_in row) categories
 abbrev pub RecordsRow : List ℕ → List ℕ → Reason → List ℕ → ℕ → Type 0
 RecordsRow old new reason losses refused = Records (record { row = old }) (record { row = new }) reason (losses_told losses) refused
 
--- a ledger in a row, the reason for losses without one, and how many were refused
-abbrev pub recording : List ℕ → Reason → ℕ → Recording
-recording row reason refused = record { ledger = record { row = row }; reason = reason; refused = refused }
+-- ---- parts of a run
+
+-- a ledger in a row records these losses beside those before them
+pub record RecordsOn (old new : List ℕ) (reason : Reason) (before after : ℕ) (losses : List ItemLoss) : Type 0 where
+  pub answers : List StepAnswer
+  pub answered : AnswersSteps (record { row = old }) (record { row = new }) (adds reason losses) answers
+  pub refused_are : after ≡ fold counted before answers

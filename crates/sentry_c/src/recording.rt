@@ -1,10 +1,9 @@
 //! Losses that a ledger in the caller's memory records.
 
 ghost use Rattle.std.specs.Prelude.{◌≡◌, ◌≢◌, ◌⊎◌, ◌∷◌, [], None, Some, length, map, slice_get};
-ghost use Rattle.sentry_ledger.specs.Recorded.{RecordsMore};
 ghost use Rattle.sentry_reports.specs.Categories.{reasons};
 ghost use Rattle.sentry_reports.specs.declared.reason.Reason.{Reason as Reasons};
-ghost use Rattle.sentry_c.specs.Recording.{RecordsRow, loss_in, losses_in, losses_told, recording};
+ghost use Rattle.sentry_c.specs.Recording.{RecordsOn, RecordsRow, loss_in, losses_in, losses_told};
 
 use crate::ledger::reason_at;
 use crate::status::{INVALID_ARGUMENT, OK};
@@ -33,8 +32,8 @@ fn loss_at(losses: &[u64], category: Category, reason: Option<Reason>) -> ItemLo
 // counted in `refused`, if the sum would exceed 2^64-1.
 fn add_loss(ledger: &mut [u64], loss: ItemLoss, reason: Reason, refused: &mut u64)
     requires { length ledger.old ≡ PAIRS }
-    ensures recorded { RecordsMore (recording ledger.old reason refused.old)
-        (recording ledger.new reason refused.new) (loss ∷ []) }
+    ensures recorded { RecordsOn ledger.old ledger.new reason refused.old refused.new
+        (loss ∷ []) }
     ensures long { length ledger.new ≡ PAIRS }
 {
     let place = pair_place(loss.category, loss.reason.unwrap_or(reason));
@@ -54,8 +53,7 @@ fn add_reasons(
 )
     requires ledger { length ledger.old ≡ PAIRS }
     requires losses { length losses.now ≡ SUMS }
-    ensures recorded { RecordsMore (recording ledger.old reason refused.old)
-        (recording ledger.new reason refused.new)
+    ensures recorded { RecordsOn ledger.old ledger.new reason refused.old refused.new
         (map (λ own. loss_in losses.now category (Some own)) reasons) }
     ensures long { length ledger.new ≡ PAIRS }
 {
@@ -81,8 +79,8 @@ fn add_category(
 )
     requires ledger { length ledger.old ≡ PAIRS }
     requires losses { length losses.now ≡ SUMS }
-    ensures recorded { RecordsMore (recording ledger.old reason refused.old)
-        (recording ledger.new reason refused.new) (losses_in losses.now category) }
+    ensures recorded { RecordsOn ledger.old ledger.new reason refused.old refused.new
+        (losses_in losses.now category) }
     ensures long { length ledger.new ≡ PAIRS }
 {
     add_loss(ledger, loss_at(losses, category, None), reason, refused);
@@ -93,8 +91,8 @@ fn add_category(
 fn add_losses(ledger: &mut [u64], losses: &[u64], reason: Reason, refused: &mut u64)
     requires ledger { length ledger.old ≡ PAIRS }
     requires losses { length losses.now ≡ SUMS }
-    ensures { RecordsMore (recording ledger.old reason refused.old)
-        (recording ledger.new reason refused.new) (losses_told losses.now) }
+    ensures { RecordsOn ledger.old ledger.new reason refused.old refused.new
+        (losses_told losses.now) }
 {
     let mut left = Category::VARIANTS;
     while let Some((category, rest)) = left.split_first() {

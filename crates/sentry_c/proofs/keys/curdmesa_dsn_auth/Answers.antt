@@ -18,7 +18,7 @@ returns-in-Ok-client_auth-clause-written c = λ _.
         secs_are = c.in-Some.ensures.same.0;
         nanos_are = c.in-Some.ensures.same.1;
         printed_is = c.as_bytes.ensures.value
-        ∙ subst (λ (client : List ℕ). string_bytes c.in-Ok-client_auth.printed ≡ auth_text (auth_of (dsn_parts dsn) c.in-Some.now (agent_in client))) c.in-Ok-from_utf8.ensures.cases.0 c.in-Ok-client_auth.ensures;
+            ∙ subst (λ (client : List ℕ). string_bytes c.in-Ok-client_auth.printed ≡ auth_text (auth_of (dsn_parts dsn) c.in-Some.now (agent_in client))) c.in-Ok-from_utf8.ensures.cases.0 c.in-Ok-client_auth.ensures;
       };
       fits = search rules;
       put = search rules;
@@ -37,7 +37,7 @@ returns-in-Ok-2-clause-no_room c = λ _.
         secs_are = c.in-Some.ensures.same.0;
         nanos_are = c.in-Some.ensures.same.1;
         printed_is = c.as_bytes.ensures.value
-        ∙ subst (λ (client : List ℕ). string_bytes c.in-Ok-client_auth.printed ≡ auth_text (auth_of (dsn_parts dsn) c.in-Some.now (agent_in client))) c.in-Ok-from_utf8.ensures.cases.0 c.in-Ok-client_auth.ensures;
+            ∙ subst (λ (client : List ℕ). string_bytes c.in-Ok-client_auth.printed ≡ auth_text (auth_of (dsn_parts dsn) c.in-Some.now (agent_in client))) c.in-Ok-from_utf8.ensures.cases.0 c.in-Ok-client_auth.ensures;
       };
       longer = search rules;
       length_told = search rules;
