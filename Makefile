@@ -1,6 +1,6 @@
 # Packs the proved library for machines without the Rattle kit.
 #
-#   make dist   # NAME.tar.gz: header, archive, shared object, wheel, manual page; and its SHA-256
+#   make dist   # NAME.tar.gz: header, archive, shared object, wheel, manual page, a page of the calls; its SHA-256
 #
 # It packs the archive that `rt lib`, or the merge gate, leaves in crates/sentry_c/out once all below
 # it is proved, and no other: it has to be newer than each file of the crates, which a commit has.
@@ -20,6 +20,7 @@ dist:
 	$(BINDING)/python clean && $(BINDING)/c clean && rm -rf $(NAME)
 	$(BINDING)/c install PREFIX= DESTDIR=$(CURDIR)/$(NAME)
 	$(BINDING)/python wheel && mv bindings/python/curdmesa-*.whl $(NAME) && cp LICENSE $(NAME)
+	python3 bindings/c/api.py > $(NAME)/API.md
 	echo "Commit $$(git rev-parse HEAD), proved and built by $$(rt version)" > $(NAME)/BUILT
 	cd $(NAME) && find . -type f ! -name SHA256SUMS | sort | xargs sha256sum > SHA256SUMS
 	tar --sort=name --owner=0 --group=0 --mtime=@$$(git log -1 --format=%ct) -czf $(NAME).tar.gz $(NAME)

@@ -1,9 +1,10 @@
 // Preloaded into a program, spoils one of the program's calls of the C library.
 //
 // SPOIL says how: `memory` refuses a request for memory, `fail-read` lets a read fail and `fail-write` a write, and with
-// `short` one of either does one byte alone. SPOIL_CALL is the number of the call among those, from 1; with 0, or a number that is not reached, none
-// is spoiled. At the end their count is written to the file descriptor that SPOIL_COUNT names. Only calls from the
-// program itself count, so that the C library can start and end it.
+// `short` one of either does one byte alone. SPOIL_CALL is the number of the call among those, from 1; with 0, or a
+// number that is not reached, none is spoiled. At the end their count is written to the file descriptor that
+// SPOIL_COUNT names. Only calls from the program itself count, so that the C library can start and end it.
+// SPOIL_CLOCK is what the clock shows, in seconds and nanoseconds; with other words it can't be read.
 #define _GNU_SOURCE
 #include <dlfcn.h>
 #include <errno.h>
@@ -12,6 +13,7 @@
 #include <stdio.h>
 #include <stdlib.h>
 #include <string.h>
+#include <time.h>
 #include <unistd.h>
 
 static uintptr_t first_byte, last_byte;
@@ -96,4 +98,19 @@ ssize_t write(int to, const void *from, size_t size) {
     if (is_spoiled("fail-write", caller))
         return errno = EIO, -1;
     return next(to, from, size && is_spoiled("short", caller) ? 1 : size);
+}
+
+int clock_gettime(clockid_t of, struct timespec *to) {
+    static int (*next)(clockid_t, struct timespec *);
+    const char *shown = getenv("SPOIL_CLOCK");
+    long long secs;
+    long nanos;
+    if (!next)
+        next = NEXT(clock_gettime);
+    if (!shown)
+        return next(of, to);
+    if (sscanf(shown, "%lld %ld", &secs, &nanos) != 2)
+        return errno = EINVAL, -1;
+    *to = (struct timespec){secs, nanos};
+    return 0;
 }

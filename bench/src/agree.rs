@@ -3,7 +3,6 @@
 use crate::answers::{self, Answer, Answers, Fault};
 use crate::compare;
 use crate::differences;
-use crate::envelopes;
 use crate::frames::{self, Cut};
 use crate::rows::{self, Row, ROWS};
 use std::collections::BTreeMap;
@@ -227,4 +226,70 @@ pub fn run_file(path: &str) -> Result<bool> {
         }
     }
     Ok(true)
+}
+
+#[cfg(test)]
+mod tests {
+    use crate::answers::{self, Answer};
+    use crate::frames::{cut, join, Piece};
+    use envelopes::json::Json;
+    use envelopes::make;
+
+    #[test]
+    fn most_envelopes_are_read() {
+        let read = (0..1000).filter(|index| {
+            let answer = answers::theirs(&make(1, *index));
+            matches!(answer, Answer::Written(_))
+        });
+        let read = read.count();
+        assert!(read > 500, "{read} of 1000");
+    }
+
+    /// Returns the most values of a list, and the most members of an object, in a value.
+    fn most(value: &Json) -> [usize; 2] {
+        let larger = |a: [usize; 2], b: [usize; 2]| [a[0].max(b[0]), a[1].max(b[1])];
+        match value {
+            Json::List(values) => values.iter().map(most).fold([values.len(), 0], larger),
+            Json::Object(members) => {
+                let inside = members.iter().map(|(_, value)| most(value));
+                inside.fold([0, members.len()], larger)
+            }
+            _ => [0, 0],
+        }
+    }
+
+    #[test]
+    fn lists_and_maps_have_up_to_forty_members() {
+        let cuts: Vec<_> = (0..1000).map(|index| cut(&make(1, index))).collect();
+        let items = cuts.iter().flat_map(|cut| &cut.items);
+        let payloads = items.filter_map(|item| match &item.payload {
+            Piece::Json(payload) => Some(most(payload)),
+            Piece::Bytes(_) => None,
+        });
+        let most = payloads.fold([0, 0], |a, b| [a[0].max(b[0]), a[1].max(b[1])]);
+        assert!(most.iter().all(|most| *most >= 32), "{most:?}");
+        let items = cuts.iter().map(|cut| cut.items.len()).max();
+        assert!(items > Some(16), "{items:?} items");
+    }
+
+    #[test]
+    fn some_envelopes_have_spaces_and_some_are_pretty() {
+        let having = |part: &[u8]| {
+            let has = |bytes: &[u8]| bytes.windows(part.len()).any(|window| window == part);
+            (0..1000).filter(|index| has(&make(1, *index))).count()
+        };
+        let headers: [&[u8]; 2] = [b"\n{\"type\": ", b"\n{\n  \"type\": "];
+        for header in headers {
+            let count = having(header);
+            assert!(count > 20, "{count} of 1000");
+        }
+    }
+
+    #[test]
+    fn what_is_cut_is_joined_again() {
+        for index in 0..1000 {
+            let joined = join(&cut(&make(2, index)));
+            assert_eq!(join(&cut(&joined)), joined);
+        }
+    }
 }

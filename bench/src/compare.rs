@@ -3,7 +3,7 @@
 
 use crate::answers::Answer;
 use crate::frames::{cut, Cut, Item, Piece};
-use crate::json::{is_float, Json};
+use envelopes::json::{is_float, Json};
 use std::collections::BTreeSet;
 
 /// Names of the rows that two equal texts differ in.

@@ -1,7 +1,7 @@
 //! The bytes of an envelope as lines and payloads, cut as the Rust crate cuts them.
 
-use crate::json::{self, Json};
-use crate::schema::{self, Kind};
+use envelopes::json::{self, Json};
+use envelopes::schema::{self, Kind};
 
 /// A line or a payload.
 #[derive(Clone, Debug)]

@@ -3,18 +3,10 @@
 mod agree;
 mod answers;
 mod compare;
-mod damage;
 mod differences;
-mod envelopes;
-mod forms;
 mod frames;
-mod json;
-mod make;
-mod random;
 mod rows;
-mod schema;
 mod speed;
-mod texts;
 
 use std::process::ExitCode;
 
@@ -22,7 +14,8 @@ const USAGE: &str = "usage: beside agree SEED COUNT
        beside agree FILE
        beside speed ROUNDS PATH..
        beside speed --once ours|theirs read|both FILE COUNT
-       beside speed --memory PATH..";
+       beside speed --memory PATH..
+       beside speed --frames ROUNDS PATH..";
 
 fn number(word: &str) -> Option<u64> {
     word.parse().ok()
@@ -43,6 +36,10 @@ fn run(words: &[&str]) -> Option<Result<bool, std::io::Error>> {
         }
         ["speed", "--memory", paths @ ..] if !paths.is_empty() => {
             Some(speed::memory(paths).map(|()| true))
+        }
+        ["speed", "--frames", rounds, paths @ ..] if !paths.is_empty() => {
+            let rounds = number(rounds).filter(|rounds| *rounds > 0)?;
+            Some(speed::frames(rounds, paths).map(|()| true))
         }
         ["speed", rounds, paths @ ..] if !paths.is_empty() => {
             let rounds = number(rounds).filter(|rounds| *rounds > 0)?;

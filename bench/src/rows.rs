@@ -6,8 +6,8 @@
 
 use crate::answers::Answers;
 use crate::frames::{Cut, Piece};
-use crate::json::{is_float, Json};
-use crate::schema::{self, Field, Kind, Rule, Table, CONTEXTS};
+use envelopes::json::{is_float, Json};
+use envelopes::schema::{self, Field, Kind, Rule, Table, CONTEXTS};
 use sentry_types::protocol::v7::debugid::DebugId;
 use std::collections::HashSet;
 use Shape::*;

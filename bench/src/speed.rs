@@ -224,6 +224,47 @@ pub fn run(rounds: u64, paths: &[&str]) -> Result<()> {
     Ok(())
 }
 
+/// Returns how many envelopes a second a call does of all inputs together, the best of the rounds.
+fn rate(inputs: &[Vec<u8>], rounds: u64, call: impl Fn(&[u8])) -> f64 {
+    let time = |times: u32| {
+        let start = Instant::now();
+        for _ in 0..times {
+            inputs.iter().for_each(|bytes| call(black_box(bytes)));
+        }
+        start.elapsed().as_secs_f64() / f64::from(times)
+    };
+    let mut times = 1;
+    while time(times) * f64::from(times) < SLICE.as_secs_f64() {
+        times *= 2;
+    }
+    let all: Vec<f64> = (0..rounds).map(|_| time(times)).collect();
+    inputs.len() as f64 / best(&all)
+}
+
+/// Prints how many of the inputs a second are framed, and are forwarded whole, and how many a
+/// split at line feeds takes, which is no reading of an envelope. Inputs may have any item types.
+pub fn frames(rounds: u64, paths: &[&str]) -> Result<()> {
+    let inputs: Vec<Vec<u8>> = files(paths)?.iter().map(fs::read).collect::<Result<_>>()?;
+    for bytes in &inputs {
+        curdmesa::forward(bytes, false, |_| true).map_err(|_| refused())?;
+    }
+    let framed = rate(&inputs, rounds, |bytes| {
+        black_box(curdmesa::any_frames(bytes).count());
+    });
+    let forwarded = rate(&inputs, rounds, |bytes| {
+        let _ = black_box(curdmesa::forward(bytes, false, |_| true));
+    });
+    let split = rate(&inputs, rounds, |bytes| {
+        black_box(bytes.split(|byte| *byte == b'\n').count());
+    });
+    println!("| {} envelopes | A second |", inputs.len());
+    println!("|---|---|");
+    println!("| `any_frames` | {framed:.0} |");
+    println!("| `forward`, which frames twice | {forwarded:.0} |");
+    println!("| split at line feeds | {split:.0} |");
+    Ok(())
+}
+
 fn refused() -> Error {
     Error::other("the envelope is refused")
 }

@@ -48,8 +48,8 @@ extern "C" {
 
 /* The version of this header: 1,000,000 for each major version, 1,000 for each minor one, and 1 for
  * each patch. */
-#define CURDMESA_VERSION 1000
-#define CURDMESA_VERSION_TEXT "0.1.0"
+#define CURDMESA_VERSION 2000
+#define CURDMESA_VERSION_TEXT "0.2.0"
 
 /* Returns the version of the library. It is CURDMESA_VERSION, if both are of one release. */
 uint32_t curdmesa_version(void);

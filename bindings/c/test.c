@@ -235,6 +235,38 @@ void expect_losses(const char *what, const uint64_t *losses, const uint64_t *due
         expect(what, (long long)losses[i], (long long)due[i]);
 }
 
+/* Removes attachments, and records their bytes as lost. */
+static int32_t without_attachments(const uint8_t *bytes, size_t len, uint64_t now, uint64_t seed,
+                                   uint8_t *out, size_t room, uint64_t *length, uint64_t *ledger) {
+    uint64_t losses[CURDMESA_LOSSES] = {0};
+    int32_t status = curdmesa_envelope_filter(
+        bytes, len, now, 0, seed, CURDMESA_KIND(CURDMESA_ITEM_ATTACHMENT), false, true, out, room,
+        length, losses, CURDMESA_LOSSES);
+    if (status != CURDMESA_OK && status != CURDMESA_NOTHING_LEFT)
+        return status;
+    uint64_t lost = losses[CURDMESA_LOSS(CURDMESA_CATEGORY_ATTACHMENT, CURDMESA_NO_REASON)];
+    int32_t recorded = curdmesa_ledger_record(ledger, CURDMESA_LEDGER, CURDMESA_CATEGORY_ATTACHMENT,
+                                              CURDMESA_REASON_EVENT_PROCESSOR, lost);
+    return recorded == CURDMESA_OK ? status : recorded;
+}
+
+static void test_recorded(void) {
+    static const char *const both =
+        EVENT_HEADER EVENT_ITEM "{\"type\":\"attachment\",\"length\":12}\nHello World!";
+    uint64_t ledger[CURDMESA_LEDGER] = {0}, length = 0;
+    uint8_t out[512] = {0};
+    uint8_t *bytes = block(both, strlen(both));
+    expect("recorded",
+           without_attachments(bytes, strlen(both), 0, 1, out, sizeof out, &length, ledger),
+           CURDMESA_OK);
+    expect_text("recorded", out, (size_t)length, EVENT_HEADER EVENT_ITEM);
+    expect("recorded",
+           (long long)ledger[CURDMESA_LEDGER_SUM(CURDMESA_CATEGORY_ATTACHMENT,
+                                                 CURDMESA_REASON_EVENT_PROCESSOR)],
+           12);
+    free(bytes);
+}
+
 static void test_filter(void) {
     uint64_t due[CURDMESA_LOSSES];
     Call call = {0};
@@ -680,6 +712,7 @@ int main(void) {
     test_moments();
     test_beginnings();
     test_filter();
+    test_recorded();
     test_frames();
     test_dsn();
     test_auth();

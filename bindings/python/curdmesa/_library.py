@@ -11,7 +11,7 @@ from typing import Callable, Union
 
 from .errors import Status, done
 
-VERSION = "0.1.0"
+VERSION = "0.2.0"
 
 
 class Place(ctypes.Structure):

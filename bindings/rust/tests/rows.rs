@@ -602,8 +602,7 @@ fn each_error_has_a_status() {
     assert_eq!(Error::DsnNoUsername.to_string(), "username is empty");
 }
 
-/// Removes attachments and hands on what is left; what is lost is recorded, under its own reason
-/// where it has one.
+/// Removes attachments, and records their bytes as lost.
 fn without_attachments(
     bytes: &[u8],
     now: SystemTime,
@@ -613,8 +612,7 @@ fn without_attachments(
     let kinds = Kinds::Remove(&[ItemKind::Attachment]);
     let filtered = filter(bytes, now, seed, kinds, true)?;
     for loss in filtered.losses.iter() {
-        let reason = loss.reason.unwrap_or(Reason::EventProcessor);
-        ledger.record(loss.category, reason, loss.quantity)?;
+        ledger.record(loss.category, Reason::EventProcessor, loss.quantity)?;
     }
     Ok(filtered.envelope)
 }

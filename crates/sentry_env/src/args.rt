@@ -11,7 +11,7 @@ use std::env::Env;
 use std::io::ErrorKind;
 
 /// Parsed arguments of the program.
-#[derive(Debug, Drop)]
+#[derive(Drop)]
 pub struct Args {
     /// Input file; standard input if `None`.
     pub path: Option<String>,

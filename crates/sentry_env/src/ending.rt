@@ -12,7 +12,7 @@ use std::alloc::AllocError;
 pub const USAGE: &str = "usage: sentry_env [-k] [-f PATH] KIND..";
 
 /// How a run succeeded.
-#[derive(Clone, Copy, Debug, PartialEq, Eq)]
+#[derive(Clone, Copy)]
 pub enum Outcome {
     /// An envelope was written.
     Written,
@@ -21,7 +21,7 @@ pub enum Outcome {
 }
 
 /// Why a run failed.
-#[derive(Debug, Drop)]
+#[derive(Drop)]
 pub enum RunError {
     /// The input is no envelope.
     Refused(EnvelopeError),

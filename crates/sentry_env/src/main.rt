@@ -13,16 +13,8 @@ mod ending;
 mod laws;
 mod loss_filter;
 mod losses;
-#[cfg(test)]
-mod memory_tests;
 mod read_all;
 mod run;
-#[cfg(test)]
-mod run_tests;
-#[cfg(test)]
-mod runs;
-#[cfg(test)]
-mod tests;
 
 use args::{Args, program_args};
 use clock::{moment_after, seed_at, time_since_1970};

@@ -10,7 +10,7 @@ use std::alloc::Global;
 use std::io::Read;
 
 /// Why reading failed.
-#[derive(Debug, Drop)]
+#[derive(Drop)]
 pub enum ReadError {
     /// A read failed, or was interrupted.
     Read,

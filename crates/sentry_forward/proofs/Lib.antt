@@ -5,5 +5,6 @@ pub mod Left
 pub mod Losing
 pub mod Placing
 pub mod Readings
+pub mod Runs
 pub mod Sorting
 pub mod Twice

@@ -8,6 +8,7 @@ pub mod forwarding;
 pub mod frames;
 pub mod header;
 pub mod laws;
+mod run;
 
 pub use error::ForwardError;
 pub use forwarding::{ForwardRules, Forwarded, forward, forward_by};

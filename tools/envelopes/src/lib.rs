@@ -1,11 +1,18 @@
-//! Makes the bytes of envelopes.
+//! Makes the bytes of envelopes of all item types, the same ones for each seed: half of them without
+//! faults, and one in five damaged.
 
-use crate::damage;
-use crate::json::{self, Json};
+mod damage;
+mod forms;
+pub mod json;
+mod make;
+mod random;
+pub mod schema;
+mod texts;
+
+use crate::json::Json;
 use crate::make::{Maker, Spacing};
 use crate::random::Random;
-use crate::schema::{self, Kind};
-use crate::texts;
+use crate::schema::Kind;
 
 /// Returns the envelope `index` of a run.
 pub fn make(seed: u64, index: u64) -> Vec<u8> {
@@ -197,70 +204,4 @@ fn write_escaped(random: &mut Random, text: &str, out: &mut Vec<u8>) {
         }
     }
     out.push(b'"');
-}
-
-#[cfg(test)]
-mod tests {
-    use super::make;
-    use crate::answers::{self, Answer};
-    use crate::frames::{cut, join, Piece};
-    use crate::json::Json;
-
-    #[test]
-    fn most_envelopes_are_read() {
-        let read = (0..1000).filter(|index| {
-            let answer = answers::theirs(&make(1, *index));
-            matches!(answer, Answer::Written(_))
-        });
-        let read = read.count();
-        assert!(read > 500, "{read} of 1000");
-    }
-
-    /// Returns the most values of a list, and the most members of an object, in a value.
-    fn most(value: &Json) -> [usize; 2] {
-        let larger = |a: [usize; 2], b: [usize; 2]| [a[0].max(b[0]), a[1].max(b[1])];
-        match value {
-            Json::List(values) => values.iter().map(most).fold([values.len(), 0], larger),
-            Json::Object(members) => {
-                let inside = members.iter().map(|(_, value)| most(value));
-                inside.fold([0, members.len()], larger)
-            }
-            _ => [0, 0],
-        }
-    }
-
-    #[test]
-    fn lists_and_maps_have_up_to_forty_members() {
-        let cuts: Vec<_> = (0..1000).map(|index| cut(&make(1, index))).collect();
-        let items = cuts.iter().flat_map(|cut| &cut.items);
-        let payloads = items.filter_map(|item| match &item.payload {
-            Piece::Json(payload) => Some(most(payload)),
-            Piece::Bytes(_) => None,
-        });
-        let most = payloads.fold([0, 0], |a, b| [a[0].max(b[0]), a[1].max(b[1])]);
-        assert!(most.iter().all(|most| *most >= 32), "{most:?}");
-        let items = cuts.iter().map(|cut| cut.items.len()).max();
-        assert!(items > Some(16), "{items:?} items");
-    }
-
-    #[test]
-    fn some_envelopes_have_spaces_and_some_are_pretty() {
-        let having = |part: &[u8]| {
-            let has = |bytes: &[u8]| bytes.windows(part.len()).any(|window| window == part);
-            (0..1000).filter(|index| has(&make(1, *index))).count()
-        };
-        let headers: [&[u8]; 2] = [b"\n{\"type\": ", b"\n{\n  \"type\": "];
-        for header in headers {
-            let count = having(header);
-            assert!(count > 20, "{count} of 1000");
-        }
-    }
-
-    #[test]
-    fn what_is_cut_is_joined_again() {
-        for index in 0..1000 {
-            let joined = join(&cut(&make(2, index)));
-            assert_eq!(join(&cut(&joined)), joined);
-        }
-    }
 }
