@@ -23,7 +23,8 @@ AUTH = {"X-Sentry-Auth": f"Sentry sentry_key={KEY}, sentry_version=7"}
 # A client that loses nothing by itself: 7 events, 2 attachments, 3 transactions of 2 spans each.
 SDK = """
 import sys, sentry_sdk
-sentry_sdk.init(sys.argv[1], traces_sample_rate=1.0, auto_session_tracking=False)
+sentry_sdk.init(sys.argv[1], traces_sample_rate=1.0, auto_session_tracking=False,
+                default_integrations=False)  # or its own requests may become spans
 for number in range(5):
     sentry_sdk.capture_message(f"message {number}")
 with sentry_sdk.push_scope() as scope:
