@@ -1,5 +1,5 @@
 -- A ledger in a row that records one loss after another.
-use Rattle.std.proofs.Common.{arith, ◌≡◌, ℕ, ◌+◌, ◌-◌, ◌^◌, ◌≤◌, min, Bool, true, false, if◌then◌else◌, List, [], ◌∷◌, ◌++◌, count_by, fold, refl, ap, subst, sym, ◌∙◌}
+use Rattle.std.proofs.Common.{arith, ◌≡◌, ℕ, ◌+◌, ◌-◌, ◌^◌, ◌≤◌, min, Bool, true, false, if◌then◌else◌, List, [], ◌∷◌, ◌++◌, count_by, fold, length, refl, ap, subst, sym, ◌∙◌}
 use Rattle.std.proofs.lemmas.List.{map-append}
 use Rattle.std.proofs.lemmas.List.Sums.{fold-append, sum_by-cons}
 use Rattle.sentry_reports.specs.declared.item_loss.ItemLoss.{ItemLoss}
@@ -50,3 +50,13 @@ records_row old new reason losses refused more = record {
   answered = more.answered;
   refused_are = more.refused_are ∙ (count_cut 0 more.answers (omega arith) ∙ omega arith);
 }
+
+-- ---- the losses of what is left of a list
+
+pub none_left : {A : Type 0} (losses : List A → List ItemLoss) (left : List A) (row : List ℕ) (reason : Reason) (refused : ℕ) → losses [] ≡ [] → length left ≡ 0 → RecordsOn row row reason refused refused (losses left)
+none_left losses [] row reason refused none ends = rw none (records_none row reason refused)
+none_left losses (x ∷ left) row reason refused none ends = absurd (omega (arith, ends))
+
+pub one_left : {A : Type 0} (losses : List A → List ItemLoss) (left : List A) (x : A) (rest : List A) (a b c : List ℕ) (reason : Reason) (k m n : ℕ) (own : List ItemLoss) → left ≡ x ∷ rest
+    → losses (x ∷ rest) ≡ own ++ losses rest → RecordsOn a b reason k m own → RecordsOn b c reason m n (losses rest) → RecordsOn a c reason k n (losses left)
+one_left losses left x rest a b c reason k m n own is splits first more = rw (is, splits) (records_append a b c reason k m n own (losses rest) first more)

@@ -1,6 +1,5 @@
-use Rattle.std.proofs.Common.{rules}
 use Rattle.sentry_c.proofs.Dropping.{sums_after}
 use Rattle.sentry_c.proofs.losses.sums_of.Goals as goal
 
 pub returns : goal.returns
-returns c = sums_after c.loop-loss.sums c.loop-loss.left.now c.args.losses.now (search rules) c.loop-loss.invariant
+returns c = sums_after c.loop-loss.sums c.loop-loss.left.now c.args.losses.now c.in_default.ensures.cases c.loop-loss.invariant
