@@ -235,19 +235,26 @@ void expect_losses(const char *what, const uint64_t *losses, const uint64_t *due
         expect(what, (long long)losses[i], (long long)due[i]);
 }
 
-/* Removes attachments, and records their bytes as lost. */
-static int32_t without_attachments(const uint8_t *bytes, size_t len, uint64_t now, uint64_t seed,
-                                   uint8_t *out, size_t room, uint64_t *length, uint64_t *ledger) {
-    uint64_t losses[CURDMESA_LOSSES] = {0};
-    int32_t status = curdmesa_envelope_filter(
-        bytes, len, now, 0, seed, CURDMESA_KIND(CURDMESA_ITEM_ATTACHMENT), false, true, out, room,
-        length, losses, CURDMESA_LOSSES);
-    if (status != CURDMESA_OK && status != CURDMESA_NOTHING_LEFT)
-        return status;
-    uint64_t lost = losses[CURDMESA_LOSS(CURDMESA_CATEGORY_ATTACHMENT, CURDMESA_NO_REASON)];
-    int32_t recorded = curdmesa_ledger_record(ledger, CURDMESA_LEDGER, CURDMESA_CATEGORY_ATTACHMENT,
-                                              CURDMESA_REASON_EVENT_PROCESSOR, lost);
-    return recorded == CURDMESA_OK ? status : recorded;
+/* Drops attachments, and records their bytes as lost. At most 100 items, with words as long. */
+static int32_t without_attachments(const uint8_t *bytes, size_t len, uint8_t *out, size_t room,
+                                   uint64_t *length, uint64_t *ledger) {
+    uint8_t keep[100], word[100];
+    uint64_t offset = 0, word_length, losses[CURDMESA_LOSSES], refused;
+    size_t items = 0;
+    int32_t status = CURDMESA_OK;
+    CurdmesaAnyFrame item;
+    while (items < sizeof keep && status == CURDMESA_OK) {
+        status = curdmesa_any_frames_next(bytes, len, &offset, &item, word, sizeof word,
+                                          &word_length);
+        if (status == CURDMESA_OK)
+            keep[items++] = item.kind != CURDMESA_ITEM_ATTACHMENT;
+    }
+    status = curdmesa_envelope_forward(bytes, len, keep, items, false, out, room, length, losses,
+                                       CURDMESA_LOSSES);
+    if (status == CURDMESA_OK || status == CURDMESA_NOTHING_LEFT)
+        curdmesa_ledger_record_losses(ledger, CURDMESA_LEDGER, losses, CURDMESA_LOSSES,
+                                      CURDMESA_REASON_EVENT_PROCESSOR, &refused);
+    return status;
 }
 
 static void test_recorded(void) {
@@ -257,7 +264,7 @@ static void test_recorded(void) {
     uint8_t out[512] = {0};
     uint8_t *bytes = block(both, strlen(both));
     expect("recorded",
-           without_attachments(bytes, strlen(both), 0, 1, out, sizeof out, &length, ledger),
+           without_attachments(bytes, strlen(both), out, sizeof out, &length, ledger),
            CURDMESA_OK);
     expect_text("recorded", out, (size_t)length, EVENT_HEADER EVENT_ITEM);
     expect("recorded",

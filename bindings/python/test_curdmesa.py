@@ -184,11 +184,10 @@ class Envelopes(unittest.TestCase):
 
 
 def without_attachments(data: bytes, ledger: Ledger):
-    """Removes attachments, and records their bytes as lost."""
-    filtered = curdmesa.filter(data, {ItemKind.ATTACHMENT}, keep_headers=True)
-    for loss in filtered.losses:
-        ledger.record(loss.category, Reason.EVENT_PROCESSOR, loss.quantity)
-    return filtered.envelope
+    """Drops attachments, and records their bytes as lost."""
+    left = curdmesa.forward(data, lambda item: item.kind != ItemKind.ATTACHMENT)
+    ledger.record_losses(left.losses, Reason.EVENT_PROCESSOR)
+    return left.envelope
 
 
 class Documentation(unittest.TestCase):

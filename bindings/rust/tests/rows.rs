@@ -1,8 +1,8 @@
 //! Worked rows of the format: what is given, and what is due.
 
 use curdmesa::{
-    check, crontab, filter, frames, normalize, normalize_into, rfc3339, Auth, Category, Dsn, Error,
-    Frame, Frames, ItemKind, Kinds, Ledger, Loss, Moment, Reason,
+    check, crontab, filter, forward, frames, normalize, normalize_into, rfc3339, AnyFrame, Auth,
+    Category, Dsn, Error, Frame, Frames, ItemKind, Kinds, Ledger, Loss, Moment, Reason,
 };
 use std::time::{Duration, SystemTime, UNIX_EPOCH};
 
@@ -602,26 +602,19 @@ fn each_error_has_a_status() {
     assert_eq!(Error::DsnNoUsername.to_string(), "username is empty");
 }
 
-/// Removes attachments, and records their bytes as lost.
-fn without_attachments(
-    bytes: &[u8],
-    now: SystemTime,
-    seed: u64,
-    ledger: &mut Ledger,
-) -> Result<Option<Vec<u8>>, Error> {
-    let kinds = Kinds::Remove(&[ItemKind::Attachment]);
-    let filtered = filter(bytes, now, seed, kinds, true)?;
-    for loss in filtered.losses.iter() {
-        ledger.record(loss.category, Reason::EventProcessor, loss.quantity)?;
-    }
-    Ok(filtered.envelope)
+/// Drops attachments, and records their bytes as lost.
+fn without_attachments(bytes: &[u8], ledger: &mut Ledger) -> Result<Option<Vec<u8>>, Error> {
+    let is_kept = |item: &AnyFrame<'_>| item.kind != Some(ItemKind::Attachment);
+    let left = forward(bytes, false, is_kept)?;
+    ledger.record_losses(&left.losses, Reason::EventProcessor);
+    Ok(left.envelope)
 }
 
 #[test]
-fn removed_attachments_are_recorded() {
+fn dropped_attachments_are_recorded() {
     let mut ledger = Ledger::new();
     let both = event_and_attachment();
-    let left = without_attachments(both.as_bytes(), UNIX_EPOCH, 1, &mut ledger);
+    let left = without_attachments(both.as_bytes(), &mut ledger);
     assert_eq!(left, Ok(Some(event().into_bytes())));
     assert_eq!(
         ledger.held(Category::Attachment, Reason::EventProcessor),
