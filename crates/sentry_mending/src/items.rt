@@ -115,6 +115,13 @@ fn broken_in(
     })
 }
 
+fn place_cause(place: Option<Place>) -> Cause {
+    match place {
+        Some(place) => Cause::Place(place),
+        None => Cause::Whole,
+    }
+}
+
 // Returns the places that don't fit, at most so many, in a text of the envelope of some role.
 fn causes_in<R: Rng>(
     alloc: Global,
@@ -138,14 +145,12 @@ fn causes_in<R: Rng>(
         ids,
     };
     let Searched { notes, stuck } = find_faults(alloc, reader, bytes, start, None, most)?;
+    let rest = place_cause(stuck);
     for note in notes {
         causes.push(Cause::Place(note.place))?;
     }
     if causes.is_empty() {
-        causes.push(match stuck {
-            Some(place) => Cause::Place(place),
-            None => Cause::Whole,
-        })?;
+        causes.push(rest)?;
     }
     Ok(causes)
 }

@@ -1,6 +1,6 @@
 //! Reads an envelope of which some items don't fit.
 
-ghost use Rattle.std.specs.Prelude.{◌≡◌, ◌≢◌, ◌≤◌, [], None, Some, IfErr, IfOk, IfSome, IsSomeAnd, IsTrue, length, take, List, ℕ};
+ghost use Rattle.std.specs.Prelude.{◌≡◌, ◌≢◌, ◌≤◌, [], None, Some, IfErr, IfOk, IfSome, IsSomeAnd, IsTrue, OnOk, length, take, List, ℕ};
 ghost use Rattle.std.specs.List.{All};
 ghost use Rattle.sentry_envelope.specs.Envelope.{Spells};
 ghost use Rattle.sentry_envelope.specs.EnvelopeView.{structured};
@@ -15,7 +15,7 @@ ghost use Rattle.sentry_places.specs.Spliced.{AreInOrder, spliced};
 
 use crate::fault::{Cause, Fault};
 use crate::items::{Framed, Spot, copied, item_causes, next_spot, spot_error};
-use crate::reading::{Reader, Role, fault_alone, refuses_payload};
+use crate::reading::{Reader, Role, fault_alone, not_memory, refuses_payload};
 use crate::times::Rfc3339Times;
 use rand_core::Rng;
 use sentry_envelope::Envelope;
@@ -489,6 +489,26 @@ fn mend_item<R: Rng>(
     Ok(left)
 }
 
+// Appends the item, repaired or left out, if it is refused.
+fn push_mended<R: Rng>(
+    alloc: Global,
+    bytes: &[u8],
+    spot: &Spot,
+    rules: MendRules,
+    now: Moment,
+    ids: &mut R,
+    items: &mut Vec<MendedItem>,
+) -> Result<(), AllocError>
+    requires { All (IsMended profile rules.max_tested bytes.now) items.old.items }
+    ensures { OnOk result (All (IsMended profile rules.max_tested bytes.now) items.new.items) }
+{
+    let Some(mended) = mend_item(alloc, bytes, spot, rules, now, ids)? else {
+        return Ok(());
+    };
+    items.push(mended)?;
+    Ok(())
+}
+
 // Repairs all items that are refused, or leaves them out.
 fn mend_items<R: Rng>(
     alloc: Global,
@@ -509,9 +529,7 @@ fn mend_items<R: Rng>(
         let Some(spot) = next_spot(alloc, bytes, &mut frames, item)? else {
             break;
         };
-        if let Some(mended) = mend_item(alloc, bytes, &spot, rules, now, ids)? {
-            items.push(mended)?;
-        }
+        push_mended(alloc, bytes, &spot, rules, now, ids, &mut items)?;
     }
     Ok(items)
 }
@@ -575,6 +593,34 @@ fn reread<R: Rng>(
     }
 }
 
+// Mends an envelope of which this is the first check that fails.
+fn mend_refused<R: Rng>(
+    alloc: Global,
+    bytes: &[u8],
+    error: EnvelopeError,
+    now: Moment,
+    ids: &mut R,
+    rules: MendRules,
+) -> Result<Mended, Refusal>
+    requires { Fails profile bytes.now error }
+    ensures in_order { IfOk result (λ m. AreInOrder 0 (all_notes m.items.items) bytes.now) }
+    ensures spelled { IfOk result (λ m. IsSomeAnd (structured m.envelope) (Spells profile
+        (spliced 0 (all_notes m.items.items) bytes.now) (moment_cell now))) }
+    ensures mended { IfOk result (λ m.
+        All (IsMended profile rules.max_tested bytes.now) m.items.items) }
+    ensures as_it_stands { IfOk result (λ m. m.error ≡ None → m.items.items ≡ []) }
+    ensures fails { IfOk result (λ m. IfSome m.error (Fails profile bytes.now)) }
+    ensures refused { IfErr result (λ x. x.error ≢ EnvelopeError.OutOfMemory →
+        Fails profile bytes.now x.error) }
+{
+    if matches!(error, EnvelopeError::InvalidHeader) {
+        return Err(Refusal { error });
+    }
+    let items = mend_items(alloc, bytes, rules, now, ids)?;
+    let mended = reread(alloc, bytes, items, error, now, ids)?;
+    Ok(mended)
+}
+
 /// Parses an envelope, item by item: where an item is refused, the least is changed that lets it
 /// read, and an item that can't be repaired is left out.
 ///
@@ -601,24 +647,15 @@ pub fn mend<R: Rng>(
     ensures refused { IfErr result (λ x. x.error ≢ EnvelopeError.OutOfMemory →
         Fails profile bytes.now x.error) }
 {
-    let error = match Envelope::from_slice(alloc, bytes, now, ids) {
-        Ok(envelope) => {
-            return Ok(Mended {
-                envelope,
-                error: None,
-                items: Vec::new(alloc),
-            });
+    match Envelope::from_slice(alloc, bytes, now, ids) {
+        Ok(envelope) => Ok(Mended {
+            envelope,
+            error: None,
+            items: Vec::new(alloc),
+        }),
+        Err(error) => {
+            not_memory(&error)?;
+            mend_refused(alloc, bytes, error, now, ids, rules)
         }
-        Err(EnvelopeError::OutOfMemory) => {
-            return Err(Refusal {
-                error: EnvelopeError::OutOfMemory,
-            });
-        }
-        Err(error) => error,
-    };
-    if matches!(error, EnvelopeError::InvalidHeader) {
-        return Err(Refusal { error });
     }
-    let items = mend_items(alloc, bytes, rules, now, ids)?;
-    reread(alloc, bytes, items, error, now, ids)
 }

@@ -14,7 +14,7 @@ use sentry_places::{Oracle, Times};
 use std::alloc::{AllocError, Global};
 
 // Returns an error if this one is that an allocation failed.
-fn not_memory(error: &EnvelopeError) -> Result<(), AllocError>
+pub(crate) fn not_memory(error: &EnvelopeError) -> Result<(), AllocError>
     ensures { OnOk result (error.now ≢ EnvelopeError.OutOfMemory) }
 {
     match error {
@@ -35,7 +35,10 @@ pub(crate) fn fault_of<R: Rng>(
     ensures fails { IfOk result (λ o. IfSome o (Fails profile bytes.now)) }
 {
     match Envelope::from_slice(alloc, bytes, now, ids) {
-        Ok(_) => Ok(None),
+        Ok(envelope) => {
+            drop(envelope);
+            Ok(None)
+        }
         Err(error) => {
             not_memory(&error)?;
             Ok(Some(error))

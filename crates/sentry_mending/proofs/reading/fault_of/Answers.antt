@@ -6,4 +6,4 @@ use Rattle.sentry_mending.proofs.reading.fault_of.Goals as goal
 
 pub returns-in-Ok-clause-reads : goal.returns-in-Ok-clause-reads
 returns-in-Ok-clause-reads g c =
-    λ _. reads_made profile (moment_cell c.args.now) c.args.bytes.now (structured c.in-Ok.field-0) c.in-Ok.ensures.spelled
+    λ _. reads_made profile (moment_cell c.args.now) c.args.bytes.now (structured c.in-Ok.envelope) c.in-Ok.ensures.spelled
