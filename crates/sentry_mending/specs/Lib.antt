@@ -1,0 +1,4 @@
+pub mod Alone
+pub mod MendedItems
+pub mod Times
+pub mod Told

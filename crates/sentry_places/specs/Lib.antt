@@ -1,0 +1,3 @@
+pub mod Honest
+pub mod Needed
+pub mod Spliced
