@@ -7,19 +7,18 @@ use Rattle.sentry_tables.specs.Cell.{Cell}
 use Rattle.sentry_tables.specs.Kind.{Kind}
 use Rattle.sentry_tables.specs.Laws.{TextShows}
 use Rattle.sentry_tables.specs.Shows.{Shows, is_object}
-use Rattle.sentry_framing.specs.Framing.{Frame, IsFirstFrame, IsLineAndBody}
+use Rattle.sentry_framing.specs.Framing.{Frame, IsFirstFrame}
 use Rattle.sentry_framing.specs.ItemHeader.{read_header, stated_length}
 use Rattle.sentry_framing.specs.ItemWords.{item_words}
 use Rattle.sentry_framing.proofs.EnvelopeLine.{same_line}
 use Rattle.sentry_framing.proofs.StatedLengths.{states}
 use Rattle.sentry_forward.specs.AnyHeader.{any_reading, is_object_line}
-use Rattle.sentry_forward.specs.Forward.{ArePieces, Leaves, Piece, kept}
+use Rattle.sentry_forward.specs.Forward.{ArePieces, Piece, kept}
 use Rattle.sentry_forward.proofs.Left.{cut_front, left_line, left_pieces, same_pieces}
 use Rattle.sentry_forward.proofs.Readings.{known_reading, known_typed, reads as any_reads, tree_is, weaker_frame}
 use Rattle.sentry_envelope.specs.Profile.{Profile, words}
-use Rattle.sentry_envelope.specs.Envelope.{Envelope, Item, item, raw, ItemShows, ItemsStand, Spells, reads}
-use Rattle.sentry_envelope.specs.ForwardLaws.{AreFramedInto, ForwardedAreSpelled, KeptAreSpelled, PiecesShow, SpelledAreFramed}
-use Rattle.sentry_envelope.specs.HeaderFields.{header_kind}
+use Rattle.sentry_envelope.specs.Envelope.{Item, item, raw, ItemShows, ItemsStand, reads}
+use Rattle.sentry_envelope.specs.ForwardLaws.{ForwardedAreSpelled, KeptAreSpelled, PiecesShow, SpelledAreFramed}
 use Rattle.sentry_envelope.specs.SentryProfile.{profile}
 
 -- a kind of which each tree is an object

@@ -1,5 +1,5 @@
 -- The item of a frame by itself.
-use Rattle.std.proofs.Common.{◌≡◌, ◌<◌, ℕ, List, [], ◌∷◌, ◌++◌, length, Vec, Global, vec_len, Some, None, arith, refl, sym, ap, subst, ◌∙◌}
+use Rattle.std.proofs.Common.{◌≡◌, ◌<◌, List, [], ◌∷◌, ◌++◌, length, Vec, Global, vec_len, Some, None, arith, refl, sym, ap, subst, ◌∙◌}
 use Rattle.sentry_tables.specs.Cell.{Cell}
 use Rattle.sentry_framing.specs.Framing.{Frame}
 use Rattle.sentry_framing.specs.ItemHeader.{Header, read_header}

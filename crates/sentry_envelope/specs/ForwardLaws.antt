@@ -1,8 +1,8 @@
 -- What forwarding leaves of envelopes that are accepted, and when what is left is accepted.
-use Rattle.std.specs.Prelude.{◌≡◌, ℕ, Bool, true, List, [], ◌∷◌, map, ⊤}
+use Rattle.std.specs.Prelude.{◌≡◌, ℕ, Bool, true, List, [], ◌∷◌, ⊤}
 use Rattle.sentry_tables.specs.Cell.{Cell}
 use Rattle.sentry_tables.specs.Laws.{TextShows}
-use Rattle.sentry_framing.specs.Framing.{Frame, IsLineAndBody}
+use Rattle.sentry_framing.specs.Framing.{IsLineAndBody}
 use Rattle.sentry_forward.specs.AnyHeader.{any_reading, is_object_line}
 use Rattle.sentry_forward.specs.Forward.{ArePieces, Leaves, Piece, kept}
 use Rattle.sentry_envelope.specs.Profile.{Profile}

@@ -88,11 +88,12 @@ pub struct ForwardRules {
 }
 
 impl ForwardRules {
-    ghost use Rattle.std.specs.Prelude.{◌≡◌, false};
+    ghost use Rattle.std.specs.Prelude.{◌≡◌, ◌-◌, ◌^◌, false};
 
     /// Creates rules that bound no number of items and drop nothing that the filter keeps.
     pub fn new() -> ForwardRules
-        ensures { result.attachments_follow ≡ false }
+        ensures unbounded { result.max_items ≡ 2 ^ 64 - 1 }
+        ensures kept { result.attachments_follow ≡ false }
     {
         ForwardRules {
             max_items: usize::MAX,
