@@ -21,6 +21,10 @@ pub use sentry_items::{
     Attachment, AttachmentType, AttachmentWriteError, EnvelopeItem, ItemContainer, ItemLossIter,
     LossSlice, LossSource, ReplayRecording,
 };
+pub use sentry_mending::{
+    Break, Cause, Expected, Explanation, Fault, Found, MendRules, Mended, MendedItem, Note, Place,
+    Refusal, Repair, Repairs, Wanted, explain, mend,
+};
 pub use sentry_parts::{
     AppleDebugImage, Breadcrumb, CError, ClientSdkInfo, ClientSdkPackage, DebugImage, DebugMeta,
     Exception, Frame, LogEntry, MachException, Mechanism, MechanismMeta, PosixSignal,
