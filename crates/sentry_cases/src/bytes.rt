@@ -9,6 +9,7 @@ use crate::filters::{of_answers, of_filter};
 use crate::form::{of_apart, of_flat, of_tape};
 use crate::forwarding::{of_any_frames, of_forward};
 use crate::ledger::of_recorded;
+use crate::mending::{of_explain, of_mend};
 use crate::said::{as_tree, list, text};
 use crate::trees::of_tree;
 use crate::typed::{of_forwarded, of_frame_losses, of_typed};
@@ -55,6 +56,9 @@ pub fn of_bytes(alloc: Global, name: &str, bytes: &[u8]) -> Option<Result<Value,
     if let Some(words) = name.strip_prefix("forward ") {
         return Some(of_forward(alloc, words, bytes));
     }
+    if let Some(words) = name.strip_prefix("mend ") {
+        return Some(of_mend(alloc, words, bytes));
+    }
     if let Some(words) = name.strip_prefix("built ") {
         return Some(of_built(alloc, words, bytes));
     }
@@ -65,6 +69,7 @@ pub fn of_bytes(alloc: Global, name: &str, bytes: &[u8]) -> Option<Result<Value,
         "raw" => said_of(alloc, begun(alloc, "raw", bytes), said_raw),
         "envelope" => said_of(alloc, read(alloc, bytes), said_steady),
         "rewritten" => said_of(alloc, read(alloc, bytes), said_envelope),
+        "explain" => of_explain(alloc, bytes),
         "frames" => of_frames(alloc, bytes),
         "any_frames" => of_any_frames(alloc, bytes),
         "containers" => said_of(alloc, read(alloc, bytes), said_containers),

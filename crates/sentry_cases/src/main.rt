@@ -26,6 +26,7 @@ mod headers;
 mod ids;
 mod ledger;
 mod made;
+mod mending;
 mod moments;
 mod numbers;
 mod parts;
