@@ -3,7 +3,7 @@
 use crate::note::Wanted;
 
 /// The smallest objects that tables with required members read.
-pub(crate) const DONORS: [&str; 29] = [
+pub(crate) const DONORS: [&str; 30] = [
     "{}",
     r#"{"type":""}"#,
     r#"{"values":[]}"#,
@@ -25,6 +25,7 @@ pub(crate) const DONORS: [&str; 29] = [
     r#"{"level":"info","body":"","timestamp":0}"#,
     r#"{"type":"counter","name":"","value":0,"timestamp":0,"trace_id":"00000000000000000000000000000000"}"#,
     r#"{"check_in_id":"00000000000000000000000000000000","monitor_slug":"","status":"ok"}"#,
+    r#"{"event_id":"00000000000000000000000000000000","comments":""}"#,
     r#"{"schedule":{"type":"crontab","value":""}}"#,
     r#"{"type":"crontab","value":""}"#,
     r#"{"type":"interval","value":0,"unit":"day"}"#,
