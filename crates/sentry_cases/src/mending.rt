@@ -52,12 +52,18 @@ fn said_notes(alloc: Global, notes: &[Note]) -> Result<Value, AllocError> {
     Ok(Value::from(told))
 }
 
-// Why an item is refused, whether it is left out, and the notes on its header and its payload.
+// Why an item is refused, or null; whether it is left out; the notes on its header, that of the
+// header's event id, and those on its payload.
 fn said_mended_item(alloc: Global, item: &MendedItem) -> Result<Value, AllocError> {
+    let fault = match &item.fault {
+        Some(fault) => shown(alloc, fault),
+        None => Ok(Value::Null),
+    };
     let fields = [
-        shown(alloc, &item.fault),
+        fault,
         as_tree(item.is_left()),
         said_notes(alloc, &item.frame),
+        said_notes(alloc, &item.id),
         said_notes(alloc, &item.payload),
     ];
     list(alloc, fields)
@@ -80,7 +86,8 @@ fn said_mended(alloc: Global, mended: &Mended) -> Result<Value, AllocError> {
     list(alloc, fields)
 }
 
-// The rules that words name: the repairs, and `-n` and a number of notes.
+// The rules that words name: the repairs, `-n` and a number of notes, and `-i` for the header's
+// event id.
 fn rules_of(words: &str) -> MendRules {
     let mut rules = MendRules::new();
     let mut left = words;
@@ -89,6 +96,10 @@ fn rules_of(words: &str) -> MendRules {
         if let Ok(most) = number.parse::<usize>() {
             rules.max_notes = most;
         }
+        left = rest;
+    }
+    if let Some(rest) = left.strip_prefix("-i ") {
+        rules.header_event_id = true;
         left = rest;
     }
     rules.repairs = match left {
