@@ -99,6 +99,8 @@ pub enum Repair {
     AsMoment,
     /// A value became a string of its own characters.
     AsText,
+    /// The type of an attribute, which no type of its value fits, became `string`.
+    AsStringType,
     /// An empty array was put where a required array is absent or doesn't fit.
     AsEmptyList,
     /// A member or an item of an array was taken out.
@@ -115,6 +117,7 @@ impl Repair {
         match self {
             Repair::AsMoment => "as an RFC 3339 string",
             Repair::AsText => "as a string",
+            Repair::AsStringType => "as the type `string`",
             Repair::AsEmptyList => "as an empty array",
             Repair::TakenOut => "taken out",
             Repair::Length => "length",
