@@ -41,13 +41,15 @@ IsEmptyList path instead = (instead ≡ empty_list) ⊎ ((instead ≡ empty_memb
 abbrev pub string_word : List ℕ
 string_word = 34 ∷ 115 ∷ 116 ∷ 114 ∷ 105 ∷ 110 ∷ 103 ∷ 34 ∷ []
 
--- what the bytes that stood at a path became
+-- What the bytes that stood at a path became. Of `length` and a header's id these bytes say nothing:
+-- whoever puts one says which.
 abbrev pub Became : (List ℕ → List ℕ → Type 0) → Repair → List ℕ → List ℕ → List ℕ → Type 0
 Became is_time repair.AsMoment path stood instead = is_time stood instead
 Became is_time repair.AsText path stood instead = instead ≡ quoted stood
 Became is_time repair.AsStringType path stood instead = instead ≡ string_word
 Became is_time repair.AsEmptyList path stood instead = IsEmptyList path instead
 Became is_time repair.TakenOut path stood instead = instead ≡ []
+Became is_time repair.HeaderId path stood instead = ⊤
 Became is_time repair.Length path stood instead = ⊤
 Became is_time repair.Left path stood instead = instead ≡ []
 

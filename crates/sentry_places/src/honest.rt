@@ -119,6 +119,7 @@ fn is_honest<T: Times>(alloc: Global, bytes: &[u8], note: &Note) -> Result<bool,
         Repair::AsStringType => Ok(note.instead.as_slice() == b"\"string\"".as_slice()),
         Repair::AsEmptyList => is_empty_list(alloc, &note.place.path, &note.instead),
         Repair::TakenOut => Ok(note.instead.is_empty()),
+        Repair::HeaderId => Ok(true),
         Repair::Length => Ok(true),
         Repair::Left => Ok(note.instead.is_empty()),
     }

@@ -105,6 +105,8 @@ pub enum Repair {
     AsEmptyList,
     /// A member or an item of an array was taken out.
     TakenOut,
+    /// An event or a transaction without an id got that of the envelope's header.
+    HeaderId,
     /// `length` in the item header became the size of the repaired payload.
     Length,
     /// An item that can't be repaired was left out of the envelope.
@@ -120,6 +122,7 @@ impl Repair {
             Repair::AsStringType => "as the type `string`",
             Repair::AsEmptyList => "as an empty array",
             Repair::TakenOut => "taken out",
+            Repair::HeaderId => "the header's event id",
             Repair::Length => "length",
             Repair::Left => "left",
         }
