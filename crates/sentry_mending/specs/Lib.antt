@@ -1,4 +1,5 @@
 pub mod Alone
+pub mod HeaderIds
 pub mod MendedItems
 pub mod Times
 pub mod Told

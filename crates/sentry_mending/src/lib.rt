@@ -3,9 +3,11 @@
 
 pub mod explaining;
 pub mod fault;
+mod header_ids;
 mod items;
 pub mod mending;
 mod reading;
+mod repairs;
 pub mod times;
 
 pub use explaining::{Explanation, explain};

@@ -1,33 +1,31 @@
 //! Reads an envelope of which some items don't fit.
 
-ghost use Rattle.std.specs.Prelude.{◌≡◌, ◌≢◌, ◌≤◌, [], None, Some, IfErr, IfOk, IfSome, IsSomeAnd, IsTrue, OnOk, length, take, List, ℕ};
+ghost use Rattle.std.specs.Prelude.{◌≡◌, ◌≢◌, [], None, Some, IfErr, IfOk, IfSome, IsSomeAnd, OnOk, List, ℕ, false, slice_range};
 ghost use Rattle.std.specs.List.{All};
 ghost use Rattle.sentry_envelope.specs.Envelope.{Spells};
 ghost use Rattle.sentry_envelope.specs.EnvelopeView.{structured};
 ghost use Rattle.sentry_envelope.specs.SentryProfile.{profile};
 ghost use Rattle.sentry_moments.specs.Moments.{moment_cell};
-ghost use Rattle.sentry_mending.specs.Alone.{Fails, RefusesPayload};
+ghost use Rattle.sentry_mending.specs.Alone.{Fails};
+ghost use Rattle.sentry_mending.specs.HeaderIds.{StatesId};
 ghost use Rattle.sentry_mending.specs.MendedItems.{IsMended, all_notes};
 ghost use Rattle.sentry_mending.specs.Times.{IsTimeOf};
 ghost use Rattle.sentry_places.specs.Honest.{IsHonest};
-ghost use Rattle.sentry_places.specs.Needed.{AreNeeded};
 ghost use Rattle.sentry_places.specs.Spliced.{AreInOrder, spliced};
 
 use crate::fault::{Cause, Fault};
+use crate::header_ids::header_id;
 use crate::items::{Framed, Spot, copied, item_causes, next_spot, spot_error};
-use crate::reading::{Reader, Role, fault_alone, not_memory, refuses_payload};
-use crate::times::Rfc3339Times;
+use crate::reading::not_memory;
+use crate::repairs::{Repaired, may_stand, try_id, try_repairs};
 use rand_core::Rng;
 use sentry_envelope::Envelope;
 use sentry_forward::AnyFrames;
-use sentry_framing::{EnvelopeError, ItemKind};
+use sentry_framing::EnvelopeError;
 use sentry_moments::Moment;
-use sentry_places::scan::{cut, member_at, parts};
-use sentry_places::{
-    Found, Note, Place, Repair, Repairs, Searched, Wanted, are_honest, broken_at, find_faults,
-    push_rest, push_spliced, splice_without,
-};
+use sentry_places::{Found, Note, Place, Repair, Repairs, Wanted, push_spliced};
 use std::alloc::{AllocError, Global};
+use uuid::Uuid;
 
 /// What mending may do.
 #[derive(Clone, Copy, Debug)]
@@ -39,26 +37,34 @@ pub struct MendRules {
     /// Most notes on a payload of which each is tested to be needed, by a reading of the payload
     /// without the note.
     pub max_tested: usize,
+    /// Whether an event or a transaction without an event id gets that of the envelope's header.
+    pub header_event_id: bool,
 }
 
 impl MendRules {
-    /// Repairs that lose nothing but form, at most 10,000 an item, and up to 32 tested.
+    /// Repairs that lose nothing but form, at most 10,000 an item, and up to 32 tested; no ids of
+    /// the header.
     pub fn new() -> MendRules {
         MendRules {
             repairs: Repairs::Form,
             max_notes: 10_000,
             max_tested: 32,
+            header_event_id: false,
         }
     }
 }
 
-/// An item that was refused as it stood: repaired, or left out.
+/// An item that was changed: repaired, left out, or given the header's event id.
 #[derive(Debug, Drop)]
 pub struct MendedItem {
-    /// Why the item is refused as it stands.
-    pub fault: Fault,
+    /// Index of the item.
+    pub item: usize,
+    /// Why the item is refused as it stands; `None` if it reads, and only got the header's id.
+    pub fault: Option<Fault>,
     /// The note on `length` in the item header if it changed, or the note that the item is left.
     pub frame: Vec<Note>,
+    /// The note that the payload got the header's event id, if it did.
+    pub id: Vec<Note>,
     /// Notes on the payload, in order; none if the item is left.
     pub payload: Vec<Note>,
     /// First byte of the payload in the envelope.
@@ -84,7 +90,8 @@ pub struct Mended {
     pub envelope: Envelope,
     /// The first check that fails as the bytes stand; `None` if they read.
     pub error: Option<EnvelopeError>,
-    /// The items that are refused as they stand, in order.
+    /// The items that were changed, in order: those that are refused as they stand, and those that
+    /// got the header's event id.
     pub items: Vec<MendedItem>,
 }
 
@@ -106,250 +113,6 @@ impl From<AllocError> for Refusal {
             error: EnvelopeError::OutOfMemory,
         }
     }
-}
-
-// Repairs of an item that reads with them.
-#[derive(Drop)]
-struct Repaired {
-    frame: Vec<Note>,
-    payload: Vec<Note>,
-}
-
-// Returns whether each note is needed: with any one undone, the payload is refused.
-fn are_needed<R: Rng>(
-    alloc: Global,
-    bytes: &[u8],
-    start: usize,
-    notes: &[Note],
-    word: &[u8],
-    now: Moment,
-    ids: &mut R,
-) -> Result<bool, AllocError>
-    ensures { IfOk result (λ b. IsTrue b →
-        AreNeeded (RefusesPayload profile word.now) start bytes.now notes.now) }
-{
-    if start > bytes.len() {
-        return Ok(false);
-    }
-    for k in 0..notes.len() {
-        let Some(text) = splice_without(alloc, bytes, start, notes, k)? else {
-            return Ok(false);
-        };
-        if !refuses_payload(alloc, word, &text, now, ids)? {
-            return Ok(false);
-        }
-    }
-    Ok(true)
-}
-
-// Drops notes that aren't needed while the others stand.
-fn prune<R: Rng>(
-    alloc: Global,
-    bytes: &[u8],
-    start: usize,
-    notes: &mut Vec<Note>,
-    word: &[u8],
-    now: Moment,
-    ids: &mut R,
-) -> Result<(), AllocError> {
-    if start > bytes.len() {
-        return Ok(());
-    }
-    let mut k = 0;
-    for _ in 0..notes.len() {
-        if k >= notes.len() {
-            break;
-        }
-        let Some(text) = splice_without(alloc, bytes, start, notes, k)? else {
-            break;
-        };
-        if refuses_payload(alloc, word, &text, now, ids)? {
-            k += 1;
-        } else {
-            drop(notes.remove(k));
-        }
-    }
-    Ok(())
-}
-
-// Returns the note on the length in an item header, if one is stated and changes.
-fn length_notes(
-    alloc: Global,
-    bytes: &[u8],
-    framed: Framed,
-    notes: &[Note],
-) -> Result<Vec<Note>, AllocError> {
-    let mut len = framed.payload_end.saturating_sub(framed.payload_start);
-    for note in notes {
-        let taken = note.end.saturating_sub(note.start);
-        len = len.saturating_add(note.instead.len()).saturating_sub(taken);
-    }
-    let mut found = Vec::new(alloc);
-    let list = parts(alloc, bytes, framed.header_start)?;
-    let Some(part) = member_at(bytes, &list, b"\"length\"") else {
-        return Ok(found);
-    };
-    let length = format!(in alloc; "{len}")?;
-    let stated = cut(bytes, part.start, part.end);
-    if stated == length.as_str().as_bytes() || stated == b"null".as_slice() {
-        return Ok(found);
-    }
-    found.push(Note {
-        place: Place {
-            path: copied(alloc, b"length")?,
-            found: Found::Integer,
-            wanted: Wanted::Integer,
-            value: copied(alloc, stated)?,
-            start: part.start,
-            end: part.end,
-        },
-        repair: Repair::Length,
-        because: None,
-        start: part.start,
-        end: part.end,
-        instead: copied(alloc, length.as_str().as_bytes())?,
-    })?;
-    Ok(found)
-}
-
-// Returns whether an item alone reads with these notes.
-fn reads_with<R: Rng>(
-    alloc: Global,
-    bytes: &[u8],
-    spot: &Spot,
-    repaired: &Repaired,
-    now: Moment,
-    ids: &mut R,
-) -> Result<bool, AllocError> {
-    if spot.end > bytes.len() || spot.start > spot.end {
-        return Ok(false);
-    }
-    let item = &bytes[..spot.end];
-    let mut text = Vec::with_capacity(alloc, spot.end.saturating_sub(spot.start))?;
-    let Some(at) = push_spliced(&mut text, item, spot.start, &repaired.frame)? else {
-        return Ok(false);
-    };
-    if !push_rest(&mut text, item, at, &repaired.payload)? {
-        return Ok(false);
-    }
-    let found = fault_alone(alloc, &text, now, ids)?;
-    Ok(found.is_none())
-}
-
-// Returns whether notes may stand: each puts what it says, and if they are few, each is needed.
-fn may_stand<R: Rng>(
-    alloc: Global,
-    bytes: &[u8],
-    framed: Framed,
-    repaired: &Repaired,
-    word: &[u8],
-    max_tested: usize,
-    now: Moment,
-    ids: &mut R,
-) -> Result<bool, AllocError>
-    ensures honest_frame { IfOk result (λ b. IsTrue b →
-        All (IsHonest IsTimeOf bytes.now) repaired.now.frame.items) }
-    ensures honest_payload { IfOk result (λ b. IsTrue b →
-        All (IsHonest IsTimeOf bytes.now) repaired.now.payload.items) }
-    ensures needed { IfOk result (λ b. IsTrue b →
-        length repaired.now.payload.items ≤ max_tested → AreNeeded (RefusesPayload profile word.now)
-        framed.payload_start (take framed.payload_end bytes.now) repaired.now.payload.items) }
-{
-    if framed.payload_end > bytes.len() {
-        return Ok(false);
-    }
-    if !are_honest::<Rfc3339Times>(alloc, bytes, &repaired.frame)? {
-        return Ok(false);
-    }
-    if !are_honest::<Rfc3339Times>(alloc, bytes, &repaired.payload)? {
-        return Ok(false);
-    }
-    if repaired.payload.len() > max_tested {
-        return Ok(true);
-    }
-    let needed = are_needed(
-        alloc,
-        &bytes[..framed.payload_end],
-        framed.payload_start,
-        &repaired.payload,
-        word,
-        now,
-        ids,
-    )?;
-    Ok(needed)
-}
-
-// Whether a payload of this type is searched.
-fn is_searched(kind: Option<ItemKind>) -> bool {
-    match kind {
-        None => false,
-        Some(ItemKind::Attachment) => false,
-        Some(ItemKind::ReplayRecording) => false,
-        Some(_) => true,
-    }
-}
-
-// Looks for repairs with which an item reads, or else for a place that can't be repaired.
-fn try_repairs<R: Rng>(
-    alloc: Global,
-    bytes: &[u8],
-    spot: &Spot,
-    rules: MendRules,
-    now: Moment,
-    ids: &mut R,
-) -> Result<(Option<Repaired>, Option<Place>), AllocError> {
-    let Some(framed) = spot.framed else {
-        return Ok((None, None));
-    };
-    if rules.repairs == Repairs::Strict || !is_searched(spot.kind) {
-        return Ok((None, None));
-    }
-    let payload = cut(bytes, 0, framed.payload_end);
-    // What isn't JSON has no values to repair.
-    if broken_at(
-        alloc,
-        cut(payload, framed.payload_start, framed.payload_end),
-    )?
-    .is_some()
-    {
-        return Ok((None, None));
-    }
-    let reader = Reader {
-        alloc,
-        role: Role::Payload(&spot.word),
-        now,
-        ids,
-    };
-    let start = framed.payload_start;
-    let searched = find_faults(
-        alloc,
-        reader,
-        bytes,
-        start,
-        Some(rules.repairs),
-        rules.max_notes,
-    )?;
-    let Searched { notes, stuck } = searched;
-    let mut notes = notes;
-    if notes.is_empty() {
-        return Ok((None, stuck));
-    }
-    if notes.len() <= rules.max_tested
-        && !are_needed(alloc, payload, start, &notes, &spot.word, now, ids)?
-    {
-        prune(alloc, payload, start, &mut notes, &spot.word, now, ids)?;
-    }
-    let frame = length_notes(alloc, bytes, framed, &notes)?;
-    let repaired = Repaired {
-        frame,
-        payload: notes,
-    };
-    let reads = reads_with(alloc, bytes, spot, &repaired, now, ids)?;
-    Ok(if reads {
-        (Some(repaired), None)
-    } else {
-        (None, stuck)
-    })
 }
 
 // The note that an item is left out.
@@ -393,34 +156,54 @@ fn left_cause<R: Rng>(
     Ok(causes.pop().unwrap_or(Cause::Whole))
 }
 
+// Returns the fault of an item.
+fn item_fault(
+    alloc: Global,
+    spot: &Spot,
+    error: EnvelopeError,
+    cause: Cause,
+) -> Result<Fault, AllocError>
+    ensures { IfOk result (λ f. (f.error ≡ error) × (f.item ≡ Some spot.now.item)
+        × (f.start ≡ spot.now.start) × (f.end ≡ spot.now.end)
+        × (f.word.items ≡ spot.now.word.items)) }
+{
+    let word = copied(alloc, &spot.word)?;
+    Ok(Fault {
+        error,
+        item: Some(spot.item),
+        word,
+        start: spot.start,
+        end: spot.end,
+        cause,
+    })
+}
+
 // Leaves an item out.
 fn leave_item<R: Rng>(
     alloc: Global,
     bytes: &[u8],
     spot: &Spot,
     stuck: Option<Place>,
-    max_tested: usize,
+    rules: MendRules,
+    stands: &Option<EnvelopeError>,
     now: Moment,
     ids: &mut R,
 ) -> Result<Option<MendedItem>, AllocError>
-    ensures { IfOk result (λ o. IfSome o (IsMended profile max_tested bytes.now)) }
+    requires { stands.now ≢ None }
+    ensures { IfOk result (λ o. IfSome o
+        (IsMended profile (moment_cell now) rules bytes.now stands.now)) }
 {
     let Some(error) = spot_error(alloc, bytes, spot, now, ids)? else {
         return Ok(None);
     };
-    let word = copied(alloc, &spot.word)?;
     let cause = left_cause(alloc, bytes, spot, &error, stuck, now, ids)?;
     let frame = left_notes(alloc, spot)?;
+    let fault = item_fault(alloc, spot, error, cause)?;
     Ok(Some(MendedItem {
-        fault: Fault {
-            error,
-            item: Some(spot.item),
-            word,
-            start: spot.start,
-            end: spot.end,
-            cause,
-        },
+        item: spot.item,
+        fault: Some(fault),
         frame,
+        id: Vec::new(alloc),
         payload: Vec::new(alloc),
         payload_start: spot.end,
         payload_end: spot.end,
@@ -434,92 +217,169 @@ fn repair_item<R: Rng>(
     spot: &Spot,
     framed: Framed,
     repaired: Repaired,
-    max_tested: usize,
+    rules: MendRules,
+    id: Option<Uuid>,
+    stands: &Option<EnvelopeError>,
     now: Moment,
     ids: &mut R,
 ) -> Result<Option<MendedItem>, AllocError>
-    ensures { IfOk result (λ o. IfSome o (IsMended profile max_tested bytes.now)) }
+    requires stated { IfSome id (StatesId (moment_cell now) bytes.now) }
+    requires refused { stands.now ≢ None }
+    ensures { IfOk result (λ o. IfSome o
+        (IsMended profile (moment_cell now) rules bytes.now stands.now)) }
 {
     let Some(error) = spot_error(alloc, bytes, spot, now, ids)? else {
         return Ok(None);
     };
-    let word = copied(alloc, &spot.word)?;
-    if !may_stand(alloc, bytes, framed, &repaired, &word, max_tested, now, ids)? {
+    if !may_stand(
+        alloc, bytes, framed, &repaired, &spot.word, rules, id, now, ids,
+    )? {
         return Ok(None);
     }
+    let fault = item_fault(alloc, spot, error, Cause::Whole)?;
     Ok(Some(MendedItem {
-        fault: Fault {
-            error,
-            item: Some(spot.item),
-            word,
-            start: spot.start,
-            end: spot.end,
-            cause: Cause::Whole,
-        },
+        item: spot.item,
+        fault: Some(fault),
         frame: repaired.frame,
+        id: repaired.id,
         payload: repaired.payload,
         payload_start: framed.payload_start,
         payload_end: framed.payload_end,
     }))
 }
 
-// Repairs an item that is refused, or leaves it out; `None` if it reads as it stands.
+// Gives an item that reads the header's id, if it is an event or a transaction without one.
+fn identify_item<R: Rng>(
+    alloc: Global,
+    bytes: &[u8],
+    spot: &Spot,
+    rules: MendRules,
+    id: Option<Uuid>,
+    stands: &Option<EnvelopeError>,
+    now: Moment,
+    ids: &mut R,
+) -> Result<Option<MendedItem>, AllocError>
+    requires { IfSome id (StatesId (moment_cell now) bytes.now) }
+    ensures { IfOk result (λ o. IfSome o
+        (IsMended profile (moment_cell now) rules bytes.now stands.now)) }
+{
+    let Some(framed) = spot.framed else {
+        return Ok(None);
+    };
+    let Some(repaired) = try_id(alloc, bytes, spot, framed, id, now, ids)? else {
+        return Ok(None);
+    };
+    if !may_stand(
+        alloc, bytes, framed, &repaired, &spot.word, rules, id, now, ids,
+    )? {
+        return Ok(None);
+    }
+    if !repaired.payload.is_empty() {
+        return Ok(None);
+    }
+    Ok(Some(MendedItem {
+        item: spot.item,
+        fault: None,
+        frame: repaired.frame,
+        id: repaired.id,
+        payload: repaired.payload,
+        payload_start: framed.payload_start,
+        payload_end: framed.payload_end,
+    }))
+}
+
+// Repairs an item that is refused, or leaves it out, and gives one that reads the header's id;
+// `None` if it stays as it is. `stands` is the first check of all bytes that fails.
 fn mend_item<R: Rng>(
     alloc: Global,
     bytes: &[u8],
     spot: &Spot,
     rules: MendRules,
+    id: Option<Uuid>,
+    stands: &Option<EnvelopeError>,
     now: Moment,
     ids: &mut R,
 ) -> Result<Option<MendedItem>, AllocError>
-    ensures { IfOk result (λ o. IfSome o (IsMended profile rules.max_tested bytes.now)) }
+    requires { IfSome id (StatesId (moment_cell now) bytes.now) }
+    ensures { IfOk result (λ o. IfSome o
+        (IsMended profile (moment_cell now) rules bytes.now stands.now)) }
 {
-    if spot_error(alloc, bytes, spot, now, ids)?.is_none() {
-        return Ok(None);
+    if stands.is_none() || spot_error(alloc, bytes, spot, now, ids)?.is_none() {
+        let made = identify_item(alloc, bytes, spot, rules, id, stands, now, ids)?;
+        return Ok(made);
     }
-    let (repaired, stuck) = try_repairs(alloc, bytes, spot, rules, now, ids)?;
+    let (repaired, stuck) = try_repairs(alloc, bytes, spot, rules, id, now, ids)?;
     if let (Some(repaired), Some(framed)) = (repaired, spot.framed) {
-        let tested = rules.max_tested;
-        let made = repair_item(alloc, bytes, spot, framed, repaired, tested, now, ids)?;
+        let made = repair_item(
+            alloc, bytes, spot, framed, repaired, rules, id, stands, now, ids,
+        )?;
         if made.is_some() {
             return Ok(made);
         }
     }
-    let left = leave_item(alloc, bytes, spot, stuck, rules.max_tested, now, ids)?;
+    let left = leave_item(alloc, bytes, spot, stuck, rules, stands, now, ids)?;
     Ok(left)
 }
 
-// Appends the item, repaired or left out, if it is refused.
+// Appends the item, if it is changed.
 fn push_mended<R: Rng>(
     alloc: Global,
     bytes: &[u8],
     spot: &Spot,
     rules: MendRules,
+    id: Option<Uuid>,
+    stands: &Option<EnvelopeError>,
     now: Moment,
     ids: &mut R,
     items: &mut Vec<MendedItem>,
 ) -> Result<(), AllocError>
-    requires { All (IsMended profile rules.max_tested bytes.now) items.old.items }
-    ensures { OnOk result (All (IsMended profile rules.max_tested bytes.now) items.new.items) }
+    requires stated { IfSome id (StatesId (moment_cell now) bytes.now) }
+    requires mended { All (IsMended profile (moment_cell now) rules bytes.now stands.now)
+        items.old.items }
+    ensures { OnOk result (All (IsMended profile (moment_cell now) rules bytes.now stands.now)
+        items.new.items) }
 {
-    let Some(mended) = mend_item(alloc, bytes, spot, rules, now, ids)? else {
+    let Some(mended) = mend_item(alloc, bytes, spot, rules, id, stands, now, ids)? else {
         return Ok(());
     };
     items.push(mended)?;
     Ok(())
 }
 
-// Repairs all items that are refused, or leaves them out.
-fn mend_items<R: Rng>(
+// Returns the id that items without one get.
+fn given_id<R: Rng>(
     alloc: Global,
     bytes: &[u8],
     rules: MendRules,
     now: Moment,
     ids: &mut R,
-) -> Result<Vec<MendedItem>, AllocError>
-    ensures { IfOk result (λ items. All (IsMended profile rules.max_tested bytes.now) items.items) }
+) -> Result<Option<Uuid>, AllocError>
+    ensures { IfOk result (λ o. IfSome o (StatesId (moment_cell now) bytes.now)) }
 {
+    if !rules.header_event_id {
+        return Ok(None);
+    }
+    let id = header_id(alloc, bytes, now, ids)?;
+    Ok(id)
+}
+
+// Changes all items that are refused, or that get the header's id.
+fn mend_items<R: Rng>(
+    alloc: Global,
+    bytes: &[u8],
+    rules: MendRules,
+    stands: &Option<EnvelopeError>,
+    now: Moment,
+    ids: &mut R,
+) -> Result<Vec<MendedItem>, AllocError>
+    ensures { IfOk result (λ items. All
+        (IsMended profile (moment_cell now) rules bytes.now stands.now) items.items) }
+{
+    let id = given_id(alloc, bytes, rules, now, ids)?;
     let mut items = Vec::new(alloc);
+    if stands.is_none() && id.is_none() {
+        return Ok(items);
+    }
     let mut frames = match AnyFrames::new(alloc, bytes) {
         Ok(frames) => frames,
         Err(EnvelopeError::OutOfMemory) => return Err(AllocError),
@@ -529,7 +389,7 @@ fn mend_items<R: Rng>(
         let Some(spot) = next_spot(alloc, bytes, &mut frames, item)? else {
             break;
         };
-        push_mended(alloc, bytes, &spot, rules, now, ids, &mut items)?;
+        push_mended(alloc, bytes, &spot, rules, id, stands, now, ids, &mut items)?;
     }
     Ok(items)
 }
@@ -549,7 +409,10 @@ fn splice_items(
     let mut at = 0;
     let mut left = items;
     while let Some((item, rest)) = left.split_first() {
-        let Some(middle) = push_spliced(&mut text, bytes, at, &item.frame)? else {
+        let Some(start) = push_spliced(&mut text, bytes, at, &item.frame)? else {
+            return Ok(None);
+        };
+        let Some(middle) = push_spliced(&mut text, bytes, start, &item.id)? else {
             return Ok(None);
         };
         let Some(end) = push_spliced(&mut text, bytes, middle, &item.payload)? else {
@@ -562,34 +425,28 @@ fn splice_items(
     Ok(Some(text))
 }
 
-// Reads the bytes with what the notes of these items put there.
+// Reads the bytes with what the notes of these items put there; `None` if they don't read.
 fn reread<R: Rng>(
     alloc: Global,
     bytes: &[u8],
-    items: Vec<MendedItem>,
-    error: EnvelopeError,
+    items: &[MendedItem],
     now: Moment,
     ids: &mut R,
-) -> Result<Mended, Refusal>
-    ensures in_order { IfOk result (λ m. AreInOrder 0 (all_notes m.items.items) bytes.now) }
-    ensures spelled { IfOk result (λ m. IsSomeAnd (structured m.envelope) (Spells profile
-        (spliced 0 (all_notes m.items.items) bytes.now) (moment_cell now))) }
-    ensures same { IfOk result (λ m. (m.error ≡ Some error) × (m.items.items ≡ items.items)) }
-    ensures err { IfErr result (λ x. x.error ≢ EnvelopeError.OutOfMemory → x.error ≡ error) }
+) -> Result<Option<Envelope>, AllocError>
+    ensures in_order { IfOk result (λ o. IfSome o (λ _.
+        AreInOrder 0 (all_notes items.now) bytes.now)) }
+    ensures spelled { IfOk result (λ o. IfSome o (λ e. IsSomeAnd (structured e)
+        (Spells profile (spliced 0 (all_notes items.now) bytes.now) (moment_cell now)))) }
 {
-    let Some(text) = splice_items(alloc, bytes, &items)? else {
-        return Err(Refusal { error });
+    let Some(text) = splice_items(alloc, bytes, items)? else {
+        return Ok(None);
     };
     match Envelope::from_slice(alloc, &text, now, ids) {
-        Ok(envelope) => Ok(Mended {
-            envelope,
-            error: Some(error),
-            items,
-        }),
-        Err(EnvelopeError::OutOfMemory) => Err(Refusal {
-            error: EnvelopeError::OutOfMemory,
-        }),
-        Err(_) => Err(Refusal { error }),
+        Ok(envelope) => Ok(Some(envelope)),
+        Err(error) => {
+            not_memory(&error)?;
+            Ok(None)
+        }
     }
 }
 
@@ -607,24 +464,68 @@ fn mend_refused<R: Rng>(
     ensures spelled { IfOk result (λ m. IsSomeAnd (structured m.envelope) (Spells profile
         (spliced 0 (all_notes m.items.items) bytes.now) (moment_cell now))) }
     ensures mended { IfOk result (λ m.
-        All (IsMended profile rules.max_tested bytes.now) m.items.items) }
-    ensures as_it_stands { IfOk result (λ m. m.error ≡ None → m.items.items ≡ []) }
-    ensures fails { IfOk result (λ m. IfSome m.error (Fails profile bytes.now)) }
+        All (IsMended profile (moment_cell now) rules bytes.now m.error) m.items.items) }
+    ensures error { IfOk result (λ m. m.error ≡ Some error) }
     ensures refused { IfErr result (λ x. x.error ≢ EnvelopeError.OutOfMemory →
         Fails profile bytes.now x.error) }
 {
     if matches!(error, EnvelopeError::InvalidHeader) {
         return Err(Refusal { error });
     }
-    let items = mend_items(alloc, bytes, rules, now, ids)?;
-    let mended = reread(alloc, bytes, items, error, now, ids)?;
-    Ok(mended)
+    let stands = Some(error);
+    let items = mend_items(alloc, bytes, rules, &stands, now, ids)?;
+    let Some(error) = stands else {
+        unreachable!();
+    };
+    match reread(alloc, bytes, &items, now, ids)? {
+        Some(envelope) => Ok(Mended {
+            envelope,
+            error: Some(error),
+            items,
+        }),
+        None => Err(Refusal { error }),
+    }
+}
+
+// Gives the items of an envelope that reads the header's id, where they have none.
+fn mend_standing<R: Rng>(
+    alloc: Global,
+    bytes: &[u8],
+    envelope: Envelope,
+    now: Moment,
+    ids: &mut R,
+    rules: MendRules,
+) -> Result<Mended, AllocError>
+    requires { IsSomeAnd (structured envelope) (Spells profile bytes.now (moment_cell now)) }
+    ensures in_order { IfOk result (λ m. AreInOrder 0 (all_notes m.items.items) bytes.now) }
+    ensures spelled { IfOk result (λ m. IsSomeAnd (structured m.envelope) (Spells profile
+        (spliced 0 (all_notes m.items.items) bytes.now) (moment_cell now))) }
+    ensures mended { IfOk result (λ m.
+        All (IsMended profile (moment_cell now) rules bytes.now m.error) m.items.items) }
+    ensures error { IfOk result (λ m. m.error ≡ None) }
+{
+    let items = mend_items(alloc, bytes, rules, &None, now, ids)?;
+    if !items.is_empty()
+        && let Some(envelope) = reread(alloc, bytes, &items, now, ids)?
+    {
+        return Ok(Mended {
+            envelope,
+            error: None,
+            items,
+        });
+    }
+    Ok(Mended {
+        envelope,
+        error: None,
+        items: Vec::new(alloc),
+    })
 }
 
 /// Parses an envelope, item by item: where an item is refused, the least is changed that lets it
 /// read, and an item that can't be repaired is left out.
 ///
-/// An envelope that reads as it stands is that of `Envelope::from_slice`, with no notes.
+/// An envelope that reads as it stands is that of `Envelope::from_slice`, with no notes; with
+/// `header_event_id` its events and transactions without an event id get the header's.
 ///
 /// # Errors
 ///
@@ -641,18 +542,25 @@ pub fn mend<R: Rng>(
     ensures spelled { IfOk result (λ m. IsSomeAnd (structured m.envelope) (Spells profile
         (spliced 0 (all_notes m.items.items) bytes.now) (moment_cell now))) }
     ensures mended { IfOk result (λ m.
-        All (IsMended profile rules.max_tested bytes.now) m.items.items) }
-    ensures as_it_stands { IfOk result (λ m. m.error ≡ None → m.items.items ≡ []) }
+        All (IsMended profile (moment_cell now) rules bytes.now m.error) m.items.items) }
+    ensures as_it_stands { IfOk result (λ m. m.error ≡ None → rules.header_event_id ≡ false →
+        m.items.items ≡ []) }
     ensures fails { IfOk result (λ m. IfSome m.error (Fails profile bytes.now)) }
     ensures refused { IfErr result (λ x. x.error ≢ EnvelopeError.OutOfMemory →
         Fails profile bytes.now x.error) }
 {
     match Envelope::from_slice(alloc, bytes, now, ids) {
-        Ok(envelope) => Ok(Mended {
-            envelope,
-            error: None,
-            items: Vec::new(alloc),
-        }),
+        Ok(envelope) => {
+            if rules.header_event_id {
+                let mended = mend_standing(alloc, bytes, envelope, now, ids, rules)?;
+                return Ok(mended);
+            }
+            Ok(Mended {
+                envelope,
+                error: None,
+                items: Vec::new(alloc),
+            })
+        }
         Err(error) => {
             not_memory(&error)?;
             mend_refused(alloc, bytes, error, now, ids, rules)

@@ -2,6 +2,12 @@
 
 use crate::note::Wanted;
 
+/// The smallest string attribute.
+pub(crate) const STRING_ATTRIBUTE: &str = r#"{"type":"string","value":""}"#;
+
+/// The same of no type that attributes have.
+pub(crate) const UNTYPED: &str = r#"{"type":"?","value":""}"#;
+
 /// The smallest objects that tables with required members read.
 pub(crate) const DONORS: [&str; 30] = [
     "{}",
@@ -37,7 +43,7 @@ pub(crate) const DONORS: [&str; 30] = [
 ];
 
 /// Values by which a place of a kind is known; the first that reads decides.
-pub(crate) const PROBES: [(&str, Wanted); 15] = [
+pub(crate) const PROBES: [(&str, Wanted); 16] = [
     (r#""?""#, Wanted::Text),
     ("true", Wanted::Boolean),
     ("[]", Wanted::List),
@@ -53,4 +59,5 @@ pub(crate) const PROBES: [(&str, Wanted); 15] = [
     (r#""day""#, Wanted::Word),
     (r#""portrait""#, Wanted::Word),
     (r#""send_error""#, Wanted::Word),
+    (r#""string""#, Wanted::Word),
 ];

@@ -1,7 +1,7 @@
 //! Tests whether notes say what they put.
 
-ghost use Rattle.std.specs.Prelude.{◌≡◌, ◌++◌, List, ℕ, All, IsTrue, IfOk, IfSome, OnOk};
-ghost use Rattle.sentry_places.specs.Honest.{IsHonest, quoted, quoted_byte};
+ghost use Rattle.std.specs.Prelude.{◌≡◌, ◌∷◌, ◌++◌, List, ℕ, All, IsTrue, IfOk, IfSome, OnOk};
+ghost use Rattle.sentry_places.specs.Honest.{IsEmptyList, IsHonest, empty_member, last_key, quoted, quoted_byte};
 
 use crate::note::{Note, Repair};
 use std::alloc::{AllocError, Global};
@@ -54,6 +54,52 @@ pub fn quoted(alloc: Global, json: &[u8]) -> Result<Vec<u8>, AllocError>
     Ok(text)
 }
 
+// Returns the last key of a path.
+fn last_key(alloc: Global, path: &[u8]) -> Result<Vec<u8>, AllocError>
+    ensures { IfOk result (λ key. key.items ≡ last_key path.now) }
+{
+    let mut key = Vec::with_capacity(alloc, 16)?;
+    let mut left = path;
+    while let Some((byte, rest)) = left.split_first() {
+        if *byte == b'.' {
+            key.clear();
+        } else {
+            key.push(*byte)?;
+        }
+        left = rest;
+    }
+    Ok(key)
+}
+
+// Returns the member of the last key of a path with an empty array.
+fn empty_member(alloc: Global, path: &[u8]) -> Result<Vec<u8>, AllocError>
+    ensures { IfOk result (λ text. text.items ≡ empty_member (last_key path.now)) }
+{
+    let key = last_key(alloc, path)?;
+    let mut text = Vec::with_capacity(alloc, 16)?;
+    text.push(b'"')?;
+    text.extend_from_slice(&key)?;
+    text.extend_from_slice(b"\":[]")?;
+    Ok(text)
+}
+
+// Returns whether these bytes are an empty array, or a member of the path's last key with one.
+fn is_empty_list(alloc: Global, path: &[u8], instead: &[u8]) -> Result<bool, AllocError>
+    ensures { IfOk result (λ b. IsTrue b → IsEmptyList path.now instead.now) }
+{
+    if instead == b"[]".as_slice() {
+        return Ok(true);
+    }
+    let member = empty_member(alloc, path)?;
+    if instead == member.as_slice() {
+        return Ok(true);
+    }
+    let Some((b',', rest)) = instead.split_first() else {
+        return Ok(false);
+    };
+    Ok(rest == member.as_slice())
+}
+
 fn is_honest<T: Times>(alloc: Global, bytes: &[u8], note: &Note) -> Result<bool, AllocError>
     ensures { IfOk result (λ honest. IsTrue honest → IsHonest T.is_time bytes.now note.now) }
 {
@@ -70,8 +116,10 @@ fn is_honest<T: Times>(alloc: Global, bytes: &[u8], note: &Note) -> Result<bool,
             let text = quoted(alloc, stood)?;
             Ok(text.as_slice() == note.instead.as_slice())
         }
-        Repair::AsEmptyList => Ok(note.instead.as_slice().ends_with(b"[]")),
+        Repair::AsStringType => Ok(note.instead.as_slice() == b"\"string\"".as_slice()),
+        Repair::AsEmptyList => is_empty_list(alloc, &note.place.path, &note.instead),
         Repair::TakenOut => Ok(note.instead.is_empty()),
+        Repair::HeaderId => Ok(true),
         Repair::Length => Ok(true),
         Repair::Left => Ok(note.instead.is_empty()),
     }

@@ -99,10 +99,14 @@ pub enum Repair {
     AsMoment,
     /// A value became a string of its own characters.
     AsText,
+    /// The type of an attribute, which no type of its value fits, became `string`.
+    AsStringType,
     /// An empty array was put where a required array is absent or doesn't fit.
     AsEmptyList,
     /// A member or an item of an array was taken out.
     TakenOut,
+    /// An event or a transaction without an id got that of the envelope's header.
+    HeaderId,
     /// `length` in the item header became the size of the repaired payload.
     Length,
     /// An item that can't be repaired was left out of the envelope.
@@ -115,8 +119,10 @@ impl Repair {
         match self {
             Repair::AsMoment => "as an RFC 3339 string",
             Repair::AsText => "as a string",
+            Repair::AsStringType => "as the type `string`",
             Repair::AsEmptyList => "as an empty array",
             Repair::TakenOut => "taken out",
+            Repair::HeaderId => "the header's event id",
             Repair::Length => "length",
             Repair::Left => "left",
         }

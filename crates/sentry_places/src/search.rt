@@ -4,7 +4,7 @@
 //! place that doesn't fit is found, however many there are. Nothing is claimed of what is found:
 //! who asks has to try the whole.
 
-use crate::donors::DONORS;
+use crate::donors::{DONORS, STRING_ATTRIBUTE, UNTYPED};
 use crate::honest::quoted;
 use crate::note::{Found, Note, Place, Repair, Repairs, Wanted};
 use crate::oracle::{Around, Oracle, fits, joined, wanted};
@@ -24,12 +24,25 @@ struct Search<'t, O> {
     repairs: Option<Repairs>,
     // how many notes there may be
     most: usize,
+    // what reads at places that were asked: the items of an array are all tried at one place
+    known: Vec<Known>,
     notes: Vec<Note>,
     // the first place that can't be repaired
     stuck: Option<Place>,
     // there would be more notes
     over: bool,
 }
+
+// What reads at a place.
+#[derive(Drop)]
+struct Known {
+    before: Vec<u8>,
+    behind: Vec<u8>,
+    wanted: Wanted,
+}
+
+// How many places are known at most.
+const MAX_KNOWN: usize = 64;
 
 /// What a search found.
 #[derive(Drop)]
@@ -58,6 +71,8 @@ struct Table {
     required: Vec<Part>,
     // text of the donor's members, with a comma if there are some
     members: Vec<u8>,
+    // an object's own `type` becomes that of the donor
+    retyped: bool,
 }
 
 impl Table {
@@ -113,6 +128,27 @@ impl<O: Oracle> Search<'_, O> {
         fits(self.alloc, &mut self.oracle, around, value)
     }
 
+    // Returns what reads at a place.
+    fn wanted(&mut self, around: Around<'_>) -> Result<Wanted, AllocError> {
+        for place in self.known.iter() {
+            if place.before.as_slice() == around.before
+                && place.behind.as_slice() == around.behind
+            {
+                return Ok(place.wanted);
+            }
+        }
+        let wanted = wanted(self.alloc, &mut self.oracle, around)?;
+        if self.known.len() >= MAX_KNOWN {
+            self.known.clear();
+        }
+        self.known.push(Known {
+            before: joined(self.alloc, &[around.before])?,
+            behind: joined(self.alloc, &[around.behind])?,
+            wanted,
+        })?;
+        Ok(wanted)
+    }
+
     // Returns a place with the value that stands there.
     fn place(
         &mut self,
@@ -130,7 +166,7 @@ impl<O: Oracle> Search<'_, O> {
         Ok(Place {
             path: joined(self.alloc, &[path])?,
             found,
-            wanted: wanted(self.alloc, &mut self.oracle, around)?,
+            wanted: self.wanted(around)?,
             value: joined(self.alloc, &[shown])?,
             start: value.0,
             end: value.1,
@@ -229,6 +265,12 @@ impl<O: Oracle> Search<'_, O> {
         Ok(false)
     }
 
+    // Notes that the type of an attribute becomes `string`. Returns whether it may.
+    fn retype(&mut self, part: Part, around: Around<'_>, path: &[u8]) -> Result<bool, AllocError> {
+        let word = joined(self.alloc, &[b"\"string\"".as_slice()])?;
+        self.takes(part, around, path, Repair::AsStringType, word)
+    }
+
     // Repairs a value, tried alone at its place, and notes the changes. Returns whether it fits then.
     #[cycle(search)]
     fn mend(
@@ -251,7 +293,10 @@ impl<O: Oracle> Search<'_, O> {
             if kind == Found::Array && self.fits(around, b"[]")? {
                 return self.mend_items(part, around, path, below);
             }
-            if kind == Found::Object && self.mend_members(part, around, path, below)? {
+            if kind == Found::Object
+                && (self.mend_members(part, around, path, below, false)?
+                    || self.mend_members(part, around, path, below, true)?)
+            {
                 return Ok(true);
             }
         }
@@ -353,6 +398,7 @@ impl<O: Oracle> Search<'_, O> {
                         donor: bytes,
                         required,
                         members: joined(alloc, &[&members, tag, b",".as_slice()])?,
+                        retyped: false,
                     }));
                 }
             }
@@ -365,10 +411,41 @@ impl<O: Oracle> Search<'_, O> {
                     donor: bytes,
                     required,
                     members,
+                    retyped: false,
                 }));
             }
         }
         Ok(None)
+    }
+
+    // Returns the table of string attributes, if an object of these members is an attribute whose
+    // type and value don't fit each other.
+    fn attribute_table(
+        &mut self,
+        list: &[Part],
+        around: Around<'_>,
+    ) -> Result<Option<Table>, AllocError> {
+        let alloc = self.alloc;
+        let Some(tag) = member_at(self.text, list, b"\"type\"") else {
+            return Ok(None);
+        };
+        let word = value_of(self.text, &tag);
+        let is_typed = found(word) == Found::Text && word != b"\"string\"".as_slice();
+        let has_value = member_at(self.text, list, b"\"value\"").is_some();
+        if self.repairs.is_none() || !is_typed || !has_value {
+            return Ok(None);
+        }
+        let donor = STRING_ATTRIBUTE.as_bytes();
+        // Where any type reads, it is no attribute.
+        if !self.fits(around, donor)? || self.fits(around, UNTYPED.as_bytes())? {
+            return Ok(None);
+        }
+        Ok(Some(Table {
+            donor,
+            required: parts(alloc, donor, 0)?,
+            members: inside(alloc, donor)?,
+            retyped: true,
+        }))
     }
 
     // Notes that a place can't be repaired, if it is the first.
@@ -483,7 +560,23 @@ impl<O: Oracle> Search<'_, O> {
         Ok(true)
     }
 
-    // Repairs the members of an object, if some table reads where it stands.
+    // Returns the table of an object of these members; that of string attributes if it is one of
+    // another type.
+    fn table_for(
+        &mut self,
+        list: &[Part],
+        around: Around<'_>,
+        retyped: bool,
+    ) -> Result<Option<Table>, AllocError> {
+        if retyped {
+            self.attribute_table(list, around)
+        } else {
+            self.table(list, around)
+        }
+    }
+
+    // Repairs the members of an object, if some table reads where it stands; with `retyped` that of
+    // string attributes, whose type the object gets.
     #[cycle(search)]
     fn mend_members(
         &mut self,
@@ -491,10 +584,11 @@ impl<O: Oracle> Search<'_, O> {
         around: Around<'_>,
         path: &[u8],
         depth: usize,
+        retyped: bool,
     ) -> Result<bool, AllocError> {
         let alloc = self.alloc;
         let list = parts(alloc, self.text, part.start)?;
-        let Some(table) = self.table(&list, around)? else {
+        let Some(table) = self.table_for(&list, around, retyped)? else {
             return Ok(false);
         };
         let behind = joined(alloc, &[b"}".as_slice(), around.behind])?;
@@ -508,7 +602,12 @@ impl<O: Oracle> Search<'_, O> {
                 before: &before,
                 behind: &behind,
             };
-            if depth > 0 && self.mend(list[i], alone, &path, depth - 1)? {
+            if table.retyped && key == b"\"type\"".as_slice() {
+                if self.retype(list[i], alone, &path)? {
+                    kept = true;
+                    continue;
+                }
+            } else if depth > 0 && self.mend(list[i], alone, &path, depth - 1)? {
                 kept = true;
                 continue;
             }
@@ -567,6 +666,7 @@ pub fn find_faults<O: Oracle>(
         text,
         repairs,
         most,
+        known: Vec::new(alloc),
         notes: Vec::new(alloc),
         stuck: None,
         over: false,
@@ -588,6 +688,7 @@ pub fn find_faults<O: Oracle>(
         text: _,
         repairs: _,
         most: _,
+        known: _,
         notes,
         stuck,
         over: _,

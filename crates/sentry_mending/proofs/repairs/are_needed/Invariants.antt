@@ -3,7 +3,7 @@ use Rattle.sentry_places.specs.Needed.{without}
 use Rattle.sentry_places.specs.Spliced.{spliced}
 use Rattle.sentry_envelope.specs.SentryProfile.{profile}
 use Rattle.sentry_mending.specs.Alone.{RefusesPayload}
-use Rattle.sentry_mending.proofs.mending.are_needed.Given as goal
+use Rattle.sentry_mending.proofs.repairs.are_needed.Given as goal
 
 -- each note before this one is needed
 abbrev pub invariant-loop-k : goal.invariant-loop-k
