@@ -8,7 +8,7 @@ ghost use Rattle.sentry_envelope.specs.SentryProfile.{profile};
 ghost use Rattle.sentry_moments.specs.Moments.{moment_cell};
 ghost use Rattle.sentry_mending.specs.Alone.{Fails};
 ghost use Rattle.sentry_mending.specs.HeaderIds.{StatesId};
-ghost use Rattle.sentry_mending.specs.MendedItems.{IsMended, all_notes};
+ghost use Rattle.sentry_mending.specs.MendedItems.{IsMended, StatesLength, all_notes};
 ghost use Rattle.sentry_mending.specs.Times.{IsTimeOf};
 ghost use Rattle.sentry_places.specs.Honest.{IsHonest};
 ghost use Rattle.sentry_places.specs.Spliced.{AreInOrder, spliced};
@@ -117,8 +117,10 @@ impl From<AllocError> for Refusal {
 
 // The note that an item is left out.
 fn left_notes(alloc: Global, spot: &Spot) -> Result<Vec<Note>, AllocError>
-    ensures { IfOk result (λ notes. (bytes : List ℕ) →
+    ensures honest { IfOk result (λ notes. (bytes : List ℕ) →
         All (IsHonest IsTimeOf bytes) notes.items) }
+    ensures lengths { IfOk result (λ notes. (payload : List ℕ) →
+        All (StatesLength payload) notes.items) }
 {
     let mut notes = Vec::with_capacity(alloc, 1)?;
     notes.push(Note {

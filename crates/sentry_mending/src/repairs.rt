@@ -12,6 +12,7 @@ ghost use Rattle.sentry_mending.specs.Times.{IsTimeOf};
 ghost use Rattle.sentry_places.specs.Honest.{IsHonest};
 ghost use Rattle.sentry_places.specs.Needed.{AreNeeded};
 ghost use Rattle.sentry_places.specs.Spliced.{spliced};
+ghost use Rattle.sentry_places.specs.declared.note.Repair.TheVariants.{Length};
 
 use crate::header_ids::{give_id, id_notes};
 use crate::items::{Framed, Spot, copied};
@@ -118,6 +119,16 @@ fn payload_text(
     Ok(Some(text))
 }
 
+// Returns whether a note puts this text, if it is on `length`.
+fn puts_length(note: &Note, length: &str) -> bool
+    ensures { IsTrue result → note.now.repair ≡ Length → note.now.instead.items ≡ length.now }
+{
+    if note.repair != Repair::Length {
+        return true;
+    }
+    note.instead.as_slice() == length.as_bytes()
+}
+
 // Returns whether each note on `length` puts that of these bytes.
 fn state_length(alloc: Global, notes: &[Note], payload: &[u8]) -> Result<bool, AllocError>
     ensures { IfOk result (λ b. IsTrue b → All (StatesLength payload.now) notes.now) }
@@ -126,7 +137,7 @@ fn state_length(alloc: Global, notes: &[Note], payload: &[u8]) -> Result<bool, A
     let length = format!(in alloc; "{len}")?;
     let mut left = notes;
     while let Some((note, rest)) = left.split_first() {
-        if note.repair == Repair::Length && note.instead.as_slice() != length.as_str().as_bytes() {
+        if !puts_length(note, length.as_str()) {
             return Ok(false);
         }
         left = rest;
