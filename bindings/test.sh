@@ -99,7 +99,7 @@ test_c() {
 test_rust() {
     $make -C "$here/c" libcurdmesa.a || return 1
     export CARGO_TARGET_DIR="$work/target"
-    (cd "$here/rust" && cargo test -q --offline && cargo build -q --examples --offline) || return 1
+    (cd "$here/rust" && cargo test -q --offline --all-features && cargo build -q --examples --offline) || return 1
     run_relay "$work/target/debug/examples/relay"
 }
 

@@ -63,7 +63,7 @@ class Relay:
     def lose(self, envelope, reason):
         """Records all that an envelope holds. What a client report tells keeps its own reasons, so
         an unsent report is put back."""
-        self.ledger.record_losses(curdmesa.losses(envelope), reason)
+        self.ledger.record_envelope(envelope, reason)
 
     def send(self, envelope):
         """Sends an envelope, or records its losses."""

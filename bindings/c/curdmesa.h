@@ -67,7 +67,8 @@ enum {
     CURDMESA_NO_MOMENT = 2,
     /* The text isn't UTF-8. */
     CURDMESA_NOT_UTF8 = 3,
-    /* The text isn't a timestamp, isn't a crontab schedule, or isn't a known word. */
+    /* The text isn't a timestamp, isn't a crontab schedule, or isn't a known word; or the bytes
+     * aren't a ledger's. */
     CURDMESA_INVALID_TEXT = 4,
     /* A number, an offset, an answer or the length of a table is out of range. */
     CURDMESA_INVALID_ARGUMENT = 5,
@@ -547,6 +548,19 @@ int32_t curdmesa_ledger_record_losses(uint64_t *ledger, size_t ledger_len, const
                                       size_t losses_len, uint32_t reason, uint64_t *refused);
 
 /*
+ * Adds to a ledger what is lost if an envelope isn't sent: as curdmesa_ledger_record_losses does
+ * with what curdmesa_envelope_losses tells. So an envelope with a client report that can't be sent
+ * is put back into the ledger: the losses that it reports have their own reasons. With every status
+ * but CURDMESA_OK the ledger and `*refused` are unchanged.
+ *
+ * CURDMESA_OK, CURDMESA_INVALID_ARGUMENT if `reason` is 9 or more or `ledger_len` isn't 108,
+ * CURDMESA_INVALID_HEADER, CURDMESA_UNEXPECTED_EOF, CURDMESA_MISSING_NEWLINE,
+ * CURDMESA_INVALID_ITEM_HEADER, CURDMESA_OUT_OF_MEMORY.
+ */
+int32_t curdmesa_ledger_record_envelope(uint64_t *ledger, size_t ledger_len, const uint8_t *bytes,
+                                        size_t bytes_len, uint32_t reason, uint64_t *refused);
+
+/*
  * Sets `*quantity` to what a ledger holds of a category and a reason; unchanged unless the status
  * is CURDMESA_OK.
  *
@@ -561,13 +575,48 @@ int32_t curdmesa_ledger_held(const uint64_t *ledger, size_t ledger_len, uint32_t
  * sum above 0, by category and then by reason.
  *
  * With CURDMESA_OK the ledger is all zero afterwards, and the losses are only in the text: if it
- * can't be sent, record them again. With every other status the ledger is unchanged.
+ * can't be sent, curdmesa_ledger_record_envelope puts them back. With every other status the ledger
+ * is unchanged.
  *
  * CURDMESA_OK, CURDMESA_NO_ROOM, CURDMESA_NO_MOMENT, CURDMESA_INVALID_ARGUMENT if `ledger_len`
  * isn't 108, CURDMESA_NOTHING_LEFT if the ledger holds no loss, CURDMESA_OUT_OF_MEMORY.
  */
 int32_t curdmesa_ledger_flush(uint64_t *ledger, size_t ledger_len, uint64_t now_secs,
                               uint32_t now_nanos, uint8_t *out, size_t out_len, uint64_t *needed);
+
+/*
+ * Does what curdmesa_ledger_flush does, but writes the report's item alone: its header and its
+ * payload, each with a line feed. Behind an envelope that ends with a line feed it is one more item
+ * of that envelope.
+ *
+ * The statuses of curdmesa_ledger_flush.
+ */
+int32_t curdmesa_ledger_flush_item(uint64_t *ledger, size_t ledger_len, uint64_t now_secs,
+                                   uint32_t now_nanos, uint8_t *out, size_t out_len,
+                                   uint64_t *needed);
+
+/* Number of bytes that curdmesa_ledger_write writes. */
+#define CURDMESA_LEDGER_BYTES 882
+
+/*
+ * Writes a ledger to `out` as bytes, as a spool keeps it over a restart: the line
+ * "curdmesa ledger 1", and each sum in eight bytes, the lowest first.
+ *
+ * CURDMESA_OK, CURDMESA_NO_ROOM, CURDMESA_INVALID_ARGUMENT if `ledger_len` isn't 108,
+ * CURDMESA_OUT_OF_MEMORY.
+ */
+int32_t curdmesa_ledger_write(const uint64_t *ledger, size_t ledger_len, uint8_t *out,
+                              size_t out_len, uint64_t *needed);
+
+/*
+ * Sets a ledger to the sums of the one that curdmesa_ledger_write has written; unchanged unless the
+ * status is CURDMESA_OK. Doesn't allocate.
+ *
+ * CURDMESA_OK, CURDMESA_INVALID_ARGUMENT if `ledger_len` isn't 108, CURDMESA_INVALID_TEXT if the
+ * bytes aren't a ledger's.
+ */
+int32_t curdmesa_ledger_read(const uint8_t *bytes, size_t bytes_len, uint64_t *ledger,
+                             size_t ledger_len);
 
 #ifdef __cplusplus
 }

@@ -156,6 +156,44 @@ static int32_t items_stand(const uint8_t *bytes, size_t len) {
     return status;
 }
 
+/* What is lost with an envelope is recorded, reported in an item and put back; and the ledger is
+ * read back from its bytes. */
+static void records(const uint8_t *bytes, size_t len, int32_t framed) {
+    uint64_t *ledger = (uint64_t *)(void *)block(CURDMESA_LEDGER * sizeof(uint64_t));
+    uint64_t *read = (uint64_t *)(void *)block(CURDMESA_LEDGER * sizeof(uint64_t));
+    uint64_t needed = 0, refused = 0;
+    int32_t status = curdmesa_ledger_record_envelope(ledger, CURDMESA_LEDGER, bytes, len,
+                                                     CURDMESA_REASON_SEND_ERROR, &refused);
+    wanted(status == (framed == CURDMESA_NOTHING_LEFT ? CURDMESA_OK : framed), "recorded");
+    uint8_t *kept = block(CURDMESA_LEDGER_BYTES);
+    wanted(curdmesa_ledger_write(ledger, CURDMESA_LEDGER, kept, CURDMESA_LEDGER_BYTES, &needed) ==
+               CURDMESA_OK,
+           "a ledger written");
+    wanted(curdmesa_ledger_read(kept, CURDMESA_LEDGER_BYTES, read, CURDMESA_LEDGER) == CURDMESA_OK,
+           "a ledger read");
+    wanted(memcmp(ledger, read, CURDMESA_LEDGER * sizeof *read) == 0, "the same ledger");
+    if (curdmesa_ledger_read(bytes, len, read, CURDMESA_LEDGER) == CURDMESA_OK)
+        wanted(curdmesa_ledger_write(read, CURDMESA_LEDGER, kept, CURDMESA_LEDGER_BYTES,
+                                     &needed) == CURDMESA_OK &&
+                   needed == len && memcmp(kept, bytes, len) == 0,
+               "the bytes of a ledger");
+    uint8_t *item = block(16384);
+    memcpy(item, "{}\n", 3);
+    memcpy(read, ledger, CURDMESA_LEDGER * sizeof *read);
+    status = curdmesa_ledger_flush_item(ledger, CURDMESA_LEDGER, 5, 0, item + 3, 16381, &needed);
+    wanted(status == CURDMESA_OK || status == CURDMESA_NOTHING_LEFT, "reported");
+    if (status == CURDMESA_OK)
+        wanted(curdmesa_ledger_record_envelope(ledger, CURDMESA_LEDGER, item, (size_t)needed + 3, 0,
+                                               &refused) == CURDMESA_OK &&
+                   refused == 0,
+               "put back");
+    wanted(memcmp(ledger, read, CURDMESA_LEDGER * sizeof *read) == 0, "the same losses");
+    free(item);
+    free(kept);
+    free(read);
+    free(ledger);
+}
+
 /* Any bytes as the small texts whose calls have no parts that the tests don't ask. */
 static void texts(const uint8_t *bytes, size_t len) {
     uint64_t needed = 0;
@@ -203,6 +241,7 @@ int LLVMFuzzerTestOneInput(const uint8_t *data, size_t size) {
     wanted(curdmesa_envelope_check(bytes, size, 1595256674, 0) == status,
            "check and normalize");
     int32_t framed = frames_stand(bytes, size), items = items_stand(bytes, size);
+    records(bytes, size, items);
     texts(bytes, size);
     if (text) {
         is_steady(text, len);

@@ -309,6 +309,119 @@ static void test_record_losses(void) {
     free(ledger);
 }
 
+/* ---- ledgers that are put back and kept ------------------------------------------------------ */
+
+static int32_t run_flush_item(Call *call, uint8_t *out, size_t out_len, uint64_t *needed) {
+    return curdmesa_ledger_flush_item(call->ledger, CURDMESA_LEDGER, call->secs, call->nanos, out,
+                                      out_len, needed);
+}
+
+static int32_t run_write(Call *call, uint8_t *out, size_t out_len, uint64_t *needed) {
+    return curdmesa_ledger_write(call->ledger, CURDMESA_LEDGER, out, out_len, needed);
+}
+
+static uint64_t *new_ledger(void) {
+    uint64_t *ledger = calloc(CURDMESA_LEDGER, sizeof *ledger);
+    if (ledger == NULL)
+        exit(2);
+    return ledger;
+}
+
+/* The item of a report, which is put back with the envelope that it was appended to. */
+static void test_report_item(void) {
+    static const char *const item =
+        "{\"length\":101,\"type\":\"client_report\"}\n{\"discarded_events\":[{\"category\":\"span\","
+        "\"quantity\":2,\"reason\":\"sample_rate\"}],\"timestamp\":1595256674}\n";
+    const int error = CURDMESA_CATEGORY_ERROR, span = CURDMESA_CATEGORY_SPAN;
+    Call call;
+    memset(&call, 0, sizeof call);
+    call.ledger = new_ledger();
+    call.secs = 1595256674;
+    call.run = run_flush_item;
+    refuses("no loss", &call, CURDMESA_NOTHING_LEFT);
+    call.ledger[CURDMESA_LEDGER_SUM(span, CURDMESA_REASON_SAMPLE_RATE)] = 2;
+    call.nanos = 1000000000;
+    refuses("moment", &call, CURDMESA_NO_MOMENT);
+    call.nanos = 0;
+    gives("item", &call, item, 0);
+    for (int i = 0; i < CURDMESA_LEDGER; i++)
+        expect("emptied", (long long)call.ledger[i], 0);
+
+    char whole[400];
+    strcpy(whole, HEADER EVENT);
+    strcat(whole, item);
+    size_t len = strlen(whole);
+    uint8_t *bytes = block(whole, len);
+    uint64_t refused_sums = 99;
+    expect("reason",
+           curdmesa_ledger_record_envelope(call.ledger, CURDMESA_LEDGER, bytes, len,
+                                           CURDMESA_REASONS, &refused_sums),
+           CURDMESA_INVALID_ARGUMENT);
+    expect("length",
+           curdmesa_ledger_record_envelope(call.ledger, CURDMESA_LEDGER - 1, bytes, len, 0,
+                                           &refused_sums),
+           CURDMESA_INVALID_ARGUMENT);
+    expect("no envelope",
+           curdmesa_ledger_record_envelope(call.ledger, CURDMESA_LEDGER, bytes, 1, 0,
+                                           &refused_sums),
+           CURDMESA_INVALID_HEADER);
+    expect("unchanged", (long long)refused_sums, 99);
+    expect("put back",
+           curdmesa_ledger_record_envelope(call.ledger, CURDMESA_LEDGER, bytes, len,
+                                           CURDMESA_REASON_NETWORK_ERROR, &refused_sums),
+           CURDMESA_OK);
+    expect("refused", (long long)refused_sums, 0);
+    for (int i = 0; i < CURDMESA_LEDGER; i++)
+        expect("sum", (long long)call.ledger[i],
+               i == CURDMESA_LEDGER_SUM(span, CURDMESA_REASON_SAMPLE_RATE)      ? 2
+               : i == CURDMESA_LEDGER_SUM(error, CURDMESA_REASON_NETWORK_ERROR) ? 1
+                                                                                : 0);
+    free(bytes);
+    free(call.ledger);
+}
+
+/* The bytes of a ledger with 0x0102030405060708 in its second sum, and 0xFF in its last. */
+static void test_ledger_bytes(void) {
+    char due[CURDMESA_LEDGER_BYTES];
+    memset(due, 0, sizeof due);
+    memcpy(due, "curdmesa ledger 1\n", 18);
+    memcpy(due + 26, "\x08\x07\x06\x05\x04\x03\x02\x01", 8);
+    due[874] = '\xFF';
+    Call call;
+    memset(&call, 0, sizeof call);
+    call.ledger = new_ledger();
+    call.ledger[1] = 0x0102030405060708;
+    call.ledger[CURDMESA_LEDGER - 1] = 0xFF;
+    uint8_t *out = block(NULL, sizeof due), *bytes = block(due, sizeof due);
+    uint64_t needed = 0, *read = new_ledger();
+    expect("short", run_write(&call, out, sizeof due - 1, &needed), CURDMESA_NO_ROOM);
+    expect("short", (long long)needed, CURDMESA_LEDGER_BYTES);
+    expect("short", is_untouched(out, 0, sizeof due), 1);
+    expect("write", run_write(&call, out, sizeof due, &needed), CURDMESA_OK);
+    expect("write", (long long)needed, CURDMESA_LEDGER_BYTES);
+    expect("write", memcmp(out, due, sizeof due), 0);
+    expect("107 sums",
+           curdmesa_ledger_write(call.ledger, CURDMESA_LEDGER - 1, out, sizeof due, &needed),
+           CURDMESA_INVALID_ARGUMENT);
+    expect("107 sums", curdmesa_ledger_read(bytes, sizeof due, read, CURDMESA_LEDGER - 1),
+           CURDMESA_INVALID_ARGUMENT);
+    expect("cut off", curdmesa_ledger_read(bytes, sizeof due - 1, read, CURDMESA_LEDGER),
+           CURDMESA_INVALID_TEXT);
+    expect("nothing", curdmesa_ledger_read(bytes, 0, read, CURDMESA_LEDGER), CURDMESA_INVALID_TEXT);
+    bytes[16] = '2';
+    expect("version", curdmesa_ledger_read(bytes, sizeof due, read, CURDMESA_LEDGER),
+           CURDMESA_INVALID_TEXT);
+    bytes[16] = '1';
+    for (int i = 0; i < CURDMESA_LEDGER; i++)
+        expect("unchanged", (long long)read[i], 0);
+    expect("read", curdmesa_ledger_read(bytes, sizeof due, read, CURDMESA_LEDGER), CURDMESA_OK);
+    expect("read", memcmp(read, call.ledger, CURDMESA_LEDGER * sizeof *read), 0);
+    free(bytes);
+    free(out);
+    free(read);
+    free(call.ledger);
+}
+
 /* ---- words --------------------------------------------------------------------------------- */
 
 static int32_t run_status(Call *call, uint8_t *out, size_t out_len, uint64_t *needed) {
@@ -375,6 +488,28 @@ static void test_all_words(void) {
     test_words(run_reason_word, curdmesa_reason_of_word, reasons, CURDMESA_REASONS);
 }
 
+/* Statuses of errors that the Rust crate has, with that crate's texts. */
+static const struct {
+    int32_t status;
+    const char *text;
+} said[] = {
+    {CURDMESA_UNEXPECTED_EOF, "unexpected end of file"},
+    {CURDMESA_MISSING_HEADER, "missing envelope header"},
+    {CURDMESA_MISSING_ITEM_HEADER, "missing item header"},
+    {CURDMESA_MISSING_NEWLINE, "missing newline after header or payload"},
+    {CURDMESA_INVALID_HEADER, "invalid envelope header"},
+    {CURDMESA_INVALID_ITEM_HEADER, "invalid item header"},
+    {CURDMESA_INVALID_ITEM_PAYLOAD, "invalid item payload"},
+    {CURDMESA_DSN_INVALID_URL, "no valid url provided"},
+    {CURDMESA_DSN_INVALID_SCHEME, "no valid scheme"},
+    {CURDMESA_DSN_NO_USERNAME, "username is empty"},
+    {CURDMESA_DSN_NO_PROJECT_ID, "empty path"},
+    {CURDMESA_DSN_INVALID_PROJECT_ID, "invalid project id"},
+    {CURDMESA_AUTH_NON_SENTRY, "non sentry auth"},
+    {CURDMESA_AUTH_INVALID_VERSION, "invalid value for version"},
+    {CURDMESA_AUTH_MISSING_PUBLIC_KEY, "missing public key in auth header"},
+};
+
 /* The statuses of the header have texts, each its own, and no other number has one. */
 static void test_statuses(void) {
     uint8_t texts[40][100];
@@ -395,8 +530,10 @@ static void test_statuses(void) {
             expect("text of its own",
                    lengths[i] == lengths[n] && memcmp(texts[i], texts[n], lengths[n]) == 0, 0);
     }
-    call.number = CURDMESA_NOT_UTF8;
-    gives("not UTF-8", &call, "the text isn't UTF-8", 1);
+    for (size_t i = 0; i < sizeof said / sizeof said[0]; i++) {
+        call.number = said[i].status;
+        gives(said[i].text, &call, said[i].text, 1);
+    }
 }
 
 /* ---- keys ---------------------------------------------------------------------------------- */
@@ -490,6 +627,8 @@ void test_items(void) {
     test_refused_forwards();
     test_losses();
     test_record_losses();
+    test_report_item();
+    test_ledger_bytes();
     test_all_words();
     test_statuses();
     test_query();

@@ -569,12 +569,13 @@ class Errors(unittest.TestCase):
         self.assertEqual(str(curdmesa.error_of(99)), "unknown status 99")
         self.assertIsInstance(curdmesa.error_of(17), MemoryError)
 
-    def test_texts_are_those_of_the_rust_crate(self):
-        source = (BINDINGS / "rust/src/error.rs").read_text("utf-8")
-        texts = re.findall(r"\(\s*(\d+),\s*Error::\w+,\s*\"(.*?)\",?\s*\)", source)
-        due = {int(status): text for status, text in texts}
-        self.assertEqual(len(due), len(Status) - 1)
-        self.assertEqual({int(status): str(curdmesa.error_of(status)) for status in due}, due)
+    def test_texts_are_the_librarys(self):
+        call = _library.library.curdmesa_status_text
+        for status in Status:
+            text = _library.written(1, lambda *out: call(status, *out)).decode()
+            if status != Status.OK:
+                self.assertEqual(str(curdmesa.error_of(status)), text)
+        self.assertEqual(curdmesa.DsnNoUsername().text, "username is empty")
 
     def test_a_text_that_is_refused_is_one_error(self):
         for text in b"Sentry sentry_key=\xff", b"Other", b"":
@@ -609,12 +610,6 @@ class Words(unittest.TestCase):
                 self.assertEqual(number.value, each)
             past = word(len(words), _library.text_buffer(0), 256, _library.U64(0))
             self.assertEqual(past, Status.INVALID_ARGUMENT)
-
-    def test_texts(self):
-        for status in Status:
-            call = _library.library.curdmesa_status_text
-            text = _library.written(1, lambda *out: call(status, *out))
-            self.assertTrue(text.decode())
 
 
 class Version(unittest.TestCase):
@@ -663,7 +658,7 @@ class Header(unittest.TestCase):
         due = {name: [self.declared(one)[1] for one in all_of_them.split(",")]
                for name, all_of_them in found}
         self.assertEqual(_library.FUNCTIONS, due)
-        self.assertEqual(len(due), 27)
+        self.assertEqual(len(due), 31)
 
     def test_manual_page(self):
         page = (BINDINGS / "c/curdmesa.3").read_text("utf-8")
@@ -684,7 +679,7 @@ class Header(unittest.TestCase):
     def test_numbers(self):
         enums = re.findall(r"^enum \{(.*?)\};", self.text, re.M | re.S)
         numbers = dict(re.findall(r"CURDMESA_(\w+) = (-?\d+)", " ".join(enums)))
-        sums = {"LOSSES": "120", "LEDGER": "108", "VERSION": "2000"}
+        sums = {"LOSSES": "120", "LEDGER": "108", "LEDGER_BYTES": "882", "VERSION": "2000"}
         self.assertEqual(dict(re.findall(r"#define CURDMESA_(\w+) (\d+)", self.text)), sums)
         kinds = {"": Status, "ITEM_": ItemKind, "CATEGORY_": Category, "REASON_": Reason}
         due = {prefix + each.name: str(each.value) for prefix, kind in kinds.items()

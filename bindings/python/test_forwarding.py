@@ -121,8 +121,40 @@ class Ledgers(unittest.TestCase):
         held = ledger.sums
         report = ledger.flush((1, 0))
         self.assertEqual(ledger.sums, [0] * 108)
-        self.assertEqual(ledger.record_losses(losses(report), Reason.NETWORK_ERROR), 0)
+        self.assertEqual(ledger.record_envelope(report, Reason.NETWORK_ERROR), 0)
         self.assertEqual(ledger.sums, held)
+        with self.assertRaises(curdmesa.InvalidHeader):
+            ledger.record_envelope(b"{", Reason.NETWORK_ERROR)
+        with self.assertRaises(TypeError):
+            ledger.record_envelope(report, Category.ERROR)
+        self.assertEqual(ledger.sums, held)
+
+    def test_a_report_is_one_more_item(self):
+        ledger = Ledger()
+        self.assertIsNone(ledger.flush_item())
+        ledger.record(Category.SPAN, Reason.SAMPLE_RATE, 2)
+        item = ledger.flush_item((1595256674, 0))
+        self.assertEqual(item.decode(), (
+            '{"length":101,"type":"client_report"}\n'
+            '{"discarded_events":[{"category":"span","quantity":2,"reason":"sample_rate"}],'
+            '"timestamp":1595256674}\n'
+        ))
+        whole = b'{}\n{"type":"feedback"}\n\n' + item
+        self.assertEqual([frame.word for frame in any_frames(whole)], ["feedback", "client_report"])
+        self.assertEqual(ledger.record_envelope(whole, Reason.SEND_ERROR), 0)
+        self.assertEqual(ledger.held(Category.FEEDBACK, Reason.SEND_ERROR), 1)
+        self.assertEqual(ledger.held(Category.SPAN, Reason.SAMPLE_RATE), 2)
+
+    def test_a_ledger_is_kept_as_bytes(self):
+        ledger = Ledger()
+        ledger.record(Category.ERROR, Reason.INTERNAL_SDK_ERROR, 0x0102030405060708)
+        data = ledger.to_bytes()
+        due = b"curdmesa ledger 1\n" + bytes(8) + bytes(range(8, 0, -1)) + bytes(8 * 106)
+        self.assertEqual(data, due)
+        self.assertEqual(Ledger.from_bytes(bytearray(data)).sums, ledger.sums)
+        for wrong in data[1:], data[:-1], data + b"\0", data.replace(b"1", b"2", 1), b"":
+            with self.subTest(wrong[:20]), self.assertRaises(curdmesa.InvalidText):
+                Ledger.from_bytes(wrong)
 
     def test_a_ledger_is_kept_over_a_restart(self):
         ledger = Ledger()

@@ -110,8 +110,12 @@ FUNCTIONS = {
     "curdmesa_reason_of_word": [*BYTES, U32S],
     "curdmesa_ledger_record": [U64S, SIZE, U32, U32, U64],
     "curdmesa_ledger_record_losses": [U64S, SIZE, U64S, SIZE, U32, U64S],
+    "curdmesa_ledger_record_envelope": [U64S, SIZE, *BYTES, U32, U64S],
     "curdmesa_ledger_held": [U64S, SIZE, U32, U32, U64S],
     "curdmesa_ledger_flush": [U64S, SIZE, *MOMENT, *OUT],
+    "curdmesa_ledger_flush_item": [U64S, SIZE, *MOMENT, *OUT],
+    "curdmesa_ledger_write": [U64S, SIZE, *OUT],
+    "curdmesa_ledger_read": [*BYTES, U64S, SIZE],
 }
 
 
@@ -163,6 +167,14 @@ def written(room: int, call: Callable[..., int]) -> bytes:
         status = call(out, len(out), needed)
     done(status)
     return memoryview(out)[: needed.value].tobytes()
+
+
+def status_text(status: int) -> str:
+    """Returns the library's text of a status."""
+    out, needed = text_buffer(256), U64(0)
+    if library.curdmesa_status_text(status, out, len(out), needed) != Status.OK:
+        return f"unknown status {status}"
+    return memoryview(out)[: needed.value].tobytes().decode()
 
 
 Data = Union[bytes, bytearray, memoryview]

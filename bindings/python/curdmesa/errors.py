@@ -37,17 +37,22 @@ class Status(enum.IntEnum):
 
 class Error(Exception):
     """A call failed. `status` says why: a Status, or another number if the library is of another
-    version. `text` says it in a few words."""
+    version. `text` is the library's text of the status."""
 
     status: int = -1
-    text: str = ""
 
     def __init__(self, status: Optional[int] = None):
         super().__init__(type(self).status if status is None else status)
         self.status = self.args[0]
 
+    @property
+    def text(self) -> str:
+        from ._library import status_text  # a module that imports this one
+
+        return status_text(self.status)
+
     def __str__(self) -> str:
-        return self.text or f"unknown status {self.status}"
+        return self.text
 
 
 class EnvelopeError(Error):
@@ -70,49 +75,42 @@ class NoRoom(Error):
     """The text is longer than the room for it. This package makes room, so no call raises this."""
 
     status = Status.NO_ROOM
-    text = "no room for the text"
 
 
 class NoMoment(Error):
     """No such moment: before 1970, past the year 9999, or 10^9 nanoseconds or more."""
 
     status = Status.NO_MOMENT
-    text = "no such moment"
 
 
 class NotUtf8(DsnError, AuthError):
     """The text isn't UTF-8, and so is no DSN, no client authentication, and no other text."""
 
     status = Status.NOT_UTF8
-    text = "text is not UTF-8"
 
 
 class InvalidText(TextError):
-    """The text isn't a timestamp, or isn't a crontab schedule."""
+    """The text isn't a timestamp, or isn't a crontab schedule; or the bytes aren't a ledger's."""
 
     status = Status.INVALID_TEXT
-    text = "invalid text"
 
 
 class InvalidArgument(Error):
     """A number or the length of a table is out of range."""
 
     status = Status.INVALID_ARGUMENT
-    text = "argument out of range"
 
 
 class NothingLeft(Error):
     """No item is left, or the ledger holds no loss. Calls return None instead."""
 
     status = Status.NOTHING_LEFT
-    text = "nothing left"
 
 
 class LedgerFull(Error):
     """The sum would exceed 2^64-1."""
 
     status = Status.LEDGER_FULL
-    text = "ledger is full"
 
 
 class UnexpectedEof(EnvelopeError):
@@ -120,21 +118,18 @@ class UnexpectedEof(EnvelopeError):
     states."""
 
     status = Status.UNEXPECTED_EOF
-    text = "unexpected end of file"
 
 
 class MissingHeader(EnvelopeError):
     """Never raised: an empty header line is InvalidHeader."""
 
     status = Status.MISSING_HEADER
-    text = "missing envelope header"
 
 
 class MissingItemHeader(EnvelopeError):
     """Never raised: bytes that are no item header are InvalidItemHeader."""
 
     status = Status.MISSING_ITEM_HEADER
-    text = "missing item header"
 
 
 class MissingNewline(EnvelopeError):
@@ -142,91 +137,78 @@ class MissingNewline(EnvelopeError):
     the end."""
 
     status = Status.MISSING_NEWLINE
-    text = "missing newline after header or payload"
 
 
 class InvalidHeader(EnvelopeError):
     """The first line isn't one JSON object without floats that reads as envelope headers."""
 
     status = Status.INVALID_HEADER
-    text = "invalid envelope header"
 
 
 class InvalidItemHeader(EnvelopeError):
     """An item doesn't begin with a JSON object without floats that reads as an item header."""
 
     status = Status.INVALID_ITEM_HEADER
-    text = "invalid item header"
 
 
 class InvalidItemPayload(EnvelopeError):
     """A payload isn't one JSON text without floats that reads as its item type."""
 
     status = Status.INVALID_ITEM_PAYLOAD
-    text = "invalid item payload"
 
 
 class OutOfMemory(Error, MemoryError):
     """An allocation of the library failed."""
 
     status = Status.OUT_OF_MEMORY
-    text = "out of memory"
 
 
 class DsnInvalidUrl(DsnError):
     """No URL, or a URL without a host."""
 
     status = Status.DSN_INVALID_URL
-    text = "no valid url provided"
 
 
 class DsnInvalidScheme(DsnError):
     """The scheme is neither http nor https."""
 
     status = Status.DSN_INVALID_SCHEME
-    text = "no valid scheme"
 
 
 class DsnNoUsername(DsnError):
     """No user name, which is the public key."""
 
     status = Status.DSN_NO_USERNAME
-    text = "username is empty"
 
 
 class DsnNoProjectId(DsnError):
     """The path is "/"."""
 
     status = Status.DSN_NO_PROJECT_ID
-    text = "empty path"
 
 
 class DsnInvalidProjectId(DsnError):
     """The project id is empty."""
 
     status = Status.DSN_INVALID_PROJECT_ID
-    text = "invalid project id"
 
 
 class AuthNonSentry(AuthError):
     """The text doesn't begin with the word "sentry", in any ASCII case."""
 
     status = Status.AUTH_NON_SENTRY
-    text = "non sentry auth"
 
 
 class AuthInvalidVersion(AuthError):
     """A sentry_version, up to its first '.', isn't a whole number of 16 bits."""
 
     status = Status.AUTH_INVALID_VERSION
-    text = "invalid value for version"
 
 
 class AuthMissingPublicKey(AuthError):
     """The public key (sentry_key) is absent or empty."""
 
     status = Status.AUTH_MISSING_PUBLIC_KEY
-    text = "missing public key in auth header"
 
 
 def _subclasses(kind: type) -> Iterator[type]:

@@ -3,9 +3,9 @@
 from __future__ import annotations
 
 import threading
-from typing import Iterable, List, Optional
+from typing import Callable, Iterable, List, Optional
 
-from ._library import LOSSES, SUMS, U64, library, whole, written
+from ._library import LOSSES, SUMS, U64, Data, data_bytes, library, whole, written
 from ._losses import Loss, sums_of
 from .errors import NothingLeft, done
 from .moments import Moment, When
@@ -68,6 +68,20 @@ class Ledger:
             ))
         return refused.value
 
+    def record_envelope(self, data: Data, reason: Reason) -> int:
+        """Adds what is lost if an envelope isn't sent: its `losses`, as `record_losses` does. So an
+        envelope of `flush` that can't be sent is put back. Returns how many sums are refused.
+
+        Raises the errors of `losses`, and ValueError and TypeError as `record` does; the ledger is
+        unchanged.
+        """
+        data, reason, refused = data_bytes(data), member(Reason, reason), U64(0)
+        with self._lock:
+            done(library.curdmesa_ledger_record_envelope(
+                self._sums, SUMS, data, len(data), reason, refused
+            ))
+        return refused.value
+
     def held(self, category: Category, reason: Reason) -> int:
         """Returns the quantity of a category and a reason that the ledger holds. Raises ValueError
         for a number that is no Category or Reason, TypeError for a member of another enumeration."""
@@ -81,18 +95,35 @@ class Ledger:
         """Moves all losses into a client report of the moment `now`, which defaults to the system's
         clock, and returns the envelope of that one item; None if the ledger holds no loss.
 
-        The losses are only in the envelope then: if it can't be sent, `record_losses` of its
-        `losses` puts them back, each under its own reason. Raises NoMoment, OutOfMemory, and
-        ValueError for a datetime without a time zone; the ledger is unchanged.
+        The losses are only in the envelope then: if it can't be sent, `record_envelope` puts them
+        back, each under its own reason. Raises NoMoment, OutOfMemory, and ValueError for a datetime
+        without a time zone; the ledger is unchanged.
         """
+        return self._flush(library.curdmesa_ledger_flush, now)
+
+    def flush_item(self, now: Optional[When] = None) -> Optional[bytes]:
+        """Does what `flush` does, but returns the report's item alone: its header and its payload,
+        each with a line feed. Behind an envelope that ends with a line feed it is one more item of
+        that envelope."""
+        return self._flush(library.curdmesa_ledger_flush_item, now)
+
+    def _flush(self, call: Callable[..., int], now: Optional[When]) -> Optional[bytes]:
         secs, nanos = Moment.of_or_now(now)
         with self._lock:
             try:
-                return written(
-                    1024,
-                    lambda *out: library.curdmesa_ledger_flush(
-                        self._sums, SUMS, secs, nanos, *out
-                    ),
-                )
+                return written(1024, lambda *out: call(self._sums, SUMS, secs, nanos, *out))
             except NothingLeft:
                 return None
+
+    def to_bytes(self) -> bytes:
+        """Returns the ledger as bytes, as a spool keeps it over a restart. Raises OutOfMemory."""
+        with self._lock:
+            return written(882, lambda *out: library.curdmesa_ledger_write(self._sums, SUMS, *out))
+
+    @classmethod
+    def from_bytes(cls, data: Data) -> Ledger:
+        """Returns the ledger that `to_bytes` made these bytes of. Raises InvalidText if they aren't
+        those of a ledger."""
+        data, ledger = data_bytes(data), cls()
+        done(library.curdmesa_ledger_read(data, len(data), ledger._sums, SUMS))
+        return ledger

@@ -1,10 +1,12 @@
 //! Statuses as errors.
 
+use crate::sys;
 use std::convert::Infallible;
 use std::error;
 use std::fmt;
 
-/// Why a call failed: a variant for each status of `curdmesa.h` but `CURDMESA_OK`.
+/// Why a call failed: a variant for each status of `curdmesa.h` but `CURDMESA_OK`. Its text is that of
+/// `curdmesa_status_text`.
 #[derive(Clone, Copy, Debug, PartialEq, Eq, Hash)]
 #[non_exhaustive]
 pub enum Error {
@@ -15,7 +17,8 @@ pub enum Error {
     NoMoment,
     /// The text isn't UTF-8.
     NotUtf8,
-    /// The text isn't a timestamp, a crontab schedule or a word of an enumeration.
+    /// The text isn't a timestamp, a crontab schedule or a word of an enumeration; or the bytes
+    /// aren't a ledger's.
     InvalidText,
     /// A number, an offset or the length of a table is out of range. In this crate only the
     /// conversion of a number to an enumeration returns this error; elsewhere types rule it out.
@@ -62,40 +65,35 @@ pub enum Error {
     Unknown(i32),
 }
 
-/// Each status with its error, and with the error's text.
-const STATUSES: [(i32, Error, &str); 23] = [
-    (1, Error::NoRoom, "no room for the text"),
-    (2, Error::NoMoment, "no such moment"),
-    (3, Error::NotUtf8, "text is not UTF-8"),
-    (4, Error::InvalidText, "invalid text"),
-    (5, Error::InvalidArgument, "argument out of range"),
-    (6, Error::NothingLeft, "nothing left"),
-    (7, Error::LedgerFull, "ledger is full"),
-    (10, Error::UnexpectedEof, "unexpected end of file"),
-    (11, Error::MissingHeader, "missing envelope header"),
-    (12, Error::MissingItemHeader, "missing item header"),
-    (
-        13,
-        Error::MissingNewline,
-        "missing newline after header or payload",
-    ),
-    (14, Error::InvalidHeader, "invalid envelope header"),
-    (15, Error::InvalidItemHeader, "invalid item header"),
-    (16, Error::InvalidItemPayload, "invalid item payload"),
-    (17, Error::OutOfMemory, "out of memory"),
-    (20, Error::DsnInvalidUrl, "no valid url provided"),
-    (21, Error::DsnInvalidScheme, "no valid scheme"),
-    (22, Error::DsnNoUsername, "username is empty"),
-    (23, Error::DsnNoProjectId, "empty path"),
-    (24, Error::DsnInvalidProjectId, "invalid project id"),
-    (30, Error::AuthNonSentry, "non sentry auth"),
-    (31, Error::AuthInvalidVersion, "invalid value for version"),
-    (
-        32,
-        Error::AuthMissingPublicKey,
-        "missing public key in auth header",
-    ),
+/// Each status with its error.
+const STATUSES: [(i32, Error); 23] = [
+    (1, Error::NoRoom),
+    (2, Error::NoMoment),
+    (3, Error::NotUtf8),
+    (4, Error::InvalidText),
+    (5, Error::InvalidArgument),
+    (6, Error::NothingLeft),
+    (7, Error::LedgerFull),
+    (10, Error::UnexpectedEof),
+    (11, Error::MissingHeader),
+    (12, Error::MissingItemHeader),
+    (13, Error::MissingNewline),
+    (14, Error::InvalidHeader),
+    (15, Error::InvalidItemHeader),
+    (16, Error::InvalidItemPayload),
+    (17, Error::OutOfMemory),
+    (20, Error::DsnInvalidUrl),
+    (21, Error::DsnInvalidScheme),
+    (22, Error::DsnNoUsername),
+    (23, Error::DsnNoProjectId),
+    (24, Error::DsnInvalidProjectId),
+    (30, Error::AuthNonSentry),
+    (31, Error::AuthInvalidVersion),
+    (32, Error::AuthMissingPublicKey),
 ];
+
+/// Room for the text of any status.
+const TEXT: usize = 64;
 
 impl Error {
     /// Returns the error of a status, or `None` for status 0, which is success.
@@ -119,11 +117,19 @@ impl Error {
     }
 }
 
+/// The library's text of the status.
 impl fmt::Display for Error {
     fn fmt(&self, f: &mut fmt::Formatter<'_>) -> fmt::Result {
-        match STATUSES.iter().find(|row| row.1 == *self) {
-            Some(row) => f.write_str(row.2),
-            None => write!(f, "unknown status {}", self.status()),
+        let (mut out, mut needed) = ([0; TEXT], 0);
+        // SAFETY: the pointers are an array's, with its length, and a reference's; both are borrowed
+        // mutably.
+        let status = unsafe {
+            sys::curdmesa_status_text(self.status(), out.as_mut_ptr(), TEXT, &mut needed)
+        };
+        let text = out.get(..needed as usize).map(std::str::from_utf8);
+        match text {
+            Some(Ok(text)) if status == 0 => f.write_str(text),
+            _ => write!(f, "unknown status {}", self.status()),
         }
     }
 }
@@ -146,7 +152,6 @@ pub(crate) fn done(status: i32) -> Result<(), Error> {
 mod tests {
     use super::*;
     use crate::output::text;
-    use crate::sys;
 
     fn said(status: i32) -> Result<Vec<u8>, Error> {
         // SAFETY: the pointers are a slice's, with its length, and a reference's.
@@ -157,10 +162,17 @@ mod tests {
 
     #[test]
     fn statuses_are_the_librarys() {
-        for status in -1..99 {
-            let is_known = !matches!(Error::from_status(status), Some(Error::Unknown(_)));
-            assert_eq!(said(status).is_ok(), is_known, "{status}");
+        for status in 1..99 {
+            let error = Error::from_status(status).unwrap();
+            let printed = match said(status) {
+                Ok(text) => String::from_utf8(text).unwrap(),
+                Err(refused) => {
+                    assert_eq!(refused, Error::InvalidArgument);
+                    assert_eq!(error, Error::Unknown(status));
+                    format!("unknown status {status}")
+                }
+            };
+            assert_eq!(error.to_string(), printed);
         }
-        assert_eq!(said(99), Err(Error::InvalidArgument));
     }
 }

@@ -12,6 +12,9 @@ const SUMS: usize = 108;
 /// Room for a report of a few losses.
 const ROOM: usize = 1024;
 
+/// Number of bytes of a ledger.
+const BYTES: usize = 882;
+
 /// A ledger: the quantity of each category that was lost for each reason and isn't reported yet.
 ///
 /// ```
@@ -92,6 +95,41 @@ impl Ledger {
         refused
     }
 
+    /// Adds what is lost if an envelope isn't sent: its [`losses`](crate::losses), as
+    /// [`Ledger::record_losses`] does. So an envelope of [`Ledger::flush`] that can't be sent is put
+    /// back. Returns how many sums are refused.
+    ///
+    /// ```
+    /// use curdmesa::{Category, Ledger, Reason};
+    ///
+    /// let mut ledger = Ledger::new();
+    /// ledger.record(Category::Error, Reason::NetworkError, 2)?;
+    /// let unsent = ledger.flush((60, 0))?.unwrap();
+    /// ledger.record_envelope(&unsent, Reason::SendError)?;
+    /// assert_eq!(ledger.held(Category::Error, Reason::NetworkError), 2);
+    /// # Ok::<(), curdmesa::Error>(())
+    /// ```
+    ///
+    /// # Errors
+    ///
+    /// Those of [`losses`](crate::losses); the ledger is unchanged.
+    pub fn record_envelope(&mut self, bytes: &[u8], reason: Reason) -> Result<u64, Error> {
+        let mut refused = 0;
+        // SAFETY: the pointers are an array's and a slice's, with their lengths, and a reference's;
+        // what is written is borrowed mutably.
+        done(unsafe {
+            sys::curdmesa_ledger_record_envelope(
+                self.sums.as_mut_ptr(),
+                SUMS,
+                bytes.as_ptr(),
+                bytes.len(),
+                reason as u32,
+                &mut refused,
+            )
+        })?;
+        Ok(refused)
+    }
+
     /// Returns the quantity of a category and a reason that the ledger holds.
     pub fn held(&self, category: Category, reason: Reason) -> u64 {
         let mut quantity = 0;
@@ -115,8 +153,8 @@ impl Ledger {
     /// Moves all losses into a client report of the moment `now`, and returns the envelope of that
     /// one item; `None` if the ledger holds no loss.
     ///
-    /// The losses are only in the envelope then: if it can't be sent, [`Ledger::record_losses`] of
-    /// its [`losses`](crate::losses) puts them back, each under its own reason.
+    /// The losses are only in the envelope then: if it can't be sent, [`Ledger::record_envelope`]
+    /// puts them back, each under its own reason.
     ///
     /// # Errors
     ///
@@ -126,12 +164,30 @@ impl Ledger {
         N: TryInto<Moment>,
         Error: From<N::Error>,
     {
-        let now = now.try_into()?;
+        self.flush_by(now.try_into()?, sys::curdmesa_ledger_flush)
+    }
+
+    /// Does what [`Ledger::flush`] does, but returns the report's item alone: its header and its
+    /// payload, each with a line feed. Behind an envelope that ends with a line feed it is one more
+    /// item of that envelope.
+    ///
+    /// # Errors
+    ///
+    /// Those of [`Ledger::flush`].
+    pub fn flush_item<N>(&mut self, now: N) -> Result<Option<Vec<u8>>, Error>
+    where
+        N: TryInto<Moment>,
+        Error: From<N::Error>,
+    {
+        self.flush_by(now.try_into()?, sys::curdmesa_ledger_flush_item)
+    }
+
+    fn flush_by(&mut self, now: Moment, call: sys::FlushCall) -> Result<Option<Vec<u8>>, Error> {
         let report = output::text(ROOM, |out, needed| {
             // SAFETY: each pointer is a slice's or an array's, with its length, or a reference's;
             // what is written is borrowed mutably.
             unsafe {
-                sys::curdmesa_ledger_flush(
+                call(
                     self.sums.as_mut_ptr(),
                     SUMS,
                     now.secs,
@@ -143,6 +199,42 @@ impl Ledger {
             }
         });
         output::optional(report)
+    }
+
+    /// Returns the ledger as bytes, as a spool keeps it over a restart.
+    ///
+    /// # Errors
+    ///
+    /// [`Error::OutOfMemory`].
+    pub fn to_bytes(&self) -> Result<Vec<u8>, Error> {
+        output::text(BYTES, |out, needed| {
+            // SAFETY: each pointer is a slice's or an array's, with its length, or a reference's;
+            // what is written is borrowed mutably.
+            unsafe {
+                sys::curdmesa_ledger_write(
+                    self.sums.as_ptr(),
+                    SUMS,
+                    out.as_mut_ptr(),
+                    out.len(),
+                    needed,
+                )
+            }
+        })
+    }
+
+    /// Returns the ledger that [`Ledger::to_bytes`] made these bytes of.
+    ///
+    /// # Errors
+    ///
+    /// [`Error::InvalidText`] if the bytes aren't those of a ledger.
+    pub fn from_bytes(bytes: &[u8]) -> Result<Ledger, Error> {
+        let mut ledger = Ledger::new();
+        // SAFETY: the pointers are a slice's and an array's, with their lengths; what is written is
+        // borrowed mutably.
+        done(unsafe {
+            sys::curdmesa_ledger_read(bytes.as_ptr(), bytes.len(), ledger.sums.as_mut_ptr(), SUMS)
+        })?;
+        Ok(ledger)
     }
 }
 

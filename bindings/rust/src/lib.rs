@@ -17,7 +17,8 @@
 //! # Ok::<(), curdmesa::Error>(())
 //! ```
 //!
-//! `42` is the seed: a program hands in another random number with each call.
+//! `42` is the seed: a program hands in another random number with each call. With the feature `now`
+//! `normalize_now`, `check_now` and `filter_now` take the system's clock and a random seed.
 //!
 //! The crate links `libcurdmesa.a` from the folder that the variable `CURDMESA_LIB` names; without
 //! it, from that of the C binding beside this crate, or from where pkg-config says that it is
@@ -35,6 +36,8 @@ mod kinds;
 mod ledger;
 mod losses;
 mod moment;
+#[cfg(feature = "now")]
+mod now;
 mod output;
 pub mod rfc3339;
 mod sys;
@@ -49,6 +52,8 @@ pub use kinds::{Category, ItemKind, Reason};
 pub use ledger::Ledger;
 pub use losses::{losses, Loss, Losses};
 pub use moment::Moment;
+#[cfg(feature = "now")]
+pub use now::{check_now, filter_now, normalize_now};
 
 /// Returns the version of the library that is linked: major, minor and patch.
 pub fn library_version() -> (u32, u32, u32) {

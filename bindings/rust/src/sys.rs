@@ -77,7 +77,21 @@ pub type AuthCall = unsafe extern "C" fn(
     auth: *mut CurdmesaAuth,
 ) -> i32;
 
+/// A function that moves the losses of a ledger into a client report.
+pub type FlushCall = unsafe extern "C" fn(
+    ledger: *mut u64,
+    ledger_len: usize,
+    now_secs: u64,
+    now_nanos: u32,
+    out: *mut u8,
+    out_len: usize,
+    needed: *mut u64,
+) -> i32;
+
 extern "C" {
+    pub fn curdmesa_status_text(status: i32, out: *mut u8, out_len: usize, needed: *mut u64)
+        -> i32;
+
     pub fn curdmesa_version() -> u32;
 
     pub fn curdmesa_envelope_normalize(
@@ -241,6 +255,15 @@ extern "C" {
         refused: *mut u64,
     ) -> i32;
 
+    pub fn curdmesa_ledger_record_envelope(
+        ledger: *mut u64,
+        ledger_len: usize,
+        bytes: *const u8,
+        bytes_len: usize,
+        reason: u32,
+        refused: *mut u64,
+    ) -> i32;
+
     pub fn curdmesa_ledger_held(
         ledger: *const u64,
         ledger_len: usize,
@@ -258,14 +281,36 @@ extern "C" {
         out_len: usize,
         needed: *mut u64,
     ) -> i32;
+
+    pub fn curdmesa_ledger_flush_item(
+        ledger: *mut u64,
+        ledger_len: usize,
+        now_secs: u64,
+        now_nanos: u32,
+        out: *mut u8,
+        out_len: usize,
+        needed: *mut u64,
+    ) -> i32;
+
+    pub fn curdmesa_ledger_write(
+        ledger: *const u64,
+        ledger_len: usize,
+        out: *mut u8,
+        out_len: usize,
+        needed: *mut u64,
+    ) -> i32;
+
+    pub fn curdmesa_ledger_read(
+        bytes: *const u8,
+        bytes_len: usize,
+        ledger: *mut u64,
+        ledger_len: usize,
+    ) -> i32;
 }
 
-// The tests alone ask these: the crate has words and texts of its own.
+// The tests alone ask these: the crate has words of its own.
 #[cfg(test)]
 extern "C" {
-    pub fn curdmesa_status_text(status: i32, out: *mut u8, out_len: usize, needed: *mut u64)
-        -> i32;
-
     pub fn curdmesa_item_word(kind: u32, out: *mut u8, out_len: usize, needed: *mut u64) -> i32;
 
     pub fn curdmesa_item_of_word(word: *const u8, word_len: usize, kind: *mut u32) -> i32;

@@ -175,11 +175,57 @@ fn a_report_is_put_back() {
     let held = ledger.clone();
     let report = ledger.flush((1, 0)).unwrap().unwrap();
     assert_eq!(ledger, Ledger::new());
-    let lost = losses(&report).unwrap();
-    assert_eq!(ledger.record_losses(&lost, Reason::NetworkError), 0);
+    assert_eq!(ledger.record_envelope(&report, Reason::NetworkError), Ok(0));
     assert_eq!(ledger, held);
     assert_eq!(Ledger::from_sums(*held.sums()), held);
     assert_eq!(held.sums()[9 * Category::Span as usize + 3], 4);
+}
+
+#[test]
+fn a_report_is_one_more_item() {
+    let mut ledger = Ledger::new();
+    ledger
+        .record(Category::Span, Reason::SampleRate, 2)
+        .unwrap();
+    let held = ledger.clone();
+    let item = ledger.flush_item((1595256674, 0)).unwrap().unwrap();
+    assert_eq!(ledger.flush_item((1595256674, 0)), Ok(None));
+    let due = "{\"length\":101,\"type\":\"client_report\"}\n\
+        {\"discarded_events\":[{\"category\":\"span\",\"quantity\":2,\
+        \"reason\":\"sample_rate\"}],\"timestamp\":1595256674}\n";
+    assert_eq!(String::from_utf8_lossy(&item), due);
+    let whole = [b"{}\n{\"type\":\"feedback\"}\n\n", &item[..]].concat();
+    assert_eq!(
+        ledger.record_envelope(b"{", Reason::SendError),
+        Err(Error::InvalidHeader)
+    );
+    assert_eq!(ledger.record_envelope(&whole, Reason::SendError), Ok(0));
+    assert_eq!(ledger.held(Category::Feedback, Reason::SendError), 1);
+    assert_eq!(
+        ledger.held(Category::Span, Reason::SampleRate),
+        held.held(Category::Span, Reason::SampleRate)
+    );
+}
+
+#[test]
+fn a_ledger_is_kept_as_bytes() {
+    let mut ledger = Ledger::new();
+    ledger
+        .record(
+            Category::Error,
+            Reason::InternalSdkError,
+            0x0102_0304_0506_0708,
+        )
+        .unwrap();
+    let bytes = ledger.to_bytes().unwrap();
+    let mut due = b"curdmesa ledger 1\n".to_vec();
+    due.resize(18 + 8 * 108, 0);
+    due[26..34].copy_from_slice(&[8, 7, 6, 5, 4, 3, 2, 1]);
+    assert_eq!(bytes, due);
+    assert_eq!(Ledger::from_bytes(&bytes), Ok(ledger));
+    assert_eq!(Ledger::from_bytes(&bytes[1..]), Err(Error::InvalidText));
+    due[16] = b'2';
+    assert_eq!(Ledger::from_bytes(&due), Err(Error::InvalidText));
 }
 
 #[test]

@@ -8,3 +8,5 @@ pub mod Items
 pub mod Asking
 pub mod Refusals
 pub mod Dropping
+pub mod Rooms
+pub mod StoredSums

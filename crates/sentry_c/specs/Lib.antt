@@ -1,3 +1,4 @@
+pub mod StatusTexts
 pub mod Statuses
 pub mod Output
 pub mod Places
@@ -13,3 +14,4 @@ pub mod Envelopes
 pub mod Texts
 pub mod Sums
 pub mod Recording
+pub mod LedgerBytes

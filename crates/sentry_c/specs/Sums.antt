@@ -1,5 +1,6 @@
 -- A ledger in one row of sums.
 use Rattle.std.specs.Prelude.{◌≡◌, ℕ, List}
+use Rattle.sentry_framing.specs.Framing.{IsLineAndBody}
 use Rattle.sentry_envelope.specs.Envelope.{envelope_text}
 use Rattle.sentry_envelope.specs.EnvelopeView.{empty, item_view, with_item}
 use Rattle.sentry_envelope.specs.SentryProfile.{profile}
@@ -27,3 +28,10 @@ pub record IsReportText (held : Quantities) (secs nanos : ℕ) (text : List ℕ)
   pub nanos_are : given.timestamp.nanos ≡ nanos
   pub items_are : given.items ≡ items_held held
   pub text_is : text ≡ envelope_text profile (with_item empty (item_view (items.ClientReport given)))
+
+-- The item is what stands behind the header line of that envelope.
+pub record IsReportItem (held : Quantities) (secs nanos : ℕ) (item : List ℕ) : Type 0 where
+  pub text : List ℕ
+  pub line : List ℕ
+  pub reports : IsReportText held secs nanos text
+  pub split : IsLineAndBody text line item

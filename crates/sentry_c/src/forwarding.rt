@@ -1,34 +1,33 @@
 //! Forwarding envelopes.
 
-ghost use Rattle.std.specs.Prelude.{◌≡◌, ◌≢◌, ◌⊎◌, ◌≤◌, Err, IfOk, MatchOption, length};
+ghost use Rattle.std.specs.Prelude.{◌≡◌, ◌≢◌, ◌⊎◌, ◌≤◌, Err, IfOk, length};
 ghost use Rattle.std.specs.List.{All};
 ghost use Rattle.sentry_framing.specs.declared.error.EnvelopeError.{EnvelopeError as Refusal};
 ghost use Rattle.sentry_framing.specs.declared.error.EnvelopeError.TheVariants as refusals;
-ghost use Rattle.sentry_forward.specs.View.{IsRefused};
+ghost use Rattle.sentry_forward.specs.View.{IsRefused, text_of};
 ghost use Rattle.sentry_c.specs.Forwarding.{HasOtherCount};
-ghost use Rattle.sentry_c.specs.Left.{IsTextLeft, IsTextLeftBy, LeavesNoItem, LeavesNoItemBy};
+ghost use Rattle.sentry_c.specs.Left.{Forwards, IsTextLeftBy, LeavesNoItemBy};
 ghost use Rattle.sentry_c.specs.Output.{IsTooLong, Puts};
 ghost use Rattle.sentry_c.specs.Statuses.{refusal_status};
 
 use crate::answered::{are_answers, forward_answered};
 use crate::losses::sums_of_frames;
-use crate::output::deliver;
+use crate::output::{deliver_parts, parts_len};
 use crate::status::{INVALID_ARGUMENT, NO_ROOM, NOTHING_LEFT, OK, status_of_envelope_error};
 use sentry_ledger::loss_sums::{LossSums, SUMS};
-use sentry_types::protocol::v7::{ForwardError, ForwardRules};
-use std::alloc::Global;
+use sentry_types::protocol::v7::{ForwardError, ForwardRules, Forwarded};
+use std::alloc::{AllocError, Global};
 
-// Returns what is left of an envelope by an answer for each item, if any item is left, and the sums
-// of what is lost with the others; `TooManyItems` if there isn't an answer for each item.
-fn text_left(
+// Returns what is left of an envelope by an answer for each item, the length of its text, and the
+// sums of what is lost with the other items; `TooManyItems` if there isn't an answer for each item.
+fn left_of<'a>(
     alloc: Global,
-    bytes: &[u8],
+    bytes: &'a [u8],
     keep: &[u8],
     attachments_follow: bool,
-) -> Result<(Option<Vec<u8>>, LossSums), ForwardError>
-    ensures left { IfOk result (λ x. MatchOption x.0
-        (LeavesNoItem bytes.now keep.now attachments_follow x.1)
-        (λ text. IsTextLeft bytes.now keep.now attachments_follow x.1 text.items)) }
+) -> Result<(Forwarded<'a>, usize, LossSums), ForwardError>
+    ensures left { IfOk result (λ x. Forwards bytes.now keep.now attachments_follow x.2 x.0) }
+    ensures len { IfOk result (λ x. x.1 ≡ length (text_of x.0)) }
     ensures other { result ≡ Err ForwardError.TooManyItems →
         HasOtherCount bytes.now (length keep.now) }
     ensures refused { (x : Refusal) → result ≡ Err (ForwardError.Envelope x) →
@@ -43,10 +42,8 @@ fn text_left(
         return Err(ForwardError::TooManyItems);
     }
     let sums = sums_of_frames(alloc, &left.dropped)?;
-    if left.nonempty_parts().is_none() {
-        return Ok((None, sums));
-    }
-    Ok((Some(left.to_vec(alloc)?), sums))
+    let len = parts_len(&left.parts).ok_or(AllocError)?;
+    Ok((left, len, sums))
 }
 
 /// Forwards an envelope: writes it to `out` without the items that are dropped, byte for byte.
@@ -100,14 +97,14 @@ pub extern "C" fn curdmesa_envelope_forward(
     if losses.len() != SUMS || !are_answers(keep) {
         return INVALID_ARGUMENT;
     }
-    let (text, sums) = match text_left(alloc, bytes, keep, attachments_follow) {
+    let (left, len, sums) = match left_of(alloc, bytes, keep, attachments_follow) {
         Ok(left) => left,
         Err(ForwardError::TooManyItems) => return INVALID_ARGUMENT,
         Err(ForwardError::Envelope(error)) => return status_of_envelope_error(&error),
     };
     losses.copy_from_slice(sums.as_slice());
-    match text {
-        Some(text) if deliver(&text, out, needed) => OK,
+    match left.nonempty_parts() {
+        Some(parts) if deliver_parts(parts, len, out, needed) => OK,
         Some(_) => NO_ROOM,
         None => NOTHING_LEFT,
     }

@@ -149,6 +149,8 @@ pub extern "C" fn curdmesa_dsn_auth(
     ensures no_moment { result ≡ NO_MOMENT → ¬ IsMomentTime now_secs now_nanos }
     ensures is_moment { result ≢ NO_MOMENT → IsMomentTime now_secs now_nanos }
     ensures not_utf8 { result ≡ NOT_UTF8 → (¬ IsUtf8 text.now) ⊎ (¬ IsUtf8 client.now) }
+    ensures utf8 { result ≢ NO_MOMENT → result ≢ NOT_UTF8 →
+        IsUtf8 text.now × IsUtf8 client.now }
     ensures unchanged { result ≢ OK → out.new ≡ out.old }
     ensures no_text { result ≢ OK → result ≢ NO_ROOM → needed.new ≡ 0 }
     ensures answers { (result ≡ OK) ⊎ ((result ≡ NO_ROOM) ⊎ ((result ≡ NO_MOMENT) ⊎

@@ -8,7 +8,7 @@ ghost use Rattle.sentry_reports.specs.declared.reason.Reason.{Reason as Reasons}
 ghost use Rattle.sentry_ledger.specs.Held.{HoldsNothing, held_in};
 ghost use Rattle.sentry_moments.specs.Rfc3339.{IsMomentTime};
 ghost use Rattle.sentry_c.specs.Output.{IsTooLong, Puts};
-ghost use Rattle.sentry_c.specs.Sums.{HasPair, IsPair, IsReportText};
+ghost use Rattle.sentry_c.specs.Sums.{HasPair, IsPair, IsReportItem, IsReportText};
 
 use crate::envelope::text_of;
 use crate::output::deliver;
@@ -19,7 +19,7 @@ use sentry_ledger::held_row::{holds_nothing, report_items};
 use sentry_reports::kept_sums::{PAIRS, pair_place};
 use sentry_types::IndexedEnum;
 use sentry_types::protocol::v7::client_report::{Category, Reason, Report};
-use sentry_types::protocol::v7::{Envelope, EnvelopeItem, Moment};
+use sentry_types::protocol::v7::{Envelope, EnvelopeItem, Frames, Moment};
 use std::alloc::{AllocError, Global};
 
 pub(crate) fn category_at(number: u32) -> Option<Category>
@@ -187,6 +187,60 @@ pub extern "C" fn curdmesa_ledger_flush(
         return OUT_OF_MEMORY;
     };
     if !deliver(&text, out, needed) {
+        return NO_ROOM;
+    }
+    ledger.fill(0);
+    OK
+}
+
+/// Moves all losses of a ledger into a client report, and writes its item to `out`: the item header
+/// and the payload, each with a line feed, as they stand in an envelope.
+///
+/// # Returns
+///
+/// What [`curdmesa_ledger_flush`] returns.
+#[unsafe(no_mangle)]
+pub extern "C" fn curdmesa_ledger_flush_item(
+    alloc: Global,
+    ledger: &mut [u64],
+    now_secs: u64,
+    now_nanos: u32,
+    out: &mut [u8],
+    needed: &mut u64,
+) -> i32
+    ensures written { result ≡ OK → Puts (IsReportItem (held_in ledger.old) now_secs now_nanos)
+        out.old out.new needed.new }
+    ensures emptied { result ≡ OK → ledger.new ≡ replicate PAIRS 0 }
+    ensures no_room { result ≡ NO_ROOM →
+        IsTooLong (IsReportItem (held_in ledger.old) now_secs now_nanos) out.old needed.new }
+    ensures nothing { result ≡ NOTHING_LEFT → HoldsNothing (held_in ledger.old) }
+    ensures something { (result ≡ OK) ⊎ (result ≡ NO_ROOM) → ¬ HoldsNothing (held_in ledger.old) }
+    ensures moment { result ≡ NO_MOMENT → ¬ IsMomentTime now_secs now_nanos }
+    ensures is_moment { result ≢ NO_MOMENT → result ≢ INVALID_ARGUMENT →
+        IsMomentTime now_secs now_nanos }
+    ensures argument { result ≡ INVALID_ARGUMENT → length ledger.old ≢ PAIRS }
+    ensures long { result ≢ INVALID_ARGUMENT → length ledger.old ≡ PAIRS }
+    ensures memory { result ≡ OUT_OF_MEMORY → ¬ HoldsNothing (held_in ledger.old) }
+    ensures unchanged { result ≢ OK → ledger.new ≡ ledger.old }
+    ensures out_unchanged { result ≢ OK → out.new ≡ out.old }
+    ensures no_text { result ≢ OK → result ≢ NO_ROOM → needed.new ≡ 0 }
+    ensures answers { (result ≡ OK) ⊎ ((result ≡ NO_ROOM) ⊎ ((result ≡ NOTHING_LEFT) ⊎
+        ((result ≡ NO_MOMENT) ⊎ ((result ≡ INVALID_ARGUMENT) ⊎ (result ≡ OUT_OF_MEMORY))))) }
+{
+    *needed = 0;
+    if ledger.len() != PAIRS {
+        return INVALID_ARGUMENT;
+    }
+    let Some(now) = Moment::new(now_secs, now_nanos) else {
+        return NO_MOMENT;
+    };
+    if holds_nothing(ledger) {
+        return NOTHING_LEFT;
+    }
+    let Ok(text) = report_text(alloc, ledger, now) else {
+        return OUT_OF_MEMORY;
+    };
+    if !deliver(Frames::new(&text).rest(), out, needed) {
         return NO_ROOM;
     }
     ledger.fill(0);

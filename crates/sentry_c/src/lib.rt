@@ -12,6 +12,7 @@ pub mod envelope;
 mod filter;
 pub mod forwarding;
 pub mod frames;
+pub mod keeping;
 pub mod keys;
 pub mod ledger;
 pub mod losses;

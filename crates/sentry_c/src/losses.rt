@@ -42,8 +42,12 @@ pub fn sums_of_frames(alloc: Global, frames: &[AnyFrame<'_>]) -> Result<LossSums
     Ok(sums_of(&losses))
 }
 
-// Returns the sums of what is lost with all items of an envelope.
-fn sums_of_envelope(alloc: Global, bytes: &[u8]) -> Result<LossSums, EnvelopeError>
+/// Returns the sums of what is lost with all items of an envelope.
+///
+/// # Errors
+///
+/// Those of `AnyFrames`; `OutOfMemory`, which is one of them, if an allocation fails.
+pub fn sums_of_envelope(alloc: Global, bytes: &[u8]) -> Result<LossSums, EnvelopeError>
     ensures lost { IfOk result (SumsEnvelope bytes.now) }
     ensures refused { IfErr result (λ e. e ≢ EnvelopeError.OutOfMemory → IsRefused bytes.now e) }
 {

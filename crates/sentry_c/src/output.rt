@@ -1,6 +1,7 @@
 //! Texts that are written to the caller's memory.
 
-ghost use Rattle.std.specs.Prelude.{◌≡◌, ◌<◌, ◌≤◌, ◌++◌, IsFalse, IsTrue, length, drop};
+ghost use Rattle.std.specs.Prelude.{◌≡◌, ◌<◌, ◌≤◌, ◌++◌, IfSome, IsFalse, IsTrue, length, drop};
+ghost use Rattle.sentry_forward.specs.View.{joined_parts};
 
 /// Sets `needed` to the length of a text, and writes the text to the front of `out`. Returns
 /// whether there was room; if not, `out` is unchanged.
@@ -16,5 +17,47 @@ pub fn deliver(text: &[u8], out: &mut [u8], needed: &mut u64) -> bool
         return false;
     }
     out[..text.len()].copy_from_slice(text);
+    true
+}
+
+/// Returns how many bytes parts have together; `None` for 2^64 or more.
+pub fn parts_len(parts: &[&[u8]]) -> Option<usize>
+    ensures { IfSome result (λ len. len ≡ length (joined_parts parts.now)) }
+{
+    let mut len: usize = 0;
+    for part in parts {
+        len = len.checked_add(part.len())?;
+    }
+    Some(len)
+}
+
+// Writes parts to the front of `out`, one after the other.
+fn put_parts(parts: &[&[u8]], out: &mut [u8])
+    requires { length (joined_parts parts.now) ≤ length out.old }
+    ensures { out.new ≡ joined_parts parts.now
+        ++ drop (length (joined_parts parts.now)) out.old }
+{
+    let mut at = 0;
+    for part in parts {
+        let end = at + part.len();
+        out[at..end].copy_from_slice(*part);
+        at = end;
+    }
+}
+
+/// Writes a text of `len` bytes as [`deliver`] does, given its parts.
+pub fn deliver_parts(parts: &[&[u8]], len: usize, out: &mut [u8], needed: &mut u64) -> bool
+    requires { len ≡ length (joined_parts parts.now) }
+    ensures told { needed.new ≡ len }
+    ensures fits { IsTrue result → len ≤ length out.old }
+    ensures put { IsTrue result → out.new ≡ joined_parts parts.now ++ drop len out.old }
+    ensures longer { IsFalse result → length out.old < len }
+    ensures unchanged { IsFalse result → out.new ≡ out.old }
+{
+    *needed = len as u64;
+    if out.len() < len {
+        return false;
+    }
+    put_parts(parts, out);
     true
 }

@@ -3,14 +3,20 @@
 ghost use Rattle.std.specs.Prelude.{◌≡◌, ◌≢◌, ◌⊎◌, ◌∷◌, [], None, Some, length, map, slice_get};
 ghost use Rattle.sentry_reports.specs.Categories.{reasons};
 ghost use Rattle.sentry_reports.specs.declared.reason.Reason.{Reason as Reasons};
-ghost use Rattle.sentry_c.specs.Recording.{RecordsOn, RecordsRow, loss_in, losses_in, losses_told};
+ghost use Rattle.sentry_framing.specs.declared.error.EnvelopeError.{EnvelopeError as Refusal};
+ghost use Rattle.sentry_framing.specs.declared.error.EnvelopeError.TheVariants as refusals;
+ghost use Rattle.sentry_forward.specs.View.{IsRefused};
+ghost use Rattle.sentry_c.specs.Recording.{RecordsEnvelope, RecordsOn, RecordsRow, loss_in, losses_in, losses_told};
+ghost use Rattle.sentry_c.specs.Statuses.{refusal_status};
 
 use crate::ledger::reason_at;
-use crate::status::{INVALID_ARGUMENT, OK};
+use crate::losses::sums_of_envelope;
+use crate::status::{INVALID_ARGUMENT, OK, status_of_envelope_error};
 use sentry_ledger::loss_sums::SUMS;
 use sentry_reports::kept_sums::{PAIRS, pair_place};
 use sentry_types::IndexedEnum;
 use sentry_types::protocol::v7::client_report::{Category, ItemLoss, Reason};
+use std::alloc::Global;
 
 // Returns the loss that a row of sums has of a category, for a reason or without one.
 fn loss_at(losses: &[u64], category: Category, reason: Option<Reason>) -> ItemLoss
@@ -137,4 +143,51 @@ pub extern "C" fn curdmesa_ledger_record_losses(
     *refused = 0;
     add_losses(ledger, losses, reason, refused);
     OK
+}
+
+/// Adds to a ledger what is lost if an envelope isn't sent, as [`curdmesa_ledger_record_losses`] of
+/// the sums of [`curdmesa_envelope_losses`](crate::losses::curdmesa_envelope_losses). So a report
+/// that can't be sent is put back: its losses have reasons of their own.
+///
+/// # Returns
+///
+/// - `OK` if all other sums were added, and `refused` was set.
+/// - `INVALID_ARGUMENT` if the ledger has another length than [`PAIRS`], or no reason has the
+///   number.
+/// - The status of the error of `AnyFrames` if the bytes are refused; `OUT_OF_MEMORY`, which is one
+///   of them, if an allocation fails.
+#[unsafe(no_mangle)]
+pub extern "C" fn curdmesa_ledger_record_envelope(
+    alloc: Global,
+    ledger: &mut [u64],
+    bytes: &[u8],
+    reason: u32,
+    refused: &mut u64,
+) -> i32
+    ensures recorded { result ≡ OK → RecordsEnvelope ledger.old ledger.new reason bytes.now
+        refused.new }
+    ensures fault { (x : Refusal) → result ≡ refusal_status x → x ≢ refusals.OutOfMemory →
+        IsRefused bytes.now x }
+    ensures argument { result ≡ INVALID_ARGUMENT → (length ledger.old ≢ PAIRS) ⊎
+        (slice_get reasons reason ≡ None) }
+    ensures long { result ≢ INVALID_ARGUMENT → length ledger.old ≡ PAIRS }
+    ensures unchanged { result ≢ OK → ledger.new ≡ ledger.old }
+    ensures refused_unchanged { result ≢ OK → refused.new ≡ refused.old }
+    ensures answers { (result ≡ OK) ⊎ ((result ≡ INVALID_ARGUMENT) ⊎
+        ((x : Refusal) × (result ≡ refusal_status x))) }
+{
+    if ledger.len() != PAIRS {
+        return INVALID_ARGUMENT;
+    }
+    let Some(reason) = reason_at(reason) else {
+        return INVALID_ARGUMENT;
+    };
+    match sums_of_envelope(alloc, bytes) {
+        Ok(sums) => {
+            *refused = 0;
+            add_losses(ledger, sums.as_slice(), reason, refused);
+            OK
+        }
+        Err(error) => status_of_envelope_error(&error),
+    }
 }

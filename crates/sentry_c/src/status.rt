@@ -1,6 +1,8 @@
 //! The statuses that exported functions return.
 
-ghost use Rattle.std.specs.Prelude.{◌≡◌, ◌≢◌, ◌⊎◌, ◌<◌, ◌≤◌, length};
+ghost use Rattle.std.specs.Prelude.{◌≡◌, ◌≢◌, ◌⊎◌, None, option_copied};
+ghost use Rattle.sentry_c.specs.Output.{IsTooLong, Puts};
+ghost use Rattle.sentry_c.specs.StatusTexts.{IsStatusText, crate_texts, own_texts, status_text, text_in};
 ghost use Rattle.sentry_c.specs.Statuses.{auth_status, dsn_status, refusal_status};
 ghost use Rattle.sentry_framing.specs.declared.error.EnvelopeError.{EnvelopeError as Refusal};
 
@@ -81,8 +83,11 @@ pub fn status_of_auth_error(error: &ParseAuthError) -> i32
     }
 }
 
-// Returns what a status means; `None` for a number that no status has.
-fn meaning(status: i32) -> Option<&'static str> {
+// Returns the text of a status of the library's own.
+#[tactic(auto, unfolding(crate::specs::StatusTexts::text_in))]
+fn own_text(status: i32) -> Option<&'static str>
+    ensures { option_copied result ≡ text_in own_texts status }
+{
     match status {
         0 => Some("success"),
         1 => Some("the text is longer than the room for it"),
@@ -92,23 +97,43 @@ fn meaning(status: i32) -> Option<&'static str> {
         5 => Some("invalid argument"),
         6 => Some("nothing left"),
         7 => Some("the ledger is full"),
-        10 => Some("unexpected end of the envelope"),
+        17 => Some("out of memory"),
+        _ => None,
+    }
+}
+
+// Returns the text of an error that the Rust crate has, as that crate prints it.
+#[tactic(auto, unfolding(crate::specs::StatusTexts::text_in))]
+fn crate_text(status: i32) -> Option<&'static str>
+    ensures { option_copied result ≡ text_in crate_texts status }
+{
+    match status {
+        10 => Some("unexpected end of file"),
         11 => Some("missing envelope header"),
         12 => Some("missing item header"),
-        13 => Some("missing line feed"),
+        13 => Some("missing newline after header or payload"),
         14 => Some("invalid envelope header"),
         15 => Some("invalid item header"),
         16 => Some("invalid item payload"),
-        17 => Some("out of memory"),
-        20 => Some("the DSN isn't a URL with a host"),
-        21 => Some("the DSN's scheme is neither http nor https"),
-        22 => Some("the DSN has no public key"),
-        23 => Some("the DSN has no project id"),
-        24 => Some("the DSN's project id is empty"),
-        30 => Some("the authentication isn't Sentry's"),
-        31 => Some("invalid protocol version"),
-        32 => Some("missing public key"),
+        20 => Some("no valid url provided"),
+        21 => Some("no valid scheme"),
+        22 => Some("username is empty"),
+        23 => Some("empty path"),
+        24 => Some("invalid project id"),
+        30 => Some("non sentry auth"),
+        31 => Some("invalid value for version"),
+        32 => Some("missing public key in auth header"),
         _ => None,
+    }
+}
+
+// Returns what a status means; `None` for a number that no status has.
+fn meaning(status: i32) -> Option<&'static str>
+    ensures { option_copied result ≡ status_text status }
+{
+    match own_text(status) {
+        Some(text) => Some(text),
+        None => crate_text(status),
     }
 }
 
@@ -121,8 +146,9 @@ fn meaning(status: i32) -> Option<&'static str> {
 /// - `INVALID_ARGUMENT` if no status has the number.
 #[unsafe(no_mangle)]
 pub extern "C" fn curdmesa_status_text(status: i32, out: &mut [u8], needed: &mut u64) -> i32
-    ensures fits { result ≡ OK → needed.new ≤ length out.old }
-    ensures no_room { result ≡ NO_ROOM → length out.old < needed.new }
+    ensures written { result ≡ OK → Puts (IsStatusText status) out.old out.new needed.new }
+    ensures no_room { result ≡ NO_ROOM → IsTooLong (IsStatusText status) out.old needed.new }
+    ensures argument { result ≡ INVALID_ARGUMENT → status_text status ≡ None }
     ensures unchanged { result ≢ OK → out.new ≡ out.old }
     ensures no_text { result ≢ OK → result ≢ NO_ROOM → needed.new ≡ 0 }
     ensures answers { (result ≡ OK) ⊎ ((result ≡ NO_ROOM) ⊎ (result ≡ INVALID_ARGUMENT)) }
