@@ -1,6 +1,6 @@
 -- What becomes of ends as limits are held one after another.
 use Rattle.std.proofs.Common.{◌≡◌, ℕ, ◌==◌, ◌||◌, max, Bool, true, false, cond, List, [], ◌∷◌, length, Option, Some, None, option_map, refl, sym, ap, ◌∙◌, subst, arith}
-use Rattle.std.specs.List.{AllZip, after_first, before_first, cons_option, filter_map, list_any}
+use Rattle.std.specs.List.{AllZip, after_first, before_first, cons_option, filter_map}
 use Rattle.std.specs.Str.{trim}
 use Rattle.std.proofs.lemmas.Iterator.{YieldsList}
 use Rattle.sentry_moments.specs.declared.moment.Moment.{Moment}

@@ -1,9 +1,4 @@
-use Rattle.std.proofs.Common.{◌≡◌, List, map, length, ℕ, true}
-use Rattle.sentry_framing.specs.Framing.{AreFrames, IsLineAndBody}
-use Rattle.sentry_forward.specs.AnyHeader.{any_reading, is_object_line}
-use Rattle.sentry_forward.specs.View.{AreNamed, any_frame}
-use Rattle.sentry_forward.specs.declared.frames.AnyFrame.{AnyFrame}
-use Rattle.sentry_limits.specs.Measured.{AreCounted}
+use Rattle.std.proofs.Common.{length}
 use Rattle.sentry_limits.proofs.Counting.{IsCounted}
 use Rattle.sentry_limits.proofs.sizes.measure.Given as goal
 
