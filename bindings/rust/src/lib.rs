@@ -33,7 +33,9 @@ mod error;
 mod frames;
 mod kinds;
 mod ledger;
+mod limits;
 mod losses;
+mod measure;
 mod moment;
 mod output;
 pub mod rfc3339;
@@ -47,7 +49,9 @@ pub use error::Error;
 pub use frames::{frames, Frame, Frames};
 pub use kinds::{Category, ItemKind, Reason};
 pub use ledger::Ledger;
+pub use limits::RateLimits;
 pub use losses::{losses, Loss, Losses};
+pub use measure::{measure, Measured};
 pub use moment::Moment;
 
 /// Returns the version of the library that is linked: major, minor and patch.

@@ -13,3 +13,4 @@ pub mod Envelopes
 pub mod Texts
 pub mod Sums
 pub mod Recording
+pub mod Limits
