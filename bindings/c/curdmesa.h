@@ -618,6 +618,80 @@ int32_t curdmesa_ledger_write(const uint64_t *ledger, size_t ledger_len, uint8_t
 int32_t curdmesa_ledger_read(const uint8_t *bytes, size_t bytes_len, uint64_t *ledger,
                              size_t ledger_len);
 
+/* ---- rate limits and measures ---------------------------------------------------------------- */
+
+/*
+ * Rate limits are an array of CURDMESA_LIMITS (13) seconds since 1970 in the caller's memory: when
+ * the limit of all categories ends, and then when that of each category does; 0 where there is none.
+ * All zero is no limits. Programs that keep it write it down as it is.
+ *
+ * https://develop.sentry.dev/sdk/expected-features/rate-limiting/
+ */
+#define CURDMESA_LIMITS 13
+
+/*
+ * Holds the limits that the value of an `X-Sentry-Rate-Limits` header states, which came at the
+ * moment `now`, beside those that are held: of two ends the later one counts. Doesn't allocate.
+ *
+ * Ends are whole seconds, rounded up, and at most that of the year 9999. A number of seconds that
+ * can't be read stands for 60, and an empty list of categories for all; categories that have no
+ * number here are ignored, and so is what follows the categories. With every status but CURDMESA_OK
+ * the limits are unchanged.
+ *
+ * CURDMESA_OK, CURDMESA_NOT_UTF8, CURDMESA_NO_MOMENT, CURDMESA_INVALID_ARGUMENT if `limits_len` isn't
+ * 13.
+ */
+int32_t curdmesa_limits_update(uint64_t *limits, size_t limits_len, const uint8_t *header,
+                               size_t header_len, uint64_t now_secs, uint32_t now_nanos);
+
+/*
+ * Holds a limit of all categories that the value of a `Retry-After` header states, beside those that
+ * are held: of an answer with status 429 that has no `X-Sentry-Rate-Limits`. Doesn't allocate.
+ *
+ * The value is a number of seconds or an HTTP date; any other, as the empty text for an absent
+ * header, stands for 60 seconds. With every status but CURDMESA_OK the limits are unchanged.
+ *
+ * CURDMESA_OK, CURDMESA_NOT_UTF8, CURDMESA_NO_MOMENT, CURDMESA_INVALID_ARGUMENT if `limits_len` isn't
+ * 13.
+ */
+int32_t curdmesa_limits_retry_after(uint64_t *limits, size_t limits_len, const uint8_t *text,
+                                    size_t text_len, uint64_t now_secs, uint32_t now_nanos);
+
+/*
+ * Sets `*end` to the second since 1970 in which the later of the limits of a category and of all
+ * categories ends, 0 if there is none: the category is limited while the clock shows less. Unchanged
+ * unless the status is CURDMESA_OK.
+ *
+ * CURDMESA_OK, CURDMESA_INVALID_ARGUMENT if `category` is 12 or more, or `limits_len` isn't 13.
+ */
+int32_t curdmesa_limits_category_end(const uint64_t *limits, size_t limits_len, uint32_t category,
+                                     uint64_t *end);
+
+/*
+ * Sets `*end` as curdmesa_limits_category_end does, for items of the type with this word, by the
+ * category that is lost with them. Logs and metrics are limited by two categories; a client report or
+ * an item of an unknown type has none, and is limited by the limit of all categories alone.
+ *
+ * CURDMESA_OK, CURDMESA_NOT_UTF8, CURDMESA_INVALID_ARGUMENT if `limits_len` isn't 13.
+ */
+int32_t curdmesa_limits_item_end(const uint64_t *limits, size_t limits_len, const uint8_t *word,
+                                 size_t word_len, uint64_t *end);
+
+/* Number of counts of a measure: one for each item type, and the last for unknown types. */
+#define CURDMESA_MEASURES 12
+
+/*
+ * Counts the items of an envelope into `items`, and the bytes of their payloads into `sizes`, by
+ * their types; `*longest` becomes the size of the longest payload, 0 if there is none. Only the
+ * header line and item headers are read. Unchanged unless the status is CURDMESA_OK.
+ *
+ * CURDMESA_OK, CURDMESA_INVALID_ARGUMENT if `items_len` or `sizes_len` isn't 12, or the statuses of
+ * curdmesa_any_frames_next for bytes that are refused, CURDMESA_OUT_OF_MEMORY.
+ */
+int32_t curdmesa_envelope_measure(const uint8_t *bytes, size_t bytes_len, uint64_t *items,
+                                  size_t items_len, uint64_t *sizes, size_t sizes_len,
+                                  uint64_t *longest);
+
 #ifdef __cplusplus
 }
 #endif

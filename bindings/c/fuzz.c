@@ -219,6 +219,52 @@ static void texts(const uint8_t *bytes, size_t len) {
     free(none);
 }
 
+/* Any bytes as rate limits: no end comes earlier, and all are held by a second time. */
+static void limits(const uint8_t *bytes, size_t len) {
+    uint64_t *held = (uint64_t *)(void *)block(CURDMESA_LIMITS * sizeof(uint64_t));
+    uint64_t before[CURDMESA_LIMITS], end = 0;
+    for (int i = 0; i < CURDMESA_LIMITS; i++)
+        before[i] = held[i] = 1595256640 + 60 * (uint64_t)i;
+    int32_t status = curdmesa_limits_update(held, CURDMESA_LIMITS, bytes, len, 1595256674, 5);
+    wanted(curdmesa_limits_retry_after(held, CURDMESA_LIMITS, bytes, len, 1595256674, 5) == status,
+           "both read UTF-8");
+    for (uint32_t i = 0; i < CURDMESA_CATEGORIES; i++) {
+        wanted(held[i + 1] >= before[i + 1] && held[0] >= before[0], "no earlier end");
+        wanted(curdmesa_limits_category_end(held, CURDMESA_LIMITS, i, &end) == CURDMESA_OK &&
+                   end >= held[0] && end >= held[i + 1],
+               "the later end");
+    }
+    memcpy(before, held, sizeof before);
+    curdmesa_limits_update(held, CURDMESA_LIMITS, bytes, len, 1595256674, 5);
+    curdmesa_limits_retry_after(held, CURDMESA_LIMITS, bytes, len, 1595256674, 5);
+    wanted(memcmp(before, held, sizeof before) == 0, "twice is once");
+    free(held);
+}
+
+/* A measure counts the frames of any type. */
+static void measures(const uint8_t *bytes, size_t len, int32_t status) {
+    uint64_t items[CURDMESA_MEASURES] = {0}, sizes[CURDMESA_MEASURES] = {0}, longest = 0;
+    uint64_t offset = 0, needed, due = 0;
+    CurdmesaAnyFrame frame = {0};
+    int32_t got = curdmesa_envelope_measure(bytes, len, items, CURDMESA_MEASURES, sizes,
+                                            CURDMESA_MEASURES, &longest);
+    wanted(got == (status == CURDMESA_NOTHING_LEFT ? CURDMESA_OK : status), "measured");
+    if (got != CURDMESA_OK)
+        return;
+    uint8_t *word = block(len);
+    while (curdmesa_any_frames_next(bytes, len, &offset, &frame, word, len, &needed) ==
+           CURDMESA_OK) {
+        uint32_t kind = frame.kind < CURDMESA_ITEMS ? frame.kind : CURDMESA_ITEMS;
+        items[kind]--;
+        sizes[kind] -= frame.payload_length;
+        due = frame.payload_length > due ? frame.payload_length : due;
+    }
+    for (int i = 0; i < CURDMESA_MEASURES; i++)
+        wanted(items[i] == 0 && sizes[i] == 0, "all items and bytes");
+    wanted(longest == due, "the longest payload");
+    free(word);
+}
+
 static void filters(const uint8_t *bytes, size_t len, uint32_t kinds, bool keep) {
     uint64_t needed = 0, *losses = (uint64_t *)(void *)block(CURDMESA_LOSSES * sizeof(uint64_t));
     uint8_t *out = block(len + 512);
@@ -243,6 +289,8 @@ int LLVMFuzzerTestOneInput(const uint8_t *data, size_t size) {
     int32_t framed = frames_stand(bytes, size), items = items_stand(bytes, size);
     records(bytes, size, items);
     texts(bytes, size);
+    limits(bytes, size);
+    measures(bytes, size, items);
     if (text) {
         is_steady(text, len);
         wanted(framed == CURDMESA_NOTHING_LEFT, "an envelope's frames");

@@ -2,7 +2,7 @@
 
 The library is proved to meet its contracts. The calls here are not: each hands its arguments to one
 function of curdmesa.h, and gives back what that returns. There is no state and no handle but a
-Ledger's sums, so calls may be made from several threads at once; they run without the interpreter's
+Ledger's sums and RateLimits' ends, so calls may be made from several threads at once; they run without the interpreter's
 lock.
 
 The shared object is libcurdmesa.so in this package's folder, as a wheel has it, or the file that the
@@ -20,6 +20,7 @@ from .errors import (
     NothingLeft, NotUtf8, OutOfMemory, Status, TextError, UnexpectedEof, error_of)
 from .forwarding import AnyFrame, Forwarded, any_frames, forward, losses
 from .ledger import Ledger
+from .limits import Measured, RateLimits, measure
 from .moments import Moment, rfc3339_format, rfc3339_parse
 from .texts import Auth, Dsn, crontab_check
 from .words import Category, ItemKind, Reason
@@ -31,8 +32,9 @@ __all__ = [
     "DsnInvalidUrl", "DsnNoProjectId", "DsnNoUsername", "EnvelopeError", "Error", "Filtered",
     "Forwarded", "Frame", "InvalidArgument", "InvalidHeader", "InvalidItemHeader",
     "InvalidItemPayload", "InvalidText", "ItemKind", "Ledger", "LedgerFull", "Loss",
-    "MissingHeader", "MissingItemHeader", "MissingNewline", "Moment", "NoMoment", "NoRoom",
-    "NotUtf8", "NothingLeft", "OutOfMemory", "Reason", "Status", "TextError", "UnexpectedEof",
-    "__version__", "any_frames", "check", "crontab_check", "error_of", "forward", "frames",
-    "losses", "normalize", "rfc3339_format", "rfc3339_parse",
+    "Measured", "MissingHeader", "MissingItemHeader", "MissingNewline", "Moment", "NoMoment",
+    "NoRoom", "NotUtf8", "NothingLeft", "OutOfMemory", "RateLimits", "Reason", "Status",
+    "TextError", "UnexpectedEof", "__version__", "any_frames", "check", "crontab_check",
+    "error_of", "forward", "frames", "losses", "measure", "normalize", "rfc3339_format",
+    "rfc3339_parse",
 ]

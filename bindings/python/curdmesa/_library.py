@@ -73,6 +73,8 @@ class AuthParts(ctypes.Structure):
 
 LOSSES = 120
 SUMS = 108
+LIMITS = 13
+MEASURES = 12
 
 U32, U64, SIZE, BOOL = ctypes.c_uint32, ctypes.c_uint64, ctypes.c_size_t, ctypes.c_bool
 U32S, U64S = ctypes.POINTER(U32), ctypes.POINTER(U64)
@@ -116,6 +118,11 @@ FUNCTIONS = {
     "curdmesa_ledger_flush_item": [U64S, SIZE, *MOMENT, *OUT],
     "curdmesa_ledger_write": [U64S, SIZE, *OUT],
     "curdmesa_ledger_read": [*BYTES, U64S, SIZE],
+    "curdmesa_limits_update": [U64S, SIZE, *BYTES, *MOMENT],
+    "curdmesa_limits_retry_after": [U64S, SIZE, *BYTES, *MOMENT],
+    "curdmesa_limits_category_end": [U64S, SIZE, U32, U64S],
+    "curdmesa_limits_item_end": [U64S, SIZE, *BYTES, U64S],
+    "curdmesa_envelope_measure": [*BYTES, U64S, SIZE, U64S, SIZE, U64S],
 }
 
 

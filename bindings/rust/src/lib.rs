@@ -34,7 +34,9 @@ mod error;
 mod frames;
 mod kinds;
 mod ledger;
+mod limits;
 mod losses;
+mod measure;
 mod moment;
 #[cfg(feature = "now")]
 mod now;
@@ -50,7 +52,9 @@ pub use error::Error;
 pub use frames::{frames, Frame, Frames};
 pub use kinds::{Category, ItemKind, Reason};
 pub use ledger::Ledger;
+pub use limits::RateLimits;
 pub use losses::{losses, Loss, Losses};
+pub use measure::{measure, Measured};
 pub use moment::Moment;
 #[cfg(feature = "now")]
 pub use now::{check_now, filter_now, normalize_now};

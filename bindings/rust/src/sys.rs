@@ -306,6 +306,49 @@ extern "C" {
         ledger: *mut u64,
         ledger_len: usize,
     ) -> i32;
+
+    pub fn curdmesa_limits_update(
+        limits: *mut u64,
+        limits_len: usize,
+        header: *const u8,
+        header_len: usize,
+        now_secs: u64,
+        now_nanos: u32,
+    ) -> i32;
+
+    pub fn curdmesa_limits_retry_after(
+        limits: *mut u64,
+        limits_len: usize,
+        text: *const u8,
+        text_len: usize,
+        now_secs: u64,
+        now_nanos: u32,
+    ) -> i32;
+
+    pub fn curdmesa_limits_category_end(
+        limits: *const u64,
+        limits_len: usize,
+        category: u32,
+        end: *mut u64,
+    ) -> i32;
+
+    pub fn curdmesa_limits_item_end(
+        limits: *const u64,
+        limits_len: usize,
+        word: *const u8,
+        word_len: usize,
+        end: *mut u64,
+    ) -> i32;
+
+    pub fn curdmesa_envelope_measure(
+        bytes: *const u8,
+        bytes_len: usize,
+        items: *mut u64,
+        items_len: usize,
+        sizes: *mut u64,
+        sizes_len: usize,
+        longest: *mut u64,
+    ) -> i32;
 }
 
 // The tests alone ask these: the crate has words of its own.

@@ -1,6 +1,7 @@
 pub mod Statuses
 pub mod Placed
 pub mod Rows
+pub mod LimitRows
 pub mod Parts
 pub mod Envelopes
 pub mod Filtering

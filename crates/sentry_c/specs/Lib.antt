@@ -15,3 +15,4 @@ pub mod Texts
 pub mod Sums
 pub mod Recording
 pub mod LedgerBytes
+pub mod Limits
