@@ -13,3 +13,6 @@ pub mod Envelopes
 pub mod Texts
 pub mod Sums
 pub mod Recording
+pub mod Misfits
+pub mod Explaining
+pub mod Mending

@@ -9,12 +9,15 @@
 mod answered;
 pub mod any_frames;
 pub mod envelope;
+pub mod explaining;
 mod filter;
 pub mod forwarding;
 pub mod frames;
 pub mod keys;
 pub mod ledger;
 pub mod losses;
+pub mod mending;
+pub mod misfit;
 mod output;
 pub mod recording;
 pub mod status;
