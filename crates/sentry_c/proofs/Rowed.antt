@@ -176,8 +176,8 @@ noted_row front most before on row old new room more grown told pushed noted =
     let same : take most before ≡ before = take_all most before (omega (arith, short)) in
     let all : take most (before ++ on ∷ []) ≡ before ++ on ∷ [] = take_all most (before ++ on ∷ []) (omega (arith, short, long)) in
     let first : AllZip (TellsNote new.texts.items) old.rows.items before =
-        subst (AllZip (TellsNote new.texts.items) old.rows.items) same
-        (zip_on (TellsNote old.texts.items) (TellsNote new.texts.items) old.rows.items (take most before) (λ r n. note_on old.texts.items new.texts.items r n grown) noted.rows) in
+    subst (AllZip (TellsNote new.texts.items) old.rows.items) same
+    (zip_on (TellsNote old.texts.items) (TellsNote new.texts.items) old.rows.items (take most before) (λ r n. note_on old.texts.items new.texts.items r n grown) noted.rows) in
     record {
       grown = grown_on front old.texts.items new.texts.items noted.grown grown;
       count_is = omega (arith, more, noted.count_is, long);
@@ -302,7 +302,7 @@ pub some_faults_at : (bytes : List ℕ) (m : Moment) (secs nanos : ℕ) (old : L
     → IsSomeFaultText bytes (moment secs nanos) (to_z w32 (of_z w32 x.error)) x.count old texts
 some_faults_at bytes m secs nanos old x texts s n is shown =
     let now : IsExplainedBy bytes (moment secs nanos) (length old) x =
-        subst (λ (k : ℕ). IsExplainedBy bytes (moment secs k) (length old) x) n (subst (λ (k : ℕ). IsExplainedBy bytes (moment k m.nanos) (length old) x) s shown)
+    subst (λ (k : ℕ). IsExplainedBy bytes (moment secs k) (length old) x) n (subst (λ (k : ℕ). IsExplainedBy bytes (moment k m.nanos) (length old) x) s shown)
     in
     subst (λ (e : ℤ). IsSomeFaultText bytes (moment secs nanos) e x.count old texts) (sym (answer_kept bytes (moment secs nanos) x.error now.faults now.answer))
     (subst (λ (t : List ℕ). IsSomeFaultText bytes (moment secs nanos) x.error x.count old t) (sym is) (some_fault_text bytes (moment secs nanos) old x now))

@@ -61,10 +61,7 @@ pub fn number_of_item(item: Option<usize>) -> u64
 }
 
 // Appends the texts of a cause.
-fn push_cause(
-    texts: &mut Vec<u8>,
-    fault: &Fault,
-) -> Result<(u32, CurdmesaMisfit), AllocError>
+fn push_cause(texts: &mut Vec<u8>, fault: &Fault) -> Result<(u32, CurdmesaMisfit), AllocError>
     ensures grown { IfOk result (λ x. IsGrown texts.old.items texts.new.items) }
     ensures tells { IfOk result (λ x. TellsCause texts.new.items x.0 x.1 fault.now.cause) }
 {

@@ -1,6 +1,4 @@
-use Rattle.std.proofs.Common.{List, refl, [], ◌∷◌, subst}
-use Rattle.std.specs.List.{AllZip}
-use Rattle.sentry_mending.specs.declared.fault.Fault.{Fault}
+use Rattle.std.proofs.Common.{refl, []}
 use Rattle.sentry_c.specs.Explaining.{TellsFault}
 use Rattle.sentry_c.proofs.Rowed.{all_rows, next_row, zip_none}
 use Rattle.sentry_c.proofs.explaining.rows_of.Goals as goal

@@ -1,4 +1,4 @@
-use Rattle.std.proofs.Common.{◌≡◌, ◌∙◌, List, length, ap, refl, sym, subst, to_z, of_z, w32}
+use Rattle.std.proofs.Common.{◌≡◌, ◌∙◌, List, length, ap, refl, subst, to_z, of_z, w32}
 use Rattle.sentry_moments.specs.Moments.{moment_cell}
 use Rattle.sentry_envelope.specs.EnvelopeView.{text_of}
 use Rattle.sentry_mending.specs.declared.mending.MendedItem.{MendedItem}

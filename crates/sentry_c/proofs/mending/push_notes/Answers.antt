@@ -1,4 +1,3 @@
-use Rattle.std.proofs.Common.{refl}
 use Rattle.sentry_c.proofs.Rowed.{no_notes_left, note_left}
 use Rattle.sentry_c.proofs.mending.push_notes.Goals as goal
 
