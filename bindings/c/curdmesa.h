@@ -60,8 +60,8 @@ uint32_t curdmesa_version(void);
 enum {
     /* Done; all results are set. */
     CURDMESA_OK = 0,
-    /* The text is longer than `out`, which is unchanged; `*needed` is set, and the losses of the
-     * calls that filter or forward. */
+    /* The text is longer than `out`, which is unchanged; `*needed` is set, the losses of the calls
+     * that filter or forward, and the numbers of those that explain or mend. */
     CURDMESA_NO_ROOM = 1,
     /* No such moment: past the year 9999, or 10^9 nanoseconds or more. */
     CURDMESA_NO_MOMENT = 2,
@@ -447,6 +447,149 @@ int32_t curdmesa_rfc3339_format(uint64_t secs, uint32_t nanos, uint8_t *out, siz
  * CURDMESA_OK, CURDMESA_NOT_UTF8, CURDMESA_INVALID_TEXT.
  */
 int32_t curdmesa_crontab_check(const uint8_t *text, size_t text_len);
+
+/* ---- faults and repairs -------------------------------------------------------------------- */
+
+/* The index of the header line in CurdmesaFault, which is no item. */
+#define CURDMESA_HEADER_LINE UINT64_MAX
+
+/* What a fault of CurdmesaFault is. */
+enum {
+    /* The framing is at fault, or no single place inside the item or the header line. */
+    CURDMESA_CAUSE_WHOLE = 0,
+    /* The text isn't JSON: `misfit.start` is the byte at which it breaks. */
+    CURDMESA_CAUSE_SYNTAX = 1,
+    /* A value inside doesn't fit. */
+    CURDMESA_CAUSE_PLACE = 2
+};
+
+/* What a repair of CurdmesaNote did. */
+enum {
+    /* A number of seconds became an RFC 3339 string, cut to nanoseconds. */
+    CURDMESA_REPAIR_AS_MOMENT = 0,
+    /* A value became a string of its own characters. */
+    CURDMESA_REPAIR_AS_TEXT = 1,
+    /* The type of an attribute became `string`, beside a value that became a string. */
+    CURDMESA_REPAIR_AS_STRING_TYPE = 2,
+    /* An empty array was put where a required array is absent or doesn't fit. */
+    CURDMESA_REPAIR_AS_EMPTY_LIST = 3,
+    /* A member or an item of an array was taken out. */
+    CURDMESA_REPAIR_TAKEN_OUT = 4,
+    /* The event id of the envelope header was put. */
+    CURDMESA_REPAIR_HEADER_ID = 5,
+    /* `length` in the item header became the size of the repaired payload. */
+    CURDMESA_REPAIR_LENGTH = 6,
+    /* An item that can't be repaired was left out of the envelope. */
+    CURDMESA_REPAIR_LEFT = 7
+};
+
+/* Which repairs curdmesa_envelope_mend may make. */
+enum {
+    /* None: items that don't read are left out. */
+    CURDMESA_REPAIRS_STRICT = 0,
+    /* Those that lose nothing but form: values become strings, an absent or null array becomes an
+     * empty one, null members are taken out. */
+    CURDMESA_REPAIRS_FORM = 1,
+    /* All: what still doesn't fit is taken out, the smallest such part. */
+    CURDMESA_REPAIRS_ALL = 2
+};
+
+/* A value that doesn't fit: its bytes in the envelope, and texts in `out` about it. */
+typedef struct CurdmesaMisfit {
+    /* The value's bytes, from `start` up to `end`. Of an absent value both are at the bracket that
+     * ends its object; of broken JSON both are the byte at which it breaks. */
+    uint64_t start;
+    uint64_t end;
+    /* Keys and indices that lead to the value, such as exception.values[0].type. */
+    CurdmesaPlace path;
+    /* What reads there, such as "an RFC 3339 string"; of broken JSON what is expected there. */
+    CurdmesaPlace wanted;
+    /* The JSON type of what stands there, such as "decimal", or "absent". */
+    CurdmesaPlace found;
+    /* The number or boolean that stands there, its first 40 characters. */
+    CurdmesaPlace value;
+} CurdmesaMisfit;
+
+/* A fault of an envelope: the check that fails, and where. */
+typedef struct CurdmesaFault {
+    /* Index of the item, or CURDMESA_HEADER_LINE. */
+    uint64_t item;
+    /* The bytes of the item, or of the header line, from `start` up to `end`. */
+    uint64_t start;
+    uint64_t end;
+    /* What doesn't fit; with CURDMESA_CAUSE_WHOLE all bytes from `start` up to `end`. */
+    CurdmesaMisfit misfit;
+    /* Item type; length 0 if it can't be read. */
+    CurdmesaPlace word;
+    /* The fault in a line. */
+    CurdmesaPlace message;
+    /* The first check of the item that fails, as if it stood alone: CURDMESA_UNEXPECTED_EOF to
+     * CURDMESA_INVALID_ITEM_PAYLOAD. */
+    int32_t error;
+    /* CURDMESA_CAUSE_WHOLE to CURDMESA_CAUSE_PLACE. */
+    uint32_t cause;
+} CurdmesaFault;
+
+/*
+ * Tells why curdmesa_envelope_check refuses an envelope: every fault in order, of the header line
+ * and then item by item, at most 1,000 of an item.
+ *
+ * `*error` becomes CURDMESA_OK if the bytes are an envelope, else the status of the first check
+ * that fails; `*count` the number of faults, 0 with CURDMESA_OK. The first `faults_len` of them are
+ * written to `faults`, and their texts to `out`. With CURDMESA_NO_ROOM `*error` and `*count` are
+ * set too, and `faults` is unchanged; with every other status all three are unchanged.
+ *
+ * CURDMESA_OK, CURDMESA_NO_ROOM, CURDMESA_NO_MOMENT, CURDMESA_OUT_OF_MEMORY.
+ */
+int32_t curdmesa_envelope_explain(const uint8_t *bytes, size_t bytes_len, uint64_t now_secs,
+                                  uint32_t now_nanos, CurdmesaFault *faults, size_t faults_len,
+                                  uint64_t *count, int32_t *error, uint8_t *out, size_t out_len,
+                                  uint64_t *needed);
+
+/* A change of an envelope: some bytes, and what stands there instead. */
+typedef struct CurdmesaNote {
+    /* Index of the item. */
+    uint64_t item;
+    /* The bytes that are replaced, from `start` up to `end`. */
+    uint64_t start;
+    uint64_t end;
+    /* The value that was repaired. */
+    CurdmesaMisfit misfit;
+    /* The bytes that stand there instead. */
+    CurdmesaPlace instead;
+    /* Item type; length 0 if it can't be read, or the item is read as it stands. */
+    CurdmesaPlace word;
+    /* The note in a line; with CURDMESA_REPAIR_LEFT the item's fault. */
+    CurdmesaPlace message;
+    /* The first check of the item that fails as it stands: CURDMESA_UNEXPECTED_EOF to
+     * CURDMESA_INVALID_ITEM_PAYLOAD, or CURDMESA_OK if only the header's id was put. */
+    int32_t error;
+    /* CURDMESA_REPAIR_AS_MOMENT to CURDMESA_REPAIR_LEFT. */
+    uint32_t repair;
+} CurdmesaNote;
+
+/*
+ * Parses an envelope item by item: where an item is refused, the least is changed that lets it
+ * read, and an item that can't be repaired is left out. `repairs` is CURDMESA_REPAIRS_STRICT to
+ * CURDMESA_REPAIRS_ALL; with `header_event_id` an event or a transaction without an id takes that
+ * of the envelope header. An item that needs more than 10,000 notes is left out.
+ *
+ * The normal form of the envelope is written to `out`, and has `*envelope_len` bytes; behind it
+ * stand the texts of the notes. `*count` becomes the number of notes; the first `notes_len` of them
+ * are written to `notes`, in the order of their bytes. `*error` becomes CURDMESA_OK if the bytes
+ * are an envelope as they stand, else the status of the first check that fails. With
+ * CURDMESA_NO_ROOM `*envelope_len`, `*count` and `*error` are set too, and `notes` is unchanged;
+ * with every other status all four are unchanged. `now` and `seed` are those of
+ * curdmesa_envelope_normalize.
+ *
+ * CURDMESA_OK, CURDMESA_NO_ROOM, CURDMESA_NO_MOMENT, CURDMESA_INVALID_ARGUMENT if `repairs` is 3 or
+ * more, CURDMESA_INVALID_HEADER if the header line is refused, CURDMESA_OUT_OF_MEMORY.
+ */
+int32_t curdmesa_envelope_mend(const uint8_t *bytes, size_t bytes_len, uint64_t now_secs,
+                               uint32_t now_nanos, uint64_t seed, uint32_t repairs,
+                               bool header_event_id, CurdmesaNote *notes, size_t notes_len,
+                               uint64_t *count, int32_t *error, uint64_t *envelope_len,
+                               uint8_t *out, size_t out_len, uint64_t *needed);
 
 /* ---- losses and the ledger ----------------------------------------------------------------- */
 

@@ -277,6 +277,59 @@ static void filters(const uint8_t *bytes, size_t len, uint32_t kinds, bool keep)
     free(losses);
 }
 
+/* Faults are told exactly where the check refuses, in the bytes. */
+static void explains(const uint8_t *bytes, size_t len, int32_t due) {
+    uint64_t count = 0, needed = 0, again = 0;
+    int32_t error = -1;
+    CurdmesaFault faults[4];
+    uint8_t *none = block(0);
+    int32_t status = curdmesa_envelope_explain(bytes, len, 1595256674, 0, faults, 4, &count, &error,
+                                               none, 0, &needed);
+    free(none);
+    wanted(status == (needed == 0 ? CURDMESA_OK : CURDMESA_NO_ROOM), "explained");
+    wanted(error == due && (count == 0) == (due == CURDMESA_OK), "a fault where it is refused");
+    uint8_t *out = block((size_t)needed);
+    status = curdmesa_envelope_explain(bytes, len, 1595256674, 0, faults, 4, &count, &error, out,
+                                       (size_t)needed, &again);
+    wanted(status == CURDMESA_OK && again == needed, "the same faults with room");
+    for (uint64_t i = 0; i < count && i < 4; i++) {
+        const CurdmesaFault *fault = &faults[i];
+        wanted(fault->start <= fault->end && fault->end <= len, "an item within");
+        wanted(fault->misfit.start <= fault->misfit.end && fault->misfit.end <= len, "within");
+        wanted(fault->message.length > 0 &&
+                   fault->message.offset + fault->message.length <= needed,
+               "a line");
+    }
+    free(out);
+}
+
+/* What mending writes is steady, and reads; the notes are in order. */
+static void mends(const uint8_t *bytes, size_t len, uint32_t repairs, int32_t due) {
+    uint64_t count = 0, needed = 0, envelope_len = 0, behind = 0;
+    int32_t error = -1;
+    CurdmesaNote notes[8];
+    uint8_t *none = block(0);
+    int32_t status = curdmesa_envelope_mend(bytes, len, 1595256674, 0, 42, repairs, len & 1, notes,
+                                            8, &count, &error, &envelope_len, none, 0, &needed);
+    free(none);
+    if (status == CURDMESA_INVALID_HEADER) {
+        wanted(due == CURDMESA_INVALID_HEADER, "a header line that is refused");
+        return;
+    }
+    wanted(status == CURDMESA_NO_ROOM && error == due, "mended");
+    uint8_t *out = block((size_t)needed);
+    status = curdmesa_envelope_mend(bytes, len, 1595256674, 0, 42, repairs, len & 1, notes, 8,
+                                    &count, &error, &envelope_len, out, (size_t)needed, &needed);
+    wanted(status == CURDMESA_OK && envelope_len <= needed, "the same with room");
+    is_steady(out, (size_t)envelope_len);
+    for (uint64_t i = 0; i < count && i < 8; i++) {
+        wanted(behind <= notes[i].start && notes[i].start <= notes[i].end, "in order");
+        behind = notes[i].end;
+    }
+    wanted(behind <= len, "within");
+    free(out);
+}
+
 int LLVMFuzzerTestOneInput(const uint8_t *data, size_t size) {
     uint8_t *bytes = block(size);
     if (size)
@@ -291,6 +344,8 @@ int LLVMFuzzerTestOneInput(const uint8_t *data, size_t size) {
     texts(bytes, size);
     limits(bytes, size);
     measures(bytes, size, items);
+    explains(bytes, size, status);
+    mends(bytes, size, (uint32_t)(size % 3), status);
     if (text) {
         is_steady(text, len);
         wanted(framed == CURDMESA_NOTHING_LEFT, "an envelope's frames");

@@ -1,7 +1,7 @@
 /*
- * Tests every exported function: envelopes, small texts and the ledger here, the rest in
- * test_items.c and test_limits.c. Each buffer is a heap block of exactly the length that is told, so that
- * AddressSanitizer sees a read or a write past its end.
+ * Tests every exported function: envelopes, small texts and the ledger here, faults and repairs in
+ * test_faults.c, the rest in test_items.c and test_limits.c. Each buffer is a heap block of exactly the length that
+ * is told, so that AddressSanitizer sees a read or a write past its end.
  */
 #include "test.h"
 
@@ -728,6 +728,7 @@ int main(void) {
     test_ledger();
     test_items();
     test_limits();
+    test_faults();
     if (failures == 0)
         puts("ok");
     else

@@ -48,3 +48,6 @@ void test_items(void);
 
 /* Rate limits, and the measure of an envelope. */
 void test_limits(void);
+
+/* Faults and repairs. */
+void test_faults(void);

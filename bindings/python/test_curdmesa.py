@@ -17,8 +17,8 @@ from pathlib import Path
 import curdmesa
 from curdmesa import _library
 from curdmesa import (
-    Auth, Category, Dsn, ItemKind, Ledger, Loss, Moment, Reason, Status, check, crontab_check,
-    filter, frames, normalize, rfc3339_format, rfc3339_parse,
+    Auth, Category, Dsn, ItemKind, Ledger, Loss, Moment, Reason, Repair, Repairs, Status, check,
+    crontab_check, filter, frames, normalize, rfc3339_format, rfc3339_parse,
 )
 
 BINDINGS = Path(__file__).resolve().parent.parent
@@ -636,6 +636,7 @@ class Header(unittest.TestCase):
         "const uint64_t *": ctypes.POINTER(ctypes.c_uint64),
         "uint64_t *": ctypes.POINTER(ctypes.c_uint64),
         "uint32_t *": ctypes.POINTER(ctypes.c_uint32),
+        "int32_t *": ctypes.POINTER(ctypes.c_int32),
         "uint64_t ": ctypes.c_uint64,
         "uint32_t ": ctypes.c_uint32,
         "size_t ": ctypes.c_size_t,
@@ -644,6 +645,9 @@ class Header(unittest.TestCase):
         "CurdmesaFrame *": ctypes.POINTER(_library.FrameParts),
         "int32_t ": ctypes.c_int32,
         "CurdmesaAnyFrame *": ctypes.POINTER(_library.AnyFrameParts),
+        "CurdmesaMisfit ": _library.MisfitParts,
+        "CurdmesaFault *": ctypes.POINTER(_library.FaultParts),
+        "CurdmesaNote *": ctypes.POINTER(_library.NoteParts),
         "CurdmesaDsn *": ctypes.POINTER(_library.DsnParts),
         "CurdmesaAuth *": ctypes.POINTER(_library.AuthParts),
     }
@@ -658,7 +662,7 @@ class Header(unittest.TestCase):
         due = {name: [self.declared(one)[1] for one in all_of_them.split(",")]
                for name, all_of_them in found}
         self.assertEqual(_library.FUNCTIONS, due)
-        self.assertEqual(len(due), 36)
+        self.assertEqual(len(due), 38)
 
     def test_manual_page(self):
         page = (BINDINGS / "c/curdmesa.3").read_text("utf-8")
@@ -674,7 +678,7 @@ class Header(unittest.TestCase):
             due = [self.declared(one) for one in fields.split(";") if one.strip()]
             struct = _library.Place if name == "Place" else getattr(_library, f"{name}Parts")
             self.assertEqual(struct._fields_, due)
-        self.assertEqual(len(found), 5)
+        self.assertEqual(len(found), 8)
 
     def test_numbers(self):
         enums = re.findall(r"^enum \{(.*?)\};", self.text, re.M | re.S)
@@ -682,10 +686,13 @@ class Header(unittest.TestCase):
         sums = {"LOSSES": "120", "LEDGER": "108", "LEDGER_BYTES": "882", "LIMITS": "13", "MEASURES": "12",
                 "VERSION": "2000"}
         self.assertEqual(dict(re.findall(r"#define CURDMESA_(\w+) (\d+)", self.text)), sums)
-        kinds = {"": Status, "ITEM_": ItemKind, "CATEGORY_": Category, "REASON_": Reason}
+        kinds = {
+            "": Status, "ITEM_": ItemKind, "CATEGORY_": Category, "REASON_": Reason,
+            "REPAIR_": Repair, "REPAIRS_": Repairs,
+        }
         due = {prefix + each.name: str(each.value) for prefix, kind in kinds.items()
                for each in kind}
-        due.update(ITEMS="11", CATEGORIES="12", REASONS="9", NO_REASON="-1")
+        due.update(CAUSE_WHOLE="0", CAUSE_SYNTAX="1", CAUSE_PLACE="2", ITEMS="11", CATEGORIES="12", REASONS="9", NO_REASON="-1")
         self.assertEqual(numbers, due)
 
 

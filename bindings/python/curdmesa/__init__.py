@@ -18,6 +18,7 @@ from .errors import (
     EnvelopeError, Error, InvalidArgument, InvalidHeader, InvalidItemHeader, InvalidItemPayload,
     InvalidText, LedgerFull, MissingHeader, MissingItemHeader, MissingNewline, NoMoment, NoRoom,
     NothingLeft, NotUtf8, OutOfMemory, Status, TextError, UnexpectedEof, error_of)
+from .faults import Fault, Mended, Misfit, Note, Repair, Repairs, explain, mend
 from .forwarding import AnyFrame, Forwarded, any_frames, forward, losses
 from .ledger import Ledger
 from .limits import Measured, RateLimits, measure
@@ -27,14 +28,16 @@ from .words import Category, ItemKind, Reason
 
 # All names but `filter`, which would hide Python's own where all are imported.
 __all__ = [
-    "AnyFrame", "Auth", "AuthError", "AuthInvalidVersion", "AuthMissingPublicKey",
-    "AuthNonSentry", "Category", "Dsn", "DsnError", "DsnInvalidProjectId", "DsnInvalidScheme",
-    "DsnInvalidUrl", "DsnNoProjectId", "DsnNoUsername", "EnvelopeError", "Error", "Filtered",
-    "Forwarded", "Frame", "InvalidArgument", "InvalidHeader", "InvalidItemHeader",
-    "InvalidItemPayload", "InvalidText", "ItemKind", "Ledger", "LedgerFull", "Loss",
-    "Measured", "MissingHeader", "MissingItemHeader", "MissingNewline", "Moment", "NoMoment",
-    "NoRoom", "NotUtf8", "NothingLeft", "OutOfMemory", "RateLimits", "Reason", "Status",
-    "TextError", "UnexpectedEof", "__version__", "any_frames", "check", "crontab_check",
-    "error_of", "forward", "frames", "losses", "measure", "normalize", "rfc3339_format",
+    "AnyFrame", "Auth", "AuthError", "AuthInvalidVersion", "AuthMissingPublicKey", "AuthNonSentry",
+    "Category", "Dsn", "DsnError", "DsnInvalidProjectId", "DsnInvalidScheme", "DsnInvalidUrl",
+    "DsnNoProjectId", "DsnNoUsername", "EnvelopeError", "Error", "Fault", "Filtered", "Forwarded",
+    "Frame", "InvalidArgument", "InvalidHeader", "InvalidItemHeader", "InvalidItemPayload",
+    "InvalidText", "ItemKind", "Ledger", "LedgerFull", "Loss", "Measured", "MissingHeader", "Misfit", "MissingHeader",
+    "MissingItemHeader", "MissingNewline", "Moment", "NoMoment",
+    "NoRoom", "NotUtf8", "Note",
+    "NothingLeft", "OutOfMemory", "RateLimits", "Reason", "Repair",
+    "Repairs", "Status", "TextError", "UnexpectedEof", "__version__", "any_frames", "check", "crontab_check",
+    "error_of", "explain",
+    "forward", "frames", "losses", "measure", "mend", "normalize", "rfc3339_format",
     "rfc3339_parse",
 ]

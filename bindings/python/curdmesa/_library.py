@@ -71,13 +71,52 @@ class AuthParts(ctypes.Structure):
     ]
 
 
+class MisfitParts(ctypes.Structure):
+    _fields_ = [
+        ("start", ctypes.c_uint64),
+        ("end", ctypes.c_uint64),
+        ("path", Place),
+        ("wanted", Place),
+        ("found", Place),
+        ("value", Place),
+    ]
+
+
+class FaultParts(ctypes.Structure):
+    _fields_ = [
+        ("item", ctypes.c_uint64),
+        ("start", ctypes.c_uint64),
+        ("end", ctypes.c_uint64),
+        ("misfit", MisfitParts),
+        ("word", Place),
+        ("message", Place),
+        ("error", ctypes.c_int32),
+        ("cause", ctypes.c_uint32),
+    ]
+
+
+class NoteParts(ctypes.Structure):
+    _fields_ = [
+        ("item", ctypes.c_uint64),
+        ("start", ctypes.c_uint64),
+        ("end", ctypes.c_uint64),
+        ("misfit", MisfitParts),
+        ("instead", Place),
+        ("word", Place),
+        ("message", Place),
+        ("error", ctypes.c_int32),
+        ("repair", ctypes.c_uint32),
+    ]
+
+
 LOSSES = 120
 SUMS = 108
 LIMITS = 13
 MEASURES = 12
 
 U32, U64, SIZE, BOOL = ctypes.c_uint32, ctypes.c_uint64, ctypes.c_size_t, ctypes.c_bool
-U32S, U64S = ctypes.POINTER(U32), ctypes.POINTER(U64)
+I32 = ctypes.c_int32
+U32S, U64S, I32S = ctypes.POINTER(U32), ctypes.POINTER(U64), ctypes.POINTER(I32)
 # Bytes that are read, and bytes that are written with the length of the text that was due.
 BYTES = [ctypes.c_char_p, SIZE]
 OUT = [ctypes.POINTER(ctypes.c_char), SIZE, U64S]
@@ -98,6 +137,12 @@ FUNCTIONS = {
     "curdmesa_envelope_forward": [*BYTES, *BYTES, BOOL, *OUT, U64S, SIZE],
     "curdmesa_envelope_losses": [*BYTES, U64S, SIZE],
     "curdmesa_frame_losses": [*BYTES, *BYTES, U64S, SIZE],
+    "curdmesa_envelope_explain": [
+        *BYTES, *MOMENT, ctypes.POINTER(FaultParts), SIZE, U64S, I32S, *OUT,
+    ],
+    "curdmesa_envelope_mend": [
+        *BYTES, *MOMENT, U64, U32, BOOL, ctypes.POINTER(NoteParts), SIZE, U64S, I32S, U64S, *OUT,
+    ],
     "curdmesa_dsn_parse": [*BYTES, *OUT, ctypes.POINTER(DsnParts)],
     "curdmesa_dsn_envelope_url": [*BYTES, *OUT],
     "curdmesa_dsn_auth": [*BYTES, *MOMENT, *BYTES, *OUT],
@@ -153,14 +198,19 @@ library = _load()
 
 
 @functools.lru_cache(maxsize=None)
-def _buffer_type(length: int) -> type:
-    return ctypes.c_char * length
+def _buffer_type(element: type, length: int) -> type:
+    return element * length
+
+
+def row_buffer(element: type, room: int) -> ctypes.Array:
+    """Returns an array of at least `room` elements. Its length is a power of two: ctypes makes a
+    type for each length of an array, which takes longer than most calls, and keeps it."""
+    return _buffer_type(element, 1 << (room - 1).bit_length())()
 
 
 def text_buffer(room: int) -> ctypes.Array:
-    """Returns a buffer of at least `room` bytes. Its length is a power of two: ctypes makes a type
-    for each length of an array, which takes longer than most calls, and keeps it."""
-    return _buffer_type(max(256, 1 << (room - 1).bit_length()))()
+    """Returns a buffer of at least `room` bytes, and of 256."""
+    return row_buffer(ctypes.c_char, max(256, room))
 
 
 def written(room: int, call: Callable[..., int]) -> bytes:

@@ -8,17 +8,17 @@ from typing import Iterable, Iterator, List, Optional, Tuple
 
 from ._library import LOSSES, U64, Data, FrameParts, data_bytes, library, whole, written
 from ._losses import Loss, losses_of, no_sums
-from .errors import NothingLeft, Status, done
+from .errors import EnvelopeError, NothingLeft, Status, done
 from .moments import Moment, When
 from .words import ItemKind, member
 
 
-def _room(data: bytes) -> int:
+def room_of(data: bytes) -> int:
     # The envelope's own length, and room for the defaults and lengths that small items get.
     return len(data) + min(max(2 * len(data), 256), 16384)
 
 
-def _drawn_from(now: Optional[When], seed: Optional[int]) -> Tuple[int, int, int]:
+def drawn_by(now: Optional[When], seed: Optional[int]) -> Tuple[int, int, int]:
     """Returns the moment in seconds and nanoseconds, and the seed."""
     seed = secrets.randbits(64) if seed is None else whole(seed)
     return (*Moment.of_or_now(now), seed)
@@ -38,18 +38,26 @@ def normalize(data: Data, now: Optional[When] = None, seed: Optional[int] = None
     {"length":3,"type":"replay_recording"}
     abc
     """
-    data, drawn_from = data_bytes(data), _drawn_from(now, seed)
-    return written(
-        _room(data),
-        lambda *out: library.curdmesa_envelope_normalize(data, len(data), *drawn_from, *out),
-    )
+    data, drawn_from = data_bytes(data), drawn_by(now, seed)
+    try:
+        return written(
+            room_of(data),
+            lambda *out: library.curdmesa_envelope_normalize(data, len(data), *drawn_from, *out),
+        )
+    except EnvelopeError as error:
+        error._refused = data, drawn_from[:2]
+        raise
 
 
 def check(data: Data, now: Optional[When] = None) -> None:
     """Parses an envelope, and returns nothing of it. The arguments and errors are those of
     normalize."""
-    data = data_bytes(data)
-    done(library.curdmesa_envelope_check(data, len(data), *Moment.of_or_now(now)))
+    data, moment = data_bytes(data), Moment.of_or_now(now)
+    try:
+        done(library.curdmesa_envelope_check(data, len(data), *moment))
+    except EnvelopeError as error:
+        error._refused = data, moment
+        raise
 
 
 @dataclass(frozen=True)
@@ -81,18 +89,21 @@ def filter(
     normalize; ValueError also for a number that is no ItemKind, TypeError for a member of another
     enumeration.
     """
-    data, drawn_from = data_bytes(data), _drawn_from(now, seed)
+    data, drawn_from = data_bytes(data), drawn_by(now, seed)
     bits = sum(1 << kind for kind in {member(ItemKind, kind) for kind in kinds})
     sums = no_sums()
     try:
         left = written(
-            _room(data),
+            room_of(data),
             lambda *out: library.curdmesa_envelope_filter(
                 data, len(data), *drawn_from, bits, keep, keep_headers, *out, sums, LOSSES
             ),
         )
     except NothingLeft:
         left = None
+    except EnvelopeError as error:
+        error._refused = data, drawn_from[:2]
+        raise
     return Filtered(left, losses_of(sums))
 
 

@@ -3,7 +3,10 @@
 from __future__ import annotations
 
 import enum
-from typing import Iterator, Optional
+from typing import TYPE_CHECKING, Iterator, List, Optional, Tuple
+
+if TYPE_CHECKING:
+    from .faults import Fault
 
 
 class Status(enum.IntEnum):
@@ -56,7 +59,52 @@ class Error(Exception):
 
 
 class EnvelopeError(Error):
-    """The bytes are no envelope; the subclass names the first check that fails."""
+    """The bytes are no envelope; the subclass names the first check that fails.
+
+    What check, normalize and filter raise says where and why as well: `item`, `offset`, `path` and
+    `why` are those of the first of its `faults`, and it prints as that fault's line. The faults are
+    looked for when one of these is first asked for, in the bytes of the envelope, which the
+    exception keeps.
+    """
+
+    _refused: Optional[Tuple[bytes, Tuple[int, int]]] = None
+    _faults: Optional[List[Fault]] = None
+
+    @property
+    def faults(self) -> List[Fault]:
+        """The faults of the envelope, as explain tells them; none if another call raised this."""
+        if self._faults is None:
+            from .faults import explain
+
+            self._faults = explain(*self._refused) if self._refused else []
+        return self._faults
+
+    @property
+    def item(self) -> Optional[int]:
+        """Index of the item at fault; None for the header line, or if nothing is known."""
+        return self.faults[0].item if self.faults else None
+
+    @property
+    def offset(self) -> Optional[int]:
+        """Offset of what doesn't fit, in the bytes of the envelope; None if nothing is known."""
+        return self.faults[0].offset if self.faults else None
+
+    @property
+    def path(self) -> Optional[str]:
+        """Keys and indices that lead to what doesn't fit, such as "exception.values[0].type"; None
+        if no single value is at fault."""
+        return self.faults[0].path if self.faults else None
+
+    @property
+    def why(self) -> Optional[str]:
+        """What is wanted, and what is found; None if no single value is at fault."""
+        return self.faults[0].why if self.faults else None
+
+    def __str__(self) -> str:
+        try:
+            return str(self.faults[0]) if self.faults else super().__str__()
+        except MemoryError:
+            return super().__str__()
 
 
 class TextError(Error):

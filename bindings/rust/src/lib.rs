@@ -31,6 +31,7 @@ pub mod crontab;
 mod dsn;
 mod envelope;
 mod error;
+mod faults;
 mod frames;
 mod kinds;
 mod ledger;
@@ -49,6 +50,9 @@ pub use auth::Auth;
 pub use dsn::Dsn;
 pub use envelope::{check, filter, normalize, normalize_into, Filtered, Kinds};
 pub use error::Error;
+pub use faults::{
+    explain, mend, Cause, Fault, MendRules, Mended, Misfit, Note, Refusal, Repair, Repairs,
+};
 pub use frames::{frames, Frame, Frames};
 pub use kinds::{Category, ItemKind, Reason};
 pub use ledger::Ledger;

@@ -3,12 +3,12 @@
 use crate::error::{done, Error};
 use std::ops::Range;
 
-/// Lengthens a buffer to `room` bytes with zeros, if it is shorter.
-pub fn lengthen(out: &mut Vec<u8>, room: usize) -> Result<(), Error> {
+/// Lengthens a buffer to `room` elements with zeros, if it is shorter.
+pub fn lengthen<T: Clone + Default>(out: &mut Vec<T>, room: usize) -> Result<(), Error> {
     if let Some(more) = room.checked_sub(out.len()) {
         out.try_reserve_exact(more)
             .map_err(|_| Error::OutOfMemory)?;
-        out.resize(room, 0);
+        out.resize(room, T::default());
     }
     Ok(())
 }

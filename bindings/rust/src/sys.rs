@@ -67,6 +67,47 @@ pub struct CurdmesaAuth {
     pub has_timestamp: u32,
 }
 
+/// A value that doesn't fit.
+#[derive(Clone, Copy, Default)]
+#[repr(C)]
+pub struct CurdmesaMisfit {
+    pub start: u64,
+    pub end: u64,
+    pub path: CurdmesaPlace,
+    pub wanted: CurdmesaPlace,
+    pub found: CurdmesaPlace,
+    pub value: CurdmesaPlace,
+}
+
+/// A fault of an envelope.
+#[derive(Clone, Copy, Default)]
+#[repr(C)]
+pub struct CurdmesaFault {
+    pub item: u64,
+    pub start: u64,
+    pub end: u64,
+    pub misfit: CurdmesaMisfit,
+    pub word: CurdmesaPlace,
+    pub message: CurdmesaPlace,
+    pub error: i32,
+    pub cause: u32,
+}
+
+/// A change of an envelope.
+#[derive(Clone, Copy, Default)]
+#[repr(C)]
+pub struct CurdmesaNote {
+    pub item: u64,
+    pub start: u64,
+    pub end: u64,
+    pub misfit: CurdmesaMisfit,
+    pub instead: CurdmesaPlace,
+    pub word: CurdmesaPlace,
+    pub message: CurdmesaPlace,
+    pub error: i32,
+    pub repair: u32,
+}
+
 /// A function that reads client authentication.
 pub type AuthCall = unsafe extern "C" fn(
     text: *const u8,
@@ -172,6 +213,38 @@ extern "C" {
         payload_len: usize,
         losses: *mut u64,
         losses_len: usize,
+    ) -> i32;
+
+    pub fn curdmesa_envelope_explain(
+        bytes: *const u8,
+        bytes_len: usize,
+        now_secs: u64,
+        now_nanos: u32,
+        faults: *mut CurdmesaFault,
+        faults_len: usize,
+        count: *mut u64,
+        error: *mut i32,
+        out: *mut u8,
+        out_len: usize,
+        needed: *mut u64,
+    ) -> i32;
+
+    pub fn curdmesa_envelope_mend(
+        bytes: *const u8,
+        bytes_len: usize,
+        now_secs: u64,
+        now_nanos: u32,
+        seed: u64,
+        repairs: u32,
+        header_event_id: bool,
+        notes: *mut CurdmesaNote,
+        notes_len: usize,
+        count: *mut u64,
+        error: *mut i32,
+        envelope_len: *mut u64,
+        out: *mut u8,
+        out_len: usize,
+        needed: *mut u64,
     ) -> i32;
 
     pub fn curdmesa_dsn_parse(

@@ -1,7 +1,7 @@
 //! The declarations of this crate are those of the header: each function, each struct, each status
 //! and the order of each enumeration.
 
-use curdmesa::{Category, Error, ItemKind, Reason};
+use curdmesa::{Category, Error, ItemKind, Reason, Repair};
 
 const HEADER: &str = include_str!("../../c/curdmesa.h");
 const SYS: &str = include_str!("../src/sys.rs");
@@ -107,7 +107,7 @@ fn functions_are_declared_as_in_the_header() {
     due.sort();
     found.sort();
     assert_eq!(found, due);
-    assert_eq!(found.len(), 36);
+    assert_eq!(found.len(), 38);
 }
 
 #[test]
@@ -124,7 +124,7 @@ fn structs_are_declared_as_in_the_header() {
     due.sort();
     found.sort();
     assert_eq!(found, due);
-    assert_eq!(found.len(), 5);
+    assert_eq!(found.len(), 8);
 }
 
 /// The constants of the header's enumerations with a prefix, by their number.
@@ -150,6 +150,7 @@ fn words_are_numbered_as_in_the_header() {
     assert_eq!(names(ItemKind::ALL), constants("CURDMESA_ITEM_"));
     assert_eq!(names(Category::ALL), constants("CURDMESA_CATEGORY_"));
     assert_eq!(names(Reason::ALL), constants("CURDMESA_REASON_"));
+    assert_eq!(names(Repair::ALL), constants("CURDMESA_REPAIR_"));
 }
 
 #[test]

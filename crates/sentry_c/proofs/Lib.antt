@@ -11,3 +11,4 @@ pub mod Refusals
 pub mod Dropping
 pub mod Rooms
 pub mod StoredSums
+pub mod Rowed

@@ -16,3 +16,6 @@ pub mod Sums
 pub mod Recording
 pub mod LedgerBytes
 pub mod Limits
+pub mod Misfits
+pub mod Explaining
+pub mod Mending

@@ -1,5 +1,6 @@
 -- Texts in the caller's room.
-use Rattle.std.specs.Prelude.{◌≡◌, ◌<◌, ◌≤◌, ◌++◌, ℕ, List, length, drop}
+use Rattle.std.specs.Prelude.{◌≡◌, ◌<◌, ◌≤◌, ◌++◌, ℕ, List, length, drop, take}
+use Rattle.std.specs.List.{AllZip}
 
 -- a text of which P holds stands at the front of the room, whose rest is as it was, and its length
 -- is told
@@ -16,3 +17,10 @@ pub record IsTooLong (P : List ℕ → Type 0) (old : List ℕ) (told : ℕ) : T
   pub meant : P text
   pub longer : length old < length text
   pub length_told : told ≡ length text
+
+-- Rows stand at the front of a table, whose rest is as it was, and say one by one what R asks of
+-- the first of these, as many as there is room for.
+pub record PutsRows {A B : Type 0} (R : A → B → Type 0) (all : List B) (old new : List A) : Type 0 where
+  pub rows : List A
+  pub each : AllZip R rows (take (length old) all)
+  pub put : new ≡ rows ++ drop (length rows) old

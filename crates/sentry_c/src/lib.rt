@@ -9,6 +9,7 @@
 mod answered;
 pub mod any_frames;
 pub mod envelope;
+pub mod explaining;
 mod filter;
 pub mod forwarding;
 pub mod frames;
@@ -18,6 +19,8 @@ pub mod ledger;
 pub mod limits;
 pub mod losses;
 pub mod measuring;
+pub mod mending;
+pub mod misfit;
 mod output;
 pub mod recording;
 pub mod status;
