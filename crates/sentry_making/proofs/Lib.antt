@@ -1,0 +1,4 @@
+pub mod Behind
+pub mod Framed
+pub mod Inserted
+pub mod Stated
