@@ -6,11 +6,11 @@ use Rattle.std.proofs.lemmas.List.{drop_all, drop_more}
 use Rattle.sentry_framing.specs.View.{frame_of}
 use Rattle.sentry_framing.specs.declared.frames.ItemFrame.{ItemFrame}
 use Rattle.sentry_json.specs.Line.{newline, HasNoNewline}
-use Rattle.sentry_framing.specs.Framing.{AreFrames, EndsLine, Frame, IsFirstFrame, IsFramed, IsLineAndBody, Opens, Reading, is_space, with_line}
+use Rattle.sentry_framing.specs.Framing.{AreFrames, Frame, IsFirstFrame, IsFramed, IsLineAndBody, Reading, is_space, with_line}
 use Rattle.sentry_framing.proofs.Verdicts.{frame_shorter}
-use Rattle.sentry_forward.specs.AnyHeader.{any_header, any_reading}
+use Rattle.sentry_forward.specs.AnyHeader.{any_reading}
 use Rattle.sentry_forward.proofs.Readings.{reads}
-use Rattle.sentry_making.specs.Making.{GoesOn, IsEnvelopeOf, IsHeaderLine, IsItem, envelope_text, item_text, items_text, made, made_header}
+use Rattle.sentry_making.specs.Making.{IsEnvelopeOf, IsHeaderLine, IsItem, envelope_text, item_text, items_text, made, made_header}
 use Rattle.sentry_making.proofs.Stated.{header_balanced, header_says}
 
 -- ---- items

@@ -4,5 +4,7 @@
 mod header;
 pub mod laws;
 pub mod making;
+pub mod texts;
 
 pub use making::{append_item, make_envelope};
+pub use texts::{TextMember, event_payload, json_text};

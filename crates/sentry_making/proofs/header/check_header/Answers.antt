@@ -1,4 +1,4 @@
-use Rattle.std.proofs.Common.{rules, ◌∙◌, ap, arith, refl, sym}
+use Rattle.std.proofs.Common.{refl, sym}
 use Rattle.sentry_framing.specs.View.{frame_of}
 use Rattle.sentry_forward.specs.HeaderView.{any_view}
 use Rattle.sentry_making.proofs.Stated.{longer_than, no_item, other_length, stating}

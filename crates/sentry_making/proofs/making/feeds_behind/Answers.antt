@@ -1,4 +1,3 @@
-use Rattle.std.proofs.Common.{arith}
 use Rattle.sentry_forward.specs.View.{any_frame}
 use Rattle.sentry_making.proofs.Behind.{no_feeds, none, one, one_feed, two, two_feeds, within}
 use Rattle.sentry_making.proofs.making.feeds_behind.Goals as goal

@@ -1,7 +1,6 @@
 use Rattle.std.proofs.Common.{◌≡◌, ◌++◌, drop, map}
-use Rattle.std.specs.List.{All}
 use Rattle.sentry_framing.specs.View.{frame_of}
-use Rattle.sentry_making.specs.Making.{IsItem, envelope_text, items_text}
+use Rattle.sentry_making.specs.Making.{envelope_text, items_text}
 use Rattle.sentry_making.proofs.Framed.{IsAlike}
 use Rattle.sentry_making.proofs.making.make_envelope.Given as goal
 
