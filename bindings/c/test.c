@@ -1,6 +1,6 @@
 /*
  * Tests every exported function: envelopes, small texts and the ledger here, the rest in
- * test_items.c. Each buffer is a heap block of exactly the length that is told, so that
+ * test_items.c and test_making.c. Each buffer is a heap block of exactly the length that is told, so that
  * AddressSanitizer sees a read or a write past its end.
  */
 #include "test.h"
@@ -727,6 +727,7 @@ int main(void) {
     test_crontabs();
     test_ledger();
     test_items();
+    test_making();
     if (failures == 0)
         puts("ok");
     else

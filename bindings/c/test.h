@@ -45,3 +45,6 @@ int32_t run_text(Call *call, const char *text, uint8_t *out, size_t room, uint64
 
 /* Items of any type, losses, words, and what is made of a DSN. */
 void test_items(void);
+
+/* What makes envelopes, items and events. */
+void test_making(void);

@@ -651,6 +651,7 @@ class Header(unittest.TestCase):
         "CurdmesaAnyFrame *": ctypes.POINTER(_library.AnyFrameParts),
         "CurdmesaDsn *": ctypes.POINTER(_library.DsnParts),
         "CurdmesaAuth *": ctypes.POINTER(_library.AuthParts),
+        "const CurdmesaPair *": ctypes.POINTER(_library.PairParts),
     }
 
     def declared(self, text):
@@ -663,7 +664,7 @@ class Header(unittest.TestCase):
         due = {name: [self.declared(one)[1] for one in all_of_them.split(",")]
                for name, all_of_them in found}
         self.assertEqual(_library.FUNCTIONS, due)
-        self.assertEqual(len(due), 27)
+        self.assertEqual(len(due), 31)
 
     def test_manual_page(self):
         page = (BINDINGS / "c/curdmesa.3").read_text("utf-8")
@@ -679,7 +680,7 @@ class Header(unittest.TestCase):
             due = [self.declared(one) for one in fields.split(";") if one.strip()]
             struct = _library.Place if name == "Place" else getattr(_library, f"{name}Parts")
             self.assertEqual(struct._fields_, due)
-        self.assertEqual(len(found), 5)
+        self.assertEqual(len(found), 6)
 
     def test_numbers(self):
         enums = re.findall(r"^enum \{(.*?)\};", self.text, re.M | re.S)

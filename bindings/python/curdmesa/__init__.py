@@ -20,6 +20,7 @@ from .errors import (
     NothingLeft, NotUtf8, OutOfMemory, Status, TextError, UnexpectedEof, error_of)
 from .forwarding import AnyFrame, Forwarded, any_frames, forward, losses
 from .ledger import Ledger
+from .making import append_item, make_envelope, make_event
 from .moments import Moment, rfc3339_format, rfc3339_parse
 from .texts import Auth, Dsn, crontab_check
 from .words import Category, ItemKind, Reason
@@ -33,6 +34,7 @@ __all__ = [
     "InvalidItemPayload", "InvalidText", "ItemKind", "Ledger", "LedgerFull", "Loss",
     "MissingHeader", "MissingItemHeader", "MissingNewline", "Moment", "NoMoment", "NoRoom",
     "NotUtf8", "NothingLeft", "OutOfMemory", "Reason", "Status", "TextError", "UnexpectedEof",
-    "__version__", "any_frames", "check", "crontab_check", "error_of", "forward", "frames",
-    "losses", "normalize", "rfc3339_format", "rfc3339_parse",
+    "__version__", "any_frames", "append_item", "check", "crontab_check", "error_of", "forward",
+    "frames", "losses", "make_envelope", "make_event", "normalize", "rfc3339_format",
+    "rfc3339_parse",
 ]

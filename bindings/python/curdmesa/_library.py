@@ -71,6 +71,10 @@ class AuthParts(ctypes.Structure):
     ]
 
 
+class PairParts(ctypes.Structure):
+    _fields_ = [("first", ctypes.c_uint64), ("second", ctypes.c_uint64)]
+
+
 LOSSES = 120
 SUMS = 108
 
@@ -80,6 +84,7 @@ U32S, U64S = ctypes.POINTER(U32), ctypes.POINTER(U64)
 BYTES = [ctypes.c_char_p, SIZE]
 OUT = [ctypes.POINTER(ctypes.c_char), SIZE, U64S]
 MOMENT = [U64, U32]
+PAIRS = [ctypes.POINTER(PairParts), SIZE]
 
 #: The functions of curdmesa.h, all of which return a status, with the types of their parameters.
 FUNCTIONS = {
@@ -96,6 +101,12 @@ FUNCTIONS = {
     "curdmesa_envelope_forward": [*BYTES, *BYTES, BOOL, *OUT, U64S, SIZE],
     "curdmesa_envelope_losses": [*BYTES, U64S, SIZE],
     "curdmesa_frame_losses": [*BYTES, *BYTES, U64S, SIZE],
+    "curdmesa_envelope_make": [*BYTES, *BYTES, *PAIRS, *OUT],
+    "curdmesa_envelope_append": [*BYTES, *BYTES, *BYTES, *OUT],
+    "curdmesa_event_make": [
+        *BYTES, *BYTES, *BYTES, *BYTES, *BYTES, *PAIRS, *MOMENT, U64, *OUT,
+    ],
+    "curdmesa_json_text": [*BYTES, *OUT],
     "curdmesa_dsn_parse": [*BYTES, *OUT, ctypes.POINTER(DsnParts)],
     "curdmesa_dsn_envelope_url": [*BYTES, *OUT],
     "curdmesa_dsn_auth": [*BYTES, *MOMENT, *BYTES, *OUT],

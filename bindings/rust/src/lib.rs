@@ -34,6 +34,7 @@ mod frames;
 mod kinds;
 mod ledger;
 mod losses;
+mod making;
 mod moment;
 mod output;
 pub mod rfc3339;
@@ -48,6 +49,7 @@ pub use frames::{frames, Frame, Frames};
 pub use kinds::{Category, ItemKind, Reason};
 pub use ledger::Ledger;
 pub use losses::{losses, Loss, Losses};
+pub use making::{append_item, json_text, make_envelope, NewEvent};
 pub use moment::Moment;
 
 /// Returns the version of the library that is linked: major, minor and patch.

@@ -8,3 +8,4 @@ pub mod Items
 pub mod Asking
 pub mod Refusals
 pub mod Dropping
+pub mod Joined

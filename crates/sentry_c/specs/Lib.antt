@@ -13,3 +13,5 @@ pub mod Envelopes
 pub mod Texts
 pub mod Sums
 pub mod Recording
+pub mod Events
+pub mod Making

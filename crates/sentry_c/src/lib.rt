@@ -9,13 +9,16 @@
 mod answered;
 pub mod any_frames;
 pub mod envelope;
+pub mod events;
 mod filter;
 pub mod forwarding;
 pub mod frames;
 pub mod keys;
 pub mod ledger;
 pub mod losses;
+pub mod making;
 mod output;
+pub mod pairs;
 pub mod recording;
 pub mod status;
 pub mod texts;
