@@ -4,11 +4,10 @@ use Rattle.std.specs.List.{All}
 use Rattle.std.proofs.lemmas.List.{drop_all, drop_more, drop-map}
 use Rattle.std.proofs.lemmas.List.Elements.{All-drop, All-head}
 use Rattle.std.specs.Str.{IsUtf8}
-use Rattle.sentry_framing.specs.Framing.{Frame}
 use Rattle.sentry_framing.specs.View.{frame_of}
 use Rattle.sentry_framing.specs.declared.frames.ItemFrame.{ItemFrame}
 use Rattle.sentry_making.specs.Making.{IsEnvelopeOf, IsHeaderLine, IsItem, envelope_text, made}
-use Rattle.sentry_c.specs.Making.{AreJoined, AreTexts, HasNoItem, IsMade, Pair, both, frame_in, joined, total}
+use Rattle.sentry_c.specs.Making.{AreJoined, AreTexts, HasNoItem, IsMade, Pair, both, frame_in, total}
 use Rattle.sentry_c.specs.declared.pairs.CurdmesaPair.{CurdmesaPair}
 
 -- whatever pairs the rest has, all have these and those
