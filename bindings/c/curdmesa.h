@@ -322,6 +322,73 @@ int32_t curdmesa_envelope_losses(const uint8_t *bytes, size_t bytes_len, uint64_
 int32_t curdmesa_frame_losses(const uint8_t *header, size_t header_len, const uint8_t *payload,
                               size_t payload_len, uint64_t *losses, size_t losses_len);
 
+/* ---- making -------------------------------------------------------------------------------- */
+
+/* The lengths of two texts that stand one after the other, in bytes. */
+typedef struct CurdmesaPair {
+    uint64_t first;
+    uint64_t second;
+} CurdmesaPair;
+
+/*
+ * Makes an envelope of a header line, such as "{}", and items, and writes it to `out`.
+ *
+ * The header and the payload of each item stand one after the other in `texts`, without anything
+ * between them, and `lengths` has the lengths of both. Header line and payloads are written byte for
+ * byte, each with a line feed behind it. So are item headers, but one that doesn't state the length
+ * of its payload is made to, by a first member "length".
+ *
+ * CURDMESA_OK, CURDMESA_NO_ROOM, CURDMESA_INVALID_ARGUMENT if the lengths don't add up to
+ * `texts_len`, CURDMESA_INVALID_HEADER if the header line isn't one JSON object in one line,
+ * CURDMESA_INVALID_ITEM_HEADER if an item header isn't one JSON object with a string "type", without
+ * white space around it, or has a "length" that isn't its payload's, CURDMESA_OUT_OF_MEMORY.
+ */
+int32_t curdmesa_envelope_make(const uint8_t *header, size_t header_len, const uint8_t *texts,
+                               size_t texts_len, const CurdmesaPair *lengths, size_t lengths_len,
+                               uint8_t *out, size_t out_len, uint64_t *needed);
+
+/*
+ * Appends an item to an envelope, and writes the longer envelope to `out`: the bytes of the
+ * envelope, a line feed if they don't end with one that ends an item or the header line, and the
+ * item as curdmesa_envelope_make writes it. A header line alone is an envelope. The payloads of the
+ * envelope aren't parsed, and of item headers only "type" and "length" are read.
+ *
+ * CURDMESA_OK, CURDMESA_NO_ROOM, CURDMESA_INVALID_HEADER, CURDMESA_UNEXPECTED_EOF,
+ * CURDMESA_MISSING_NEWLINE, CURDMESA_INVALID_ITEM_HEADER if a header of the envelope, or that of the
+ * item, is refused, CURDMESA_OUT_OF_MEMORY.
+ */
+int32_t curdmesa_envelope_append(const uint8_t *bytes, size_t bytes_len, const uint8_t *header,
+                                 size_t header_len, const uint8_t *payload, size_t payload_len,
+                                 uint8_t *out, size_t out_len, uint64_t *needed);
+
+/*
+ * Makes an event, and writes the normal form of an envelope with that event alone to `out`.
+ *
+ * `level` is "fatal", "error", "warning", "info" or "debug"; a text of length 0 is left out, and an
+ * event without a level is an error. The key and the value of each tag stand one after the other in
+ * `tags`, without anything between them, and `tag_lengths` has the lengths of both; of tags with the
+ * same key the last counts. The timestamp is `now`, and the event id is drawn from a generator
+ * seeded with `seed` alone: hand in another random number with each event.
+ *
+ * CURDMESA_OK, CURDMESA_NO_ROOM, CURDMESA_NO_MOMENT, CURDMESA_NOT_UTF8 if a text isn't UTF-8,
+ * CURDMESA_INVALID_ARGUMENT if the lengths don't add up to `tags_len`,
+ * CURDMESA_INVALID_ITEM_PAYLOAD if the level is none of these words, CURDMESA_OUT_OF_MEMORY.
+ */
+int32_t curdmesa_event_make(const uint8_t *level, size_t level_len, const uint8_t *message,
+                            size_t message_len, const uint8_t *release, size_t release_len,
+                            const uint8_t *environment, size_t environment_len,
+                            const uint8_t *tags, size_t tags_len, const CurdmesaPair *tag_lengths,
+                            size_t tag_lengths_len, uint64_t now_secs, uint32_t now_nanos,
+                            uint64_t seed, uint8_t *out, size_t out_len, uint64_t *needed);
+
+/*
+ * Writes a text as a JSON string to `out`: in quotes, with the shortest escapes.
+ *
+ * CURDMESA_OK, CURDMESA_NO_ROOM, CURDMESA_NOT_UTF8, CURDMESA_OUT_OF_MEMORY.
+ */
+int32_t curdmesa_json_text(const uint8_t *text, size_t text_len, uint8_t *out, size_t out_len,
+                           uint64_t *needed);
+
 /* ---- small texts --------------------------------------------------------------------------- */
 
 /* A place in a text: `length` bytes from byte `offset` on. Length 0 where there is no text. */

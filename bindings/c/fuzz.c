@@ -1,6 +1,7 @@
 /*
  * A fuzz target: of any bytes, what the calls on envelopes answer agrees, a normal form is its own
- * normal form, and what is forwarded is the bytes of the header line and of the kept items.
+ * normal form, and what is forwarded is the bytes of the header line and of the kept items. An item
+ * that is appended is the last frame, and nothing before it changes.
  *
  *   make fuzz LIB=.. KIT_C=.. && mkdir -p corpus && cp ../../.ci/?*.envelope corpus && ./fuzz corpus
  */
@@ -194,6 +195,45 @@ static void records(const uint8_t *bytes, size_t len, int32_t framed) {
     free(ledger);
 }
 
+/* Counts the items, and tells the last. */
+static size_t count(const uint8_t *bytes, size_t len, CurdmesaAnyFrame *frame) {
+    uint64_t offset = 0, needed;
+    uint8_t *word = block(len);
+    size_t items = 0;
+    while (curdmesa_any_frames_next(bytes, len, &offset, frame, word, len, &needed) == CURDMESA_OK)
+        items++;
+    wanted(offset == len, "all items");
+    free(word);
+    return items;
+}
+
+/* Any bytes as the payload of an item behind any bytes, and as its header. */
+static void appends(const uint8_t *bytes, size_t len, int32_t items) {
+    static const uint8_t header[] = "{\"type\":\"x\"}";
+    size_t room = 2 * len + 64;
+    uint64_t needed = 0;
+    uint8_t *out = block(room);
+    CurdmesaAnyFrame before = {0}, frame = {0};
+    int32_t status = curdmesa_envelope_append(bytes, len, header, sizeof header - 1, bytes, len, out,
+                                              room, &needed);
+    wanted(status == (items == CURDMESA_NOTHING_LEFT ? CURDMESA_OK : items), "appended");
+    if (status == CURDMESA_OK) {
+        wanted(memcmp(out, bytes, len) == 0, "nothing before the item changes");
+        wanted(count(out, (size_t)needed, &frame) == count(bytes, len, &before) + 1, "one more");
+        wanted(frame.payload_length == len &&
+                   memcmp(out + frame.payload_offset, bytes, len) == 0,
+               "its payload");
+    }
+    const CurdmesaPair lengths = {len, 0};
+    status = curdmesa_envelope_make((const uint8_t *)"{}", 2, bytes, len, &lengths, 1, out, room,
+                                    &needed);
+    wanted(status == CURDMESA_INVALID_ITEM_HEADER ||
+               (status == CURDMESA_OK && count(out, (size_t)needed, &frame) == 1 &&
+                frame.payload_length == 0),
+           "made");
+    free(out);
+}
+
 /* Any bytes as the small texts whose calls have no parts that the tests don't ask. */
 static void texts(const uint8_t *bytes, size_t len) {
     uint64_t needed = 0;
@@ -214,6 +254,7 @@ static void texts(const uint8_t *bytes, size_t len) {
     }
     curdmesa_dsn_envelope_url(bytes, len, none, 0, &needed);
     curdmesa_dsn_auth(bytes, len, 5, 0, bytes, len, none, 0, &needed);
+    curdmesa_json_text(bytes, len, none, 0, &needed);
     curdmesa_category_of_word(bytes, len, &number);
     curdmesa_reason_of_word(bytes, len, &number);
     free(none);
@@ -346,6 +387,7 @@ int LLVMFuzzerTestOneInput(const uint8_t *data, size_t size) {
     measures(bytes, size, items);
     explains(bytes, size, status);
     mends(bytes, size, (uint32_t)(size % 3), status);
+    appends(bytes, size, items);
     if (text) {
         is_steady(text, len);
         wanted(framed == CURDMESA_NOTHING_LEFT, "an envelope's frames");

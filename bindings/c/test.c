@@ -1,6 +1,6 @@
 /*
  * Tests every exported function: envelopes, small texts and the ledger here, faults and repairs in
- * test_faults.c, the rest in test_items.c and test_limits.c. Each buffer is a heap block of exactly the length that
+ * test_faults.c, the rest in test_items.c and test_limits.c and test_making.c. Each buffer is a heap block of exactly the length that
  * is told, so that AddressSanitizer sees a read or a write past its end.
  */
 #include "test.h"
@@ -729,6 +729,7 @@ int main(void) {
     test_items();
     test_limits();
     test_faults();
+    test_making();
     if (failures == 0)
         puts("ok");
     else

@@ -51,3 +51,6 @@ void test_limits(void);
 
 /* Faults and repairs. */
 void test_faults(void);
+
+/* What makes envelopes, items and events. */
+void test_making(void);

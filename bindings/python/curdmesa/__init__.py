@@ -22,6 +22,7 @@ from .faults import Fault, Mended, Misfit, Note, Repair, Repairs, explain, mend
 from .forwarding import AnyFrame, Forwarded, any_frames, forward, losses
 from .ledger import Ledger
 from .limits import Measured, RateLimits, measure
+from .making import append_item, make_envelope, make_event
 from .moments import Moment, rfc3339_format, rfc3339_parse
 from .texts import Auth, Dsn, crontab_check
 from .words import Category, ItemKind, Reason
@@ -36,8 +37,9 @@ __all__ = [
     "MissingItemHeader", "MissingNewline", "Moment", "NoMoment",
     "NoRoom", "NotUtf8", "Note",
     "NothingLeft", "OutOfMemory", "RateLimits", "Reason", "Repair",
-    "Repairs", "Status", "TextError", "UnexpectedEof", "__version__", "any_frames", "check", "crontab_check",
+    "Repairs", "Status", "TextError", "UnexpectedEof", "__version__", "any_frames", "append_item", "check", "crontab_check",
     "error_of", "explain",
-    "forward", "frames", "losses", "measure", "mend", "normalize", "rfc3339_format",
+    "forward",
+    "frames", "losses", "measure", "mend", "make_envelope", "make_event", "normalize", "rfc3339_format",
     "rfc3339_parse",
 ]

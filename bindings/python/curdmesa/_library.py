@@ -109,6 +109,10 @@ class NoteParts(ctypes.Structure):
     ]
 
 
+class PairParts(ctypes.Structure):
+    _fields_ = [("first", ctypes.c_uint64), ("second", ctypes.c_uint64)]
+
+
 LOSSES = 120
 SUMS = 108
 LIMITS = 13
@@ -121,6 +125,7 @@ U32S, U64S, I32S = ctypes.POINTER(U32), ctypes.POINTER(U64), ctypes.POINTER(I32)
 BYTES = [ctypes.c_char_p, SIZE]
 OUT = [ctypes.POINTER(ctypes.c_char), SIZE, U64S]
 MOMENT = [U64, U32]
+PAIRS = [ctypes.POINTER(PairParts), SIZE]
 
 #: The functions of curdmesa.h, all of which return a status, with the types of their parameters.
 FUNCTIONS = {
@@ -143,6 +148,12 @@ FUNCTIONS = {
     "curdmesa_envelope_mend": [
         *BYTES, *MOMENT, U64, U32, BOOL, ctypes.POINTER(NoteParts), SIZE, U64S, I32S, U64S, *OUT,
     ],
+    "curdmesa_envelope_make": [*BYTES, *BYTES, *PAIRS, *OUT],
+    "curdmesa_envelope_append": [*BYTES, *BYTES, *BYTES, *OUT],
+    "curdmesa_event_make": [
+        *BYTES, *BYTES, *BYTES, *BYTES, *BYTES, *PAIRS, *MOMENT, U64, *OUT,
+    ],
+    "curdmesa_json_text": [*BYTES, *OUT],
     "curdmesa_dsn_parse": [*BYTES, *OUT, ctypes.POINTER(DsnParts)],
     "curdmesa_dsn_envelope_url": [*BYTES, *OUT],
     "curdmesa_dsn_auth": [*BYTES, *MOMENT, *BYTES, *OUT],

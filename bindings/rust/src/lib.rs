@@ -38,6 +38,7 @@ mod ledger;
 mod limits;
 mod losses;
 mod measure;
+mod making;
 mod moment;
 #[cfg(feature = "now")]
 mod now;
@@ -59,6 +60,7 @@ pub use ledger::Ledger;
 pub use limits::RateLimits;
 pub use losses::{losses, Loss, Losses};
 pub use measure::{measure, Measured};
+pub use making::{append_item, json_text, make_envelope, NewEvent};
 pub use moment::Moment;
 #[cfg(feature = "now")]
 pub use now::{check_now, filter_now, normalize_now};

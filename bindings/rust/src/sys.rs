@@ -108,6 +108,14 @@ pub struct CurdmesaNote {
     pub repair: u32,
 }
 
+/// The lengths of two texts that stand one after the other.
+#[derive(Clone, Copy, Default)]
+#[repr(C)]
+pub struct CurdmesaPair {
+    pub first: u64,
+    pub second: u64,
+}
+
 /// A function that reads client authentication.
 pub type AuthCall = unsafe extern "C" fn(
     text: *const u8,
@@ -242,6 +250,59 @@ extern "C" {
         count: *mut u64,
         error: *mut i32,
         envelope_len: *mut u64,
+        out: *mut u8,
+        out_len: usize,
+        needed: *mut u64,
+    ) -> i32;
+
+    pub fn curdmesa_envelope_make(
+        header: *const u8,
+        header_len: usize,
+        texts: *const u8,
+        texts_len: usize,
+        lengths: *const CurdmesaPair,
+        lengths_len: usize,
+        out: *mut u8,
+        out_len: usize,
+        needed: *mut u64,
+    ) -> i32;
+
+    pub fn curdmesa_envelope_append(
+        bytes: *const u8,
+        bytes_len: usize,
+        header: *const u8,
+        header_len: usize,
+        payload: *const u8,
+        payload_len: usize,
+        out: *mut u8,
+        out_len: usize,
+        needed: *mut u64,
+    ) -> i32;
+
+    pub fn curdmesa_event_make(
+        level: *const u8,
+        level_len: usize,
+        message: *const u8,
+        message_len: usize,
+        release: *const u8,
+        release_len: usize,
+        environment: *const u8,
+        environment_len: usize,
+        tags: *const u8,
+        tags_len: usize,
+        tag_lengths: *const CurdmesaPair,
+        tag_lengths_len: usize,
+        now_secs: u64,
+        now_nanos: u32,
+        seed: u64,
+        out: *mut u8,
+        out_len: usize,
+        needed: *mut u64,
+    ) -> i32;
+
+    pub fn curdmesa_json_text(
+        text: *const u8,
+        text_len: usize,
         out: *mut u8,
         out_len: usize,
         needed: *mut u64,

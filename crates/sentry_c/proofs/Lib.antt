@@ -12,3 +12,4 @@ pub mod Dropping
 pub mod Rooms
 pub mod StoredSums
 pub mod Rowed
+pub mod Joined

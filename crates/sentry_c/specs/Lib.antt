@@ -19,3 +19,5 @@ pub mod Limits
 pub mod Misfits
 pub mod Explaining
 pub mod Mending
+pub mod Events
+pub mod Making

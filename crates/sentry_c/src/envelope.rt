@@ -47,7 +47,7 @@ pub(crate) fn text_of(alloc: Global, envelope: &Envelope) -> Result<Vec<u8>, All
 }
 
 #[tactic(auto, using(crate::proofs::Envelopes::normal_form_is))]
-fn normal_form(
+pub(crate) fn normal_form(
     alloc: Global,
     bytes: &[u8],
     now: Moment,
