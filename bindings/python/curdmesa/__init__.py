@@ -21,8 +21,8 @@ from .errors import (
 from .faults import Fault, Mended, Misfit, Note, Repair, Repairs, explain, mend
 from .forwarding import AnyFrame, Forwarded, any_frames, forward, losses
 from .ledger import Ledger
-from .limits import Measured, RateLimits, measure
 from .making import append_item, make_envelope, make_event
+from .limits import Measured, RateLimits, measure
 from .moments import Moment, rfc3339_format, rfc3339_parse
 from .texts import Auth, Dsn, crontab_check
 from .words import Category, ItemKind, Reason
@@ -33,13 +33,10 @@ __all__ = [
     "Category", "Dsn", "DsnError", "DsnInvalidProjectId", "DsnInvalidScheme", "DsnInvalidUrl",
     "DsnNoProjectId", "DsnNoUsername", "EnvelopeError", "Error", "Fault", "Filtered", "Forwarded",
     "Frame", "InvalidArgument", "InvalidHeader", "InvalidItemHeader", "InvalidItemPayload",
-    "InvalidText", "ItemKind", "Ledger", "LedgerFull", "Loss", "Measured", "MissingHeader", "Misfit", "MissingHeader",
-    "MissingItemHeader", "MissingNewline", "Moment", "NoMoment",
-    "NoRoom", "NotUtf8", "Note",
-    "NothingLeft", "OutOfMemory", "RateLimits", "Reason", "Repair",
-    "Repairs", "Status", "TextError", "UnexpectedEof", "__version__", "any_frames", "append_item", "check", "crontab_check",
-    "error_of", "explain",
-    "forward",
-    "frames", "losses", "measure", "mend", "make_envelope", "make_event", "normalize", "rfc3339_format",
-    "rfc3339_parse",
+    "InvalidText", "ItemKind", "Ledger", "LedgerFull", "Loss", "Measured", "Mended", "Misfit",
+    "MissingHeader", "MissingItemHeader", "MissingNewline", "Moment", "NoMoment", "NoRoom",
+    "NotUtf8", "Note", "NothingLeft", "OutOfMemory", "RateLimits", "Reason", "Repair", "Repairs",
+    "Status", "TextError", "UnexpectedEof", "__version__", "any_frames", "append_item", "check",
+    "crontab_check", "error_of", "explain", "forward", "frames", "losses", "make_envelope",
+    "make_event", "measure", "mend", "normalize", "rfc3339_format", "rfc3339_parse",
 ]

@@ -15,9 +15,9 @@ pub mod Texts
 pub mod Sums
 pub mod Recording
 pub mod LedgerBytes
-pub mod Limits
 pub mod Misfits
 pub mod Explaining
 pub mod Mending
 pub mod Events
 pub mod Making
+pub mod Limits
