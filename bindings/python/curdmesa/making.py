@@ -7,7 +7,7 @@ import json
 from typing import Any, Iterable, List, Mapping, Optional, Tuple, Union
 
 from ._library import Data, PairParts, Text, data_bytes, library, text_bytes, written
-from .envelopes import _drawn_from
+from .envelopes import drawn_by
 from .moments import When
 
 #: A header as JSON text, or as what becomes a JSON object.
@@ -95,7 +95,7 @@ def make_event(
     """
     texts = [text_bytes(text) for text in (level, message, release, environment)]
     pairs = [(text_bytes(key), text_bytes(value)) for key, value in (tags or {}).items()]
-    joined, drawn_from = _joined(pairs), _drawn_from(now, seed)
+    joined, drawn_from = _joined(pairs), drawn_by(now, seed)
     given = [part for text in texts for part in (text, len(text))]
     return written(
         sum(map(len, texts)) + joined[1] + 512,
