@@ -200,9 +200,11 @@ static size_t count(const uint8_t *bytes, size_t len, CurdmesaAnyFrame *frame) {
     uint64_t offset = 0, needed;
     uint8_t *word = block(len);
     size_t items = 0;
-    while (curdmesa_any_frames_next(bytes, len, &offset, frame, word, len, &needed) == CURDMESA_OK)
+    int32_t status;
+    while ((status = curdmesa_any_frames_next(bytes, len, &offset, frame, word, len, &needed)) ==
+           CURDMESA_OK)
         items++;
-    wanted(offset == len, "all items");
+    wanted(status == CURDMESA_NOTHING_LEFT, "all items");
     free(word);
     return items;
 }
