@@ -613,6 +613,17 @@ int32_t curdmesa_envelope_explain(const uint8_t *bytes, size_t bytes_len, uint64
                                   uint64_t *count, int32_t *error, uint8_t *out, size_t out_len,
                                   uint64_t *needed);
 
+/*
+ * Writes a JSON object to `out` that tells what is known of an envelope: whether
+ * curdmesa_envelope_check accepts it, the type, the verdict and the bytes of each item, its faults
+ * and its header, what would be lost if all items were dropped, and what its events and
+ * transactions say. A refused envelope is shown up to the first item that can't be split off.
+ *
+ * CURDMESA_OK, CURDMESA_NO_ROOM, CURDMESA_OUT_OF_MEMORY.
+ */
+int32_t curdmesa_envelope_show_json(const uint8_t *bytes, size_t bytes_len, uint8_t *out,
+                                    size_t out_len, uint64_t *needed);
+
 /* A change of an envelope: some bytes, and what stands there instead. */
 typedef struct CurdmesaNote {
     /* Index of the item. */

@@ -346,6 +346,22 @@ static void explains(const uint8_t *bytes, size_t len, int32_t due) {
     free(out);
 }
 
+/* What is shown says whether the check accepts. */
+static void shows(const uint8_t *bytes, size_t len, int32_t due) {
+    uint64_t needed = 0, again = 0;
+    uint8_t *none = block(0);
+    int32_t status = curdmesa_envelope_show_json(bytes, len, none, 0, &needed);
+    free(none);
+    wanted(status == CURDMESA_NO_ROOM, "an object");
+    uint8_t *out = block((size_t)needed + 1);
+    status = curdmesa_envelope_show_json(bytes, len, out, (size_t)needed, &again);
+    wanted(status == CURDMESA_OK && again == needed, "the same object with room");
+    out[needed] = 0;
+    const char *accepted = strstr((const char *)out, "\"accepted\":");
+    wanted(accepted && (accepted[11] == 't') == (due == CURDMESA_OK), "the verdict of the check");
+    free(out);
+}
+
 /* What mending writes is steady, and reads; the notes are in order. */
 static void mends(const uint8_t *bytes, size_t len, uint32_t repairs, int32_t due) {
     uint64_t count = 0, needed = 0, envelope_len = 0, behind = 0;
@@ -388,6 +404,7 @@ int LLVMFuzzerTestOneInput(const uint8_t *data, size_t size) {
     limits(bytes, size);
     measures(bytes, size, items);
     explains(bytes, size, status);
+    shows(bytes, size, status);
     mends(bytes, size, (uint32_t)(size % 3), status);
     appends(bytes, size, items);
     if (text) {

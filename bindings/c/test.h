@@ -49,7 +49,7 @@ void test_items(void);
 /* Rate limits, and the measure of an envelope. */
 void test_limits(void);
 
-/* Faults and repairs. */
+/* Faults, what is shown, and repairs. */
 void test_faults(void);
 
 /* What makes envelopes, items and events. */

@@ -1,4 +1,4 @@
-/* Tests of the calls that tell why an envelope is refused, and repair one. */
+/* Tests of the calls that tell why an envelope is refused, show one, and repair one. */
 #include "test.h"
 
 #include <stdlib.h>
@@ -169,6 +169,43 @@ static void tells_none(void) {
     expect("row", is_zero(&fault, sizeof fault), 1);
     expect("out", is_untouched(out, 0, 8), 1);
     free(out);
+}
+
+/* ---- what is shown --------------------------------------------------------------------------- */
+
+static int32_t run_show(Call *call, uint8_t *out, size_t out_len, uint64_t *needed) {
+    return curdmesa_envelope_show_json(call->bytes, call->len, out, out_len, needed);
+}
+
+static void shows(const char *text, const char *due) {
+    Call call = {.run = run_show, .len = strlen(text)};
+    uint8_t *bytes = block(text, call.len);
+    call.bytes = bytes;
+    gives(text, &call, due, 1);
+    free(bytes);
+}
+
+static void test_show(void) {
+    shows("{}\n{\"type\":\"attachment\"}\nhelloworld",
+          "{\"bytes\":35,\"accepted\":true,\"items\":[{\"type\":\"attachment\",\"accepted\":true,"
+          "\"start\":3,\"length\":32,\"header_start\":3,\"header_length\":21,\"payload_start\":25,"
+          "\"payload_length\":10}],\"unread\":null,\"error\":null,\"faults\":[],"
+          "\"header_length\":3,\"header\":{},\"losses\":{\"attachment\":10},\"events\":[],"
+          "\"transactions\":[]}");
+    shows("{}\n{\"type\":\"event\"}\n{\"timestamp\":1.5}",
+          "{\"bytes\":37,\"accepted\":false,\"items\":[{\"type\":\"event\",\"accepted\":false,"
+          "\"start\":3,\"length\":34,\"header_start\":3,\"header_length\":16,\"payload_start\":20,"
+          "\"payload_length\":17}],\"unread\":null,\"error\":\"invalid item payload\","
+          "\"faults\":[{\"end\":37,\"error\":\"invalid item payload\",\"found\":\"decimal\","
+          "\"from\":33,\"item\":0,\"path\":\"timestamp\",\"start\":3,\"to\":36,\"type\":\"event\","
+          "\"value\":\"1.5\",\"wanted\":\"whole seconds or an RFC 3339 string\"}],"
+          "\"header_length\":3,\"header\":{},\"losses\":{\"error\":1},\"events\":[],"
+          "\"transactions\":[]}");
+    shows("", "{\"bytes\":0,\"accepted\":false,\"items\":[],\"unread\":null,"
+              "\"error\":\"invalid envelope header\",\"faults\":[{\"at\":0,\"end\":0,"
+              "\"error\":\"invalid envelope header\",\"expected\":\"a value\",\"item\":null,"
+              "\"start\":0,\"type\":\"\"}],\"header_length\":0,\"header\":{},\"losses\":{},"
+              "\"events\":[],\"transactions\":[]}");
 }
 
 /* ---- repairs ------------------------------------------------------------------------------- */
@@ -361,6 +398,7 @@ void test_faults(void) {
         tells_one(&ONE_FAULT[i]);
     tells_some();
     tells_none();
+    test_show();
     for (size_t i = 0; i < sizeof ONE_NOTE / sizeof *ONE_NOTE; i++)
         mends_one(&ONE_NOTE[i]);
     mends_none();

@@ -663,7 +663,7 @@ class Header(unittest.TestCase):
         due = {name: [self.declared(one)[1] for one in all_of_them.split(",")]
                for name, all_of_them in found}
         self.assertEqual(_library.FUNCTIONS, due)
-        self.assertEqual(len(due), 42)
+        self.assertEqual(len(due), 43)
 
     def test_manual_page(self):
         page = (BINDINGS / "c/curdmesa.3").read_text("utf-8")

@@ -2,11 +2,13 @@
 
 import copy
 import datetime
+import json
 import pickle
 import unittest
 
 import curdmesa
-from curdmesa import Misfit, Repair, Repairs, Status, check, explain, filter, mend, normalize
+from curdmesa import (
+    Misfit, Repair, Repairs, Status, check, explain, filter, mend, normalize, show_json)
 
 NOW = (1_700_000_000, 0)
 EVENT = b'{}\n{"type":"event"}\n'
@@ -158,6 +160,46 @@ class Mend(unittest.TestCase):
             mend(b"{}", repairs=3)
         with self.assertRaises(TypeError):
             mend(b"{}", repairs=Repair.AS_TEXT)
+
+
+class Show(unittest.TestCase):
+    def test_accepted(self):
+        shown = json.loads(show_json(bytearray(b'{}\n{"type":"attachment"}\nhelloworld')))
+        item = {
+            "type": "attachment", "accepted": True, "start": 3, "length": 32, "header_start": 3,
+            "header_length": 21, "payload_start": 25, "payload_length": 10,
+        }
+        self.assertEqual(shown, {
+            "bytes": 35, "accepted": True, "items": [item], "unread": None, "error": None,
+            "faults": [], "header_length": 3, "header": {}, "losses": {"attachment": 10},
+            "events": [], "transactions": [],
+        })
+
+    def test_refused(self):
+        shown = json.loads(show_json(TYPE))
+        self.assertEqual((shown["accepted"], shown["error"]), (False, "invalid item payload"))
+        fault, = shown["faults"]
+        self.assertEqual((fault["path"], fault["from"], fault["to"], fault["wanted"]),
+                         ("exception.values[0].type", 52, 53, "a string"))
+
+    def test_event_and_transaction(self):
+        event = b'{"message":"a","exception":{"values":[{"type":"E"}]}}'
+        spans = (
+            b'{"start_timestamp":"1970-01-01T00:00:01Z","timestamp":"1970-01-01T00:00:04Z","spans":['
+            b'{"span_id":"d42cee9fc3e74f5c","trace_id":"335e53d614474acc9f89e632b776cc28",'
+            b'"op":"db","start_timestamp":2,"timestamp":"1970-01-01T00:00:02.5Z"}]}')
+        shown = json.loads(show_json(
+            b'{}\n{"type":"event"}\n' + event + b'\n{"type":"transaction"}\n' + spans))
+        self.assertTrue(shown["accepted"], shown["faults"])
+        event, = shown["events"]
+        self.assertEqual((event["item"], event["level"], event["message"], event["exceptions"]),
+                         (0, "error", "a", [{"type": "E"}]))
+        transaction, = shown["transactions"]
+        self.assertEqual((transaction["item"], transaction["nanos"]), (1, 3 * 10**9))
+        self.assertEqual(transaction["spans"], [{
+            "span_id": "d42cee9fc3e74f5c", "parent_span_id": None, "op": "db", "description": None,
+            "offset": 10**9, "nanos": 5 * 10**8,
+        }])
 
 
 if __name__ == "__main__":

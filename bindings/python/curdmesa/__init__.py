@@ -11,7 +11,7 @@ environment variable CURDMESA_SO names.
 
 from ._library import VERSION as __version__
 from ._losses import Loss
-from .envelopes import Filtered, Frame, check, filter, frames, normalize
+from .envelopes import Filtered, Frame, check, filter, frames, normalize, show_json
 from .errors import (
     AuthError, AuthInvalidVersion, AuthMissingPublicKey, AuthNonSentry, DsnError,
     DsnInvalidProjectId, DsnInvalidScheme, DsnInvalidUrl, DsnNoProjectId, DsnNoUsername,
@@ -39,4 +39,5 @@ __all__ = [
     "Status", "TextError", "UnexpectedEof", "__version__", "any_frames", "append_item", "check",
     "crontab_check", "error_of", "explain", "forward", "frames", "losses", "make_envelope",
     "make_event", "measure", "mend", "normalize", "rfc3339_format", "rfc3339_parse",
+    "show_json",
 ]

@@ -145,6 +145,7 @@ FUNCTIONS = {
     "curdmesa_envelope_explain": [
         *BYTES, *MOMENT, ctypes.POINTER(FaultParts), SIZE, U64S, I32S, *OUT,
     ],
+    "curdmesa_envelope_show_json": [*BYTES, *OUT],
     "curdmesa_envelope_mend": [
         *BYTES, *MOMENT, U64, U32, BOOL, ctypes.POINTER(NoteParts), SIZE, U64S, I32S, U64S, *OUT,
     ],

@@ -1,4 +1,4 @@
-"""Normalizing, checking, filtering and framing envelopes."""
+"""Normalizing, checking, filtering, showing and framing envelopes."""
 
 from __future__ import annotations
 
@@ -105,6 +105,24 @@ def filter(
         error._refused = data, drawn_from[:2]
         raise
     return Filtered(left, losses_of(sums))
+
+
+def show_json(data: Data) -> str:
+    """Returns what is known of an envelope, as a JSON object: whether check accepts it, the type, the
+    verdict and the bytes of each item, its faults and its header, what would be lost if all items
+    were dropped, and what its events and transactions say.
+
+    A refused envelope is shown up to the first item that can't be split off. Raises OutOfMemory.
+
+    >>> import json
+    >>> shown = json.loads(show_json(b'{}\\n{"type":"attachment"}\\nhelloworld'))
+    >>> shown["accepted"], shown["losses"]
+    (True, {'attachment': 10})
+    """
+    data = data_bytes(data)
+    return written(
+        4096, lambda *out: library.curdmesa_envelope_show_json(data, len(data), *out)
+    ).decode()
 
 
 @dataclass(frozen=True)

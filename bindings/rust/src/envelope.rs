@@ -1,4 +1,4 @@
-//! Parsing, normalizing and filtering envelopes.
+//! Parsing, normalizing, filtering and showing envelopes.
 
 use crate::error::{done, Error};
 use crate::kinds::ItemKind;
@@ -188,4 +188,36 @@ where
     });
     let envelope = output::optional(left)?;
     Ok(Filtered { envelope, losses })
+}
+
+/// Returns what is known of an envelope, as a JSON object: whether [`check`] accepts it, the type,
+/// the verdict and the bytes of each item, its faults and its header, what would be lost if all
+/// items were dropped, and what its events and transactions say.
+///
+/// A refused envelope is shown up to the first item that can't be split off.
+///
+/// ```
+/// let shown = curdmesa::show_json(b"{}\n{\"type\":\"attachment\"}\nhelloworld")?;
+/// assert!(shown.starts_with("{\"bytes\":35,\"accepted\":true,\"items\":[{\"type\":\"attachment\","));
+/// # Ok::<(), curdmesa::Error>(())
+/// ```
+///
+/// # Errors
+///
+/// [`Error::OutOfMemory`].
+pub fn show_json(bytes: &[u8]) -> Result<String, Error> {
+    let shown = output::text(4096, |out, needed| {
+        // SAFETY: each pointer is a slice's, with its length, or a reference's; `out` and `needed`
+        // are borrowed mutably.
+        unsafe {
+            sys::curdmesa_envelope_show_json(
+                bytes.as_ptr(),
+                bytes.len(),
+                out.as_mut_ptr(),
+                out.len(),
+                needed,
+            )
+        }
+    })?;
+    output::utf8(shown)
 }

@@ -49,7 +49,7 @@ mod sys;
 pub use any_frames::{any_frames, forward, AnyFrame, AnyFrames, Forwarded};
 pub use auth::Auth;
 pub use dsn::Dsn;
-pub use envelope::{check, filter, normalize, normalize_into, Filtered, Kinds};
+pub use envelope::{check, filter, normalize, normalize_into, show_json, Filtered, Kinds};
 pub use error::Error;
 pub use faults::{
     explain, mend, Cause, Fault, MendRules, Mended, Misfit, Note, Refusal, Repair, Repairs,

@@ -237,6 +237,14 @@ extern "C" {
         needed: *mut u64,
     ) -> i32;
 
+    pub fn curdmesa_envelope_show_json(
+        bytes: *const u8,
+        bytes_len: usize,
+        out: *mut u8,
+        out_len: usize,
+        needed: *mut u64,
+    ) -> i32;
+
     pub fn curdmesa_envelope_mend(
         bytes: *const u8,
         bytes_len: usize,

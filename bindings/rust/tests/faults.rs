@@ -1,7 +1,8 @@
 //! Why envelopes are refused, and their repairs.
 
 use curdmesa::{
-    check, explain, mend, normalize, Cause, Error, MendRules, Misfit, Refusal, Repair, Repairs,
+    check, explain, mend, normalize, show_json, Cause, Error, MendRules, Misfit, Refusal, Repair,
+    Repairs,
 };
 
 const NOW: (u64, u32) = (1_700_000_000, 0);
@@ -180,4 +181,19 @@ fn nothing_to_mend() {
         mend(b"{}", (0, 1_000_000_000), 42, MendRules::default()),
         Err(Error::NoMoment)
     );
+}
+
+#[test]
+fn what_is_shown() {
+    let bytes = b"{}\n{\"type\":\"attachment\"}\nhelloworld";
+    let due = r#"{"bytes":35,"accepted":true,"items":[{"type":"attachment","accepted":true,"start":3,"#
+        .to_string()
+        + r#""length":32,"header_start":3,"header_length":21,"payload_start":25,"#
+        + r#""payload_length":10}],"unread":null,"error":null,"faults":[],"header_length":3,"#
+        + r#""header":{},"losses":{"attachment":10},"events":[],"transactions":[]}"#;
+    assert_eq!(show_json(bytes), Ok(due));
+    let events = "{\"type\":\"event\"}\n{\"timestamp\":1.5}\n".repeat(100);
+    let shown = show_json(format!("{{}}\n{events}").as_bytes()).unwrap();
+    assert!(shown.starts_with("{\"bytes\":3503,\"accepted\":false,"));
+    assert_eq!(shown.matches("\"path\":\"timestamp\"").count(), 100);
 }

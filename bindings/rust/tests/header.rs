@@ -107,7 +107,7 @@ fn functions_are_declared_as_in_the_header() {
     due.sort();
     found.sort();
     assert_eq!(found, due);
-    assert_eq!(found.len(), 42);
+    assert_eq!(found.len(), 43);
 }
 
 #[test]

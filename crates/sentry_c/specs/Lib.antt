@@ -21,3 +21,4 @@ pub mod Mending
 pub mod Events
 pub mod Making
 pub mod Limits
+pub mod Showing

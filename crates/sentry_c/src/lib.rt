@@ -26,6 +26,7 @@ pub mod misfit;
 mod output;
 pub mod pairs;
 pub mod recording;
+pub mod showing;
 pub mod status;
 pub mod texts;
 pub mod version;

@@ -16,7 +16,8 @@ use Rattle.sentry_ledger.proofs.SumLemmas.{sums_of_run}
 use Rattle.sentry_env.specs.Listed.{AnswersFor}
 use Rattle.sentry_env.specs.Losing.{AnswersByKind, AddsLosses}
 use Rattle.sentry_env.specs.Run.{IsDue, dues, kept_due, left_due}
-use Rattle.sentry_env.specs.Table.{table_by, table_of}
+use Rattle.sentry_program.specs.Table.{table_by, table_of}
+use Rattle.sentry_program.proofs.TableLemmas.{table_of_sums}
 use Rattle.sentry_env.specs.declared.ending.Outcome.TheVariants.{Written}
 use Rattle.sentry_framing.specs.declared.kind.ItemKind.{ItemKind}
 use Rattle.sentry_env.specs.declared.loss_filter.LossFilter.{LossFilter}
@@ -35,10 +36,9 @@ answers_by_kind kinds (item ∷ items) (false ∷ answers) rest first last same 
 -- the table after a run of the filter is that of what was handed over
 table_of_run : (items : List EnvelopeItem) (answers : List Bool) (first last : LossFilter) → first.sums.row ≡ no_sums → Run AnswersByKind AddsLosses first (calls items answers) last
     → table_by (sum_at last.sums) ≡ table_of (losses_of_items (handed items answers))
-unfolding table_of
 table_of_run items answers first last none run =
     let sums = sums_of_run AnswersByKind AddsLosses (λ f. f.sums) (λ f item answer next asked. ap (λ (s : LossFilter). s.sums) asked.0) (λ f item next given. ap (λ (s : LossFilter). s.sums) given) items answers first last none run in
-    ap table_by (λ i. λ c r. sums.each c r i)
+    table_of_sums last.sums (losses_of_items (handed items answers)) _ sums refl
 
 -- ---- what is left
 

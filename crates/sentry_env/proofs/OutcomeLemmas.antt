@@ -22,7 +22,7 @@ use Rattle.sentry_envelope.proofs.OneEnvelope.{one_envelope}
 use Rattle.sentry_envelope.proofs.SentryProfile.{profile_lawful}
 use Rattle.sentry_env.specs.Listed.{AnswersFor, IsOfKinds, kind_of_item}
 use Rattle.sentry_env.specs.Run.{Due, DueIsSettled, IsDue, dues, kept_due}
-use Rattle.sentry_env.specs.Table.{table_of}
+use Rattle.sentry_program.specs.Table.{table_of}
 use Rattle.sentry_env.specs.declared.ending.Outcome.TheVariants.{Written}
 use Rattle.sentry_framing.specs.declared.kind.ItemKind.{ItemKind}
 

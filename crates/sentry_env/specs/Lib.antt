@@ -5,4 +5,3 @@ pub mod Losing
 pub mod Reading
 pub mod Run
 pub mod Streams
-pub mod Table

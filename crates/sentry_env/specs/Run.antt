@@ -14,7 +14,7 @@ use Rattle.sentry_envelope.specs.declared.envelope.Envelope.{Envelope}
 use Rattle.sentry_framing.specs.declared.kind.ItemKind.{ItemKind}
 use Rattle.sentry_env.specs.Listed.{AnswersFor}
 use Rattle.sentry_env.specs.Streams.{Breaks, Gets, Reads, Stays, Stream, Streams}
-use Rattle.sentry_env.specs.Table.{table_of}
+use Rattle.sentry_program.specs.Table.{table_of}
 use Rattle.sentry_env.specs.declared.ending.Outcome.{Outcome}
 use Rattle.sentry_env.specs.declared.ending.Outcome.TheVariants.{Written, NothingLeft}
 use Rattle.sentry_env.specs.declared.ending.RunError.{RunError}

@@ -4,8 +4,8 @@ ghost use Rattle.std.specs.Prelude.{◌↔◌, IsTrue};
 ghost use Rattle.sentry_env.specs.Listed.{IsOfKinds};
 
 use crate::Kind;
-use crate::losses::table;
 use sentry_ledger::loss_sums::LossSums;
+use sentry_program::losses::table;
 use sentry_types::protocol::v7::{EnvelopeFilter, EnvelopeItem};
 use std::alloc::{AllocError, Global};
 
@@ -28,7 +28,7 @@ fn is_of_kinds(item: &EnvelopeItem, kinds: &[Kind]) -> bool
 impl<'a> LossFilter<'a> {
     ghost use Rattle.std.specs.Prelude.{◌≡◌, IfOk, string_bytes};
     ghost use Rattle.sentry_ledger.specs.LossSums.{no_sums, sum_at};
-    ghost use Rattle.sentry_env.specs.Table.{table_by};
+    ghost use Rattle.sentry_program.specs.Table.{table_by};
 
     /// Creates a filter that removes items of these types.
     pub fn new(kinds: &'a [Kind]) -> Self

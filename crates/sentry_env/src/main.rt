@@ -8,20 +8,18 @@
 #![tactic(auto)]
 
 mod args;
-mod clock;
 mod ending;
 mod laws;
 mod loss_filter;
-mod losses;
 mod read_all;
 mod run;
 
 use args::{Args, program_args};
-use clock::{moment_after, seed_at, time_since_1970};
 use ending::{Outcome, RunError, ending, usage};
 use rand_core::SeedableRng;
 use rand_pcg::Pcg32;
 use run::run;
+use sentry_program::clock::{moment_after, seed_at, time_since_1970};
 pub(crate) use sentry_types::protocol::v7::ItemKind as Kind;
 use sentry_types::protocol::v7::{CountedReader, CountedWriter};
 use std::alloc::AllocError;

@@ -359,18 +359,20 @@ impl Envelope {
         }
     }
 
-    // Returns the text that `to_writer`, `to_vec` and `write_counted` give, or their error before
-    // any write.
-    //
-    // Parts that lie in memory have fewer than 2^64 bytes together: that is counted here, for
-    // `sized`.
-    fn text(&self, alloc: Global) -> Result<Text<'_>, EnvelopeWriteError>
+    /// Returns the text that [`Envelope::to_writer`] writes, before any write. Large payloads in the
+    /// text are lent, not copied.
+    ///
+    /// # Errors
+    ///
+    /// - `NotPlain` if the envelope is structured and isn't plain.
+    /// - `Memory` if an allocation fails.
+    pub fn text(&self, alloc: Global) -> Result<Text<'_>, EnvelopeWriteError>
         ensures ok { IfOk result (λ text. bytes_of text ≡ text_of self.now) }
         ensures plain { OnOk result (IfSome (structured self.now) (IsEnvelopePlain profile)) }
         ensures stored { OnOk result (IfSome (structured self.now) (IsEnvelopeStored profile)) }
         ensures sized { OnOk result (IfSome (structured self.now) (IsEnvelopeSized profile)) }
         ensures not_plain { (result ≡ Err EnvelopeWriteError.NotPlain) ↔ IsUnwritable self.now }
-        ensures nothing_sent { IfErr result (λ e. e ≢ EnvelopeWriteError.Io) }
+        ensures no_io { IfErr result (λ e. e ≢ EnvelopeWriteError.Io) }
     {
         if self.is_unwritable() {
             return Err(EnvelopeWriteError::NotPlain);
@@ -378,6 +380,8 @@ impl Envelope {
         let Ok(text) = self.build_text(alloc) else {
             return Err(EnvelopeWriteError::Memory);
         };
+        // Parts that lie in memory have fewer than 2^64 bytes together: that is counted here, for
+        // `sized`.
         match text.len() {
             Some(_) => Ok(text),
             None => Err(EnvelopeWriteError::Memory),

@@ -1,7 +1,9 @@
 -- Texts in parts: what is appended, counted and sent, part by part.
-use Rattle.std.proofs.Common.{◌≡◌, ◌+◌, ◌<◌, ◌≤◌, ℕ, suc, length, get_or, drop, drop-cons, add-one, List, [], ◌∷◌, ◌++◌, Option, sym, ap, ◌∙◌, subst, append_assoc, append-nil}
+use Rattle.std.proofs.Common.{◌≡◌, ◌+◌, ◌<◌, ◌≤◌, ℕ, suc, length, get_or, drop, drop-cons, add-one, List, [], ◌∷◌, ◌++◌, Option, map, sym, ap, ◌∙◌, subst, append_assoc, append-nil}
 use Rattle.std.proofs.lemmas.List.{drop_all}
+use Rattle.std.specs.Borrow.{Bor}
 use Rattle.std.specs.Io.KnownBytes.{Appends}
+use Rattle.std.specs.List.{concat}
 use Rattle.sentry_json.specs.Line.{newline}
 use Rattle.sentry_framing.specs.Framing.{with_line}
 use Rattle.sentry_framing.proofs.Sent.{front_of_first, front_of_second}
@@ -63,3 +65,22 @@ piece_fails old between new text front piece rest is sent failed =
 -- the same of the last piece
 pub end_fails : (old between new : Option (List ℕ)) (text front piece : List ℕ) → text ≡ front ++ piece → Appends old between front → AppendsFront between new piece → AppendsFront old new text
 end_fails old between new text front piece is sent failed = subst (AppendsFront old new) (sym is) (front_of_second old between new front piece sent failed)
+
+-- ---- pieces
+
+abbrev pub pieces_bytes : List (Bor (List ℕ)) → List ℕ
+pieces_bytes pieces = concat (map (λ piece. piece.now) pieces)
+
+-- one piece more
+pieces_behind : (pieces : List (Bor (List ℕ))) (piece : Bor (List ℕ)) → pieces_bytes (pieces ++ piece ∷ []) ≡ pieces_bytes pieces ++ piece.now
+pieces_behind [] piece = append-nil piece.now
+pieces_behind (p ∷ ps) piece = ap (λ x. p.now ++ x) (pieces_behind ps piece) ∙ sym (append_assoc p.now (pieces_bytes ps) piece.now)
+
+-- the next piece joins those before it
+pub next_piece : (pieces all : List (Bor (List ℕ))) (piece : Bor (List ℕ)) (text bytes rest : List ℕ) → all ≡ pieces ++ piece ∷ [] → piece.now ≡ bytes → text ≡ pieces_bytes pieces ++ (bytes ++ rest) → text ≡ pieces_bytes all ++ rest
+next_piece pieces all piece text bytes rest more is so_far =
+    piece_joins text (pieces_bytes pieces) bytes rest so_far ∙ ap (λ s. s ++ rest) (sym (ap pieces_bytes more ∙ pieces_behind pieces piece ∙ ap (λ s. pieces_bytes pieces ++ s) is))
+
+-- the last piece ends the text
+pub last_piece : (pieces all : List (Bor (List ℕ))) (piece : Bor (List ℕ)) (text bytes : List ℕ) → all ≡ pieces ++ piece ∷ [] → piece.now ≡ bytes → text ≡ pieces_bytes pieces ++ bytes → pieces_bytes all ≡ text
+last_piece pieces all piece text bytes more is so_far = ap pieces_bytes more ∙ pieces_behind pieces piece ∙ ap (λ s. pieces_bytes pieces ++ s) is ∙ sym so_far

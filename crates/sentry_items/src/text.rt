@@ -1,6 +1,7 @@
 //! Texts that are built whole and then sent; large pieces of them are not copied.
 
-ghost use Rattle.std.specs.Prelude.{◌≡◌, ◌+◌, ◌-◌, ◌^◌, ◌<◌, ◌++◌, IfOk, IfSome, OnOk, OnErr, length};
+ghost use Rattle.std.specs.Prelude.{◌≡◌, ◌+◌, ◌-◌, ◌^◌, ◌<◌, ◌++◌, IfOk, IfSome, OnOk, OnErr, length, map};
+ghost use Rattle.std.specs.List.{concat};
 ghost use Rattle.std.specs.Io.KnownBytes.{Appends};
 ghost use Rattle.sentry_framing.specs.Sending.{AppendsFront};
 ghost use Rattle.sentry_items.specs.Counted.{writer_failures, writer_inside};
@@ -12,8 +13,9 @@ use std::alloc::{AllocError, Global};
 use std::io::Write;
 use std::mem;
 
-// So many bytes are lent or moved: a further write costs less than a copy.
-const LARGE: usize = 1 << 16;
+// So many bytes are lent or moved: a copy costs more than a further piece. Buffered writers commonly
+// hand on as many without a copy.
+const LARGE: usize = 1 << 13;
 
 // Bytes of the text's own, and then some that are lent.
 #[derive(Drop)]
@@ -109,6 +111,21 @@ impl<'e> Text<'e> {
         }
         whole.extend_from_slice(&self.end)?;
         Ok(whole)
+    }
+
+    /// Returns the text in pieces, in order, which aren't copied. `AllocError` if an allocation
+    /// fails.
+    pub fn pieces(&self, alloc: Global) -> Result<Vec<&[u8]>, AllocError>
+        ensures { IfOk result (λ pieces.
+            concat (map (λ piece. piece.now) pieces.items) ≡ bytes_of self.now) }
+    {
+        let mut pieces = Vec::new(alloc);
+        for part in &self.parts {
+            pieces.push(part.own.as_slice())?;
+            pieces.push(part.lent)?;
+        }
+        pieces.push(self.end.as_slice())?;
+        Ok(pieces)
     }
 
     // Writes the text to a writer, and counts a failure in `failures`.

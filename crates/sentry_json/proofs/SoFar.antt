@@ -10,7 +10,7 @@ use Rattle.json.specs.Tree.{items_depth, members_depth}
 use Rattle.json.specs.Word.{ends_word}
 use Rattle.serde_json.specs.Data as serde
 use Rattle.serde_json.specs.Read.{of_json, of_items, of_members}
-use Rattle.sentry_json.specs.Spelled.{lexemes, items_lexemes, members_lexemes, IsSpaced, Spells, SpellsString}
+use Rattle.sentry_json.specs.Spelled.{lexemes, items_lexemes, members_lexemes, IsBehind, IsSpaced, Spells, SpellsString}
 use Rattle.sentry_json.specs.Tokens.{kept, width, text_of, value_of, items_by, items_of, members_by, members_of}
 use Rattle.sentry_json.specs.declared.tape.token.Token.{Token}
 use Rattle.sentry_json.specs.declared.tape.token.Token.TheVariants as value
@@ -167,12 +167,12 @@ ends of true text left rest after done first inside most deep not_due so s is ro
 ends of false text left rest after done first inside most deep not_due so s is room =
     closed of text rest after (done ++ (first ∷ inside)) most deep (behind of text left rest done first inside most so s (ap ends_word is ∙ closes_word of after)) is room
 
-pub empty : (of : Bool) (text after : List ℕ) (deep : ℕ) → text ≡ closes of ∷ after → 0 < deep → Spells (opens of ∷ text) after (bracket of 0) [] deep
+pub empty : (of : Bool) (text after : List ℕ) (deep : ℕ) → IsBehind (closes of) text after → 0 < deep → Spells (opens of ∷ text) after (bracket of 0) [] deep
 unfolding lex items_by members_by
-empty false text after deep is room =
-    record { json = array no_items; lexed = λ ended. ap (λ t. token json_token.begin_array ∷ lex between t) is; meant = ap Some (sym (value_array 0 [])); closed = refl; shallow = omega (arith, room) }
-empty true text after deep is room =
-    record { json = object no_members; lexed = λ ended. ap (λ t. token json_token.begin_object ∷ lex between t) is; meant = ap Some (sym (value_object 0 [])); closed = refl; shallow = omega (arith, room) }
+empty false text after deep (front, spaced, is) room =
+    record { json = array no_items; lexed = λ ended. ap (λ ls. token json_token.begin_array ∷ ls) (spaced.lexed ∙ ap (lex between) is); meant = ap Some (sym (value_array 0 [])); closed = refl; shallow = omega (arith, room) }
+empty true text after deep (front, spaced, is) room =
+    record { json = object no_members; lexed = λ ended. ap (λ ls. token json_token.begin_object ∷ ls) (spaced.lexed ∙ ap (lex between) is); meant = ap Some (sym (value_object 0 [])); closed = refl; shallow = omega (arith, room) }
 
 -- ---- the tokens
 

@@ -104,8 +104,8 @@ impl<'a> Tape<'a> {
     /// Reads a line, in place of the one before, and returns its root node.
     ///
     /// The line is JSON by RFC 8259, nested at most 127 deep. Its numbers are integers of 64 bits,
-    /// in digits alone and other than `-0`; no white space stands between brackets that hold
-    /// nothing. `None` if it isn't such a line, never because an allocation fails.
+    /// in digits alone and other than `-0`. `None` if it isn't such a line, never because an
+    /// allocation fails.
     ///
     /// # Errors
     ///
@@ -277,7 +277,7 @@ impl<'a> Tape<'a> {
         let place = self.tokens.len();
         self.keep::<KEPT>(bracket(object, 0))?;
         let close = closing(object);
-        if let Some(rest) = text.after(close) {
+        if let Some(rest) = text.after_spaced(close) {
             return Some(rest);
         }
         let mut left = text;

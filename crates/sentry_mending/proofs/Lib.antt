@@ -1,3 +1,4 @@
 pub mod Given
+pub mod Left
 pub mod Refusals
 pub mod Timed

@@ -1,23 +1,25 @@
 //! Reads an envelope of which some items don't fit.
 
-ghost use Rattle.std.specs.Prelude.{◌≡◌, ◌≢◌, [], None, Some, IfErr, IfOk, IfSome, IsSomeAnd, OnOk, List, ℕ, false, slice_range};
+ghost use Rattle.std.specs.Prelude.{◌≡◌, ◌≢◌, ◌≤◌, [], None, Some, IfErr, IfOk, IfSome, IsSomeAnd, OnOk, List, ℕ, false, length, slice_range, take};
 ghost use Rattle.std.specs.List.{All};
 ghost use Rattle.sentry_envelope.specs.Envelope.{Spells};
 ghost use Rattle.sentry_envelope.specs.EnvelopeView.{structured};
 ghost use Rattle.sentry_envelope.specs.SentryProfile.{profile};
 ghost use Rattle.sentry_moments.specs.Moments.{moment_cell};
-ghost use Rattle.sentry_mending.specs.Alone.{Fails};
+ghost use Rattle.sentry_mending.specs.Alone.{Fails, RefusesPayload, alone};
 ghost use Rattle.sentry_mending.specs.HeaderIds.{StatesId};
-ghost use Rattle.sentry_mending.specs.MendedItems.{IsMended, StatesLength, all_notes};
+ghost use Rattle.sentry_mending.specs.MendedItems.{IsMended, LeavesOut, all_notes};
 ghost use Rattle.sentry_mending.specs.Times.{IsTimeOf};
+ghost use Rattle.sentry_mending.specs.declared.fault.Fault.{Fault as Faults};
 ghost use Rattle.sentry_places.specs.Honest.{IsHonest};
+ghost use Rattle.sentry_places.specs.Needed.{AreNeeded};
 ghost use Rattle.sentry_places.specs.Spliced.{AreInOrder, spliced};
 
 use crate::fault::{Cause, Fault};
 use crate::header_ids::header_id;
-use crate::items::{Framed, Spot, copied, item_causes, next_spot, spot_error};
+use crate::items::{Framed, Spot, copied, item_causes, next_spot, same, spot_error};
 use crate::reading::not_memory;
-use crate::repairs::{Repaired, may_stand, try_id, try_repairs};
+use crate::repairs::{Repaired, are_true, try_id, try_repairs};
 use rand_core::Rng;
 use sentry_envelope::Envelope;
 use sentry_forward::AnyFrames;
@@ -119,8 +121,8 @@ impl From<AllocError> for Refusal {
 fn left_notes(alloc: Global, spot: &Spot) -> Result<Vec<Note>, AllocError>
     ensures honest { IfOk result (λ notes. (bytes : List ℕ) →
         All (IsHonest IsTimeOf bytes) notes.items) }
-    ensures lengths { IfOk result (λ notes. (payload : List ℕ) →
-        All (StatesLength payload) notes.items) }
+    ensures leaves { IfOk result (λ notes. (fault : Faults) → fault.start ≡ spot.now.start →
+        fault.end ≡ spot.now.end → LeavesOut fault notes.items) }
 {
     let mut notes = Vec::with_capacity(alloc, 1)?;
     notes.push(Note {
@@ -180,28 +182,27 @@ fn item_fault(
     })
 }
 
-// Leaves an item out.
+// Leaves an item out that is refused for this check.
 fn leave_item<R: Rng>(
     alloc: Global,
     bytes: &[u8],
     spot: &Spot,
+    error: &EnvelopeError,
     stuck: Option<Place>,
     rules: MendRules,
     stands: &Option<EnvelopeError>,
     now: Moment,
     ids: &mut R,
-) -> Result<Option<MendedItem>, AllocError>
-    requires { stands.now ≢ None }
-    ensures { IfOk result (λ o. IfSome o
-        (IsMended profile (moment_cell now) rules bytes.now stands.now)) }
+) -> Result<MendedItem, AllocError>
+    requires refused { stands.now ≢ None }
+    requires fails { Fails profile (alone (slice_range bytes.now spot.now.start spot.now.end))
+        error.now }
+    ensures { IfOk result (IsMended profile (moment_cell now) rules bytes.now stands.now) }
 {
-    let Some(error) = spot_error(alloc, bytes, spot, now, ids)? else {
-        return Ok(None);
-    };
-    let cause = left_cause(alloc, bytes, spot, &error, stuck, now, ids)?;
+    let cause = left_cause(alloc, bytes, spot, error, stuck, now, ids)?;
     let frame = left_notes(alloc, spot)?;
-    let fault = item_fault(alloc, spot, error, cause)?;
-    Ok(Some(MendedItem {
+    let fault = item_fault(alloc, spot, same(error), cause)?;
+    Ok(MendedItem {
         item: spot.item,
         fault: Some(fault),
         frame,
@@ -209,37 +210,39 @@ fn leave_item<R: Rng>(
         payload: Vec::new(alloc),
         payload_start: spot.end,
         payload_end: spot.end,
-    }))
+    })
 }
 
-// Repairs an item; `None` if it reads as it stands, or the repairs may not stand.
+// Repairs an item that is refused for this check. If that isn't possible, returns a place that can't
+// be repaired, if there is one.
 fn repair_item<R: Rng>(
     alloc: Global,
     bytes: &[u8],
     spot: &Spot,
     framed: Framed,
-    repaired: Repaired,
+    error: &EnvelopeError,
     rules: MendRules,
     id: Option<Uuid>,
     stands: &Option<EnvelopeError>,
     now: Moment,
     ids: &mut R,
-) -> Result<Option<MendedItem>, AllocError>
+) -> Result<(Option<MendedItem>, Option<Place>), AllocError>
     requires stated { IfSome id (StatesId (moment_cell now) bytes.now) }
     requires refused { stands.now ≢ None }
-    ensures { IfOk result (λ o. IfSome o
+    requires fails { Fails profile (alone (slice_range bytes.now spot.now.start spot.now.end))
+        error.now }
+    ensures { IfOk result (λ tried. IfSome tried.0
         (IsMended profile (moment_cell now) rules bytes.now stands.now)) }
 {
-    let Some(error) = spot_error(alloc, bytes, spot, now, ids)? else {
-        return Ok(None);
+    let (repaired, stuck) = try_repairs(alloc, bytes, spot, framed, rules, id, now, ids)?;
+    let Some(repaired) = repaired else {
+        return Ok((None, stuck));
     };
-    if !may_stand(
-        alloc, bytes, framed, &repaired, &spot.word, rules, id, now, ids,
-    )? {
-        return Ok(None);
+    if !are_true(alloc, bytes, framed, &repaired, rules, id, now)? {
+        return Ok((None, stuck));
     }
-    let fault = item_fault(alloc, spot, error, Cause::Whole)?;
-    Ok(Some(MendedItem {
+    let fault = item_fault(alloc, spot, same(error), Cause::Whole)?;
+    let item = MendedItem {
         item: spot.item,
         fault: Some(fault),
         frame: repaired.frame,
@@ -247,7 +250,8 @@ fn repair_item<R: Rng>(
         payload: repaired.payload,
         payload_start: framed.payload_start,
         payload_end: framed.payload_end,
-    }))
+    };
+    Ok((Some(item), None))
 }
 
 // Gives an item that reads the header's id, if it is an event or a transaction without one.
@@ -271,9 +275,7 @@ fn identify_item<R: Rng>(
     let Some(repaired) = try_id(alloc, bytes, spot, framed, id, now, ids)? else {
         return Ok(None);
     };
-    if !may_stand(
-        alloc, bytes, framed, &repaired, &spot.word, rules, id, now, ids,
-    )? {
+    if !are_true(alloc, bytes, framed, &repaired, rules, id, now)? {
         return Ok(None);
     }
     if !repaired.payload.is_empty() {
@@ -288,6 +290,68 @@ fn identify_item<R: Rng>(
         payload_start: framed.payload_start,
         payload_end: framed.payload_end,
     }))
+}
+
+// Repairs an item that is refused for this check, or leaves it out.
+fn mend_framed_item<R: Rng>(
+    alloc: Global,
+    bytes: &[u8],
+    spot: &Spot,
+    framed: Framed,
+    error: &EnvelopeError,
+    rules: MendRules,
+    id: Option<Uuid>,
+    stands: &Option<EnvelopeError>,
+    now: Moment,
+    ids: &mut R,
+) -> Result<MendedItem, AllocError>
+    requires stated { IfSome id (StatesId (moment_cell now) bytes.now) }
+    requires refused { stands.now ≢ None }
+    requires fails { Fails profile (alone (slice_range bytes.now spot.now.start spot.now.end))
+        error.now }
+    ensures { IfOk result (IsMended profile (moment_cell now) rules bytes.now stands.now) }
+{
+    let (made, stuck) = repair_item(
+        alloc, bytes, spot, framed, error, rules, id, stands, now, ids,
+    )?;
+    if let Some(item) = made {
+        return Ok(item);
+    }
+    let left = leave_item(alloc, bytes, spot, error, stuck, rules, stands, now, ids)?;
+    Ok(left)
+}
+
+// Repairs an item that is refused for this check, or leaves it out; always if its framing is at
+// fault.
+fn mend_refused_item<R: Rng>(
+    alloc: Global,
+    bytes: &[u8],
+    spot: &Spot,
+    error: &EnvelopeError,
+    rules: MendRules,
+    id: Option<Uuid>,
+    stands: &Option<EnvelopeError>,
+    now: Moment,
+    ids: &mut R,
+) -> Result<MendedItem, AllocError>
+    requires stated { IfSome id (StatesId (moment_cell now) bytes.now) }
+    requires refused { stands.now ≢ None }
+    requires fails { Fails profile (alone (slice_range bytes.now spot.now.start spot.now.end))
+        error.now }
+    ensures { IfOk result (IsMended profile (moment_cell now) rules bytes.now stands.now) }
+{
+    match spot.framed {
+        Some(framed) => {
+            let item = mend_framed_item(
+                alloc, bytes, spot, framed, error, rules, id, stands, now, ids,
+            )?;
+            Ok(item)
+        }
+        None => {
+            let left = leave_item(alloc, bytes, spot, error, None, rules, stands, now, ids)?;
+            Ok(left)
+        }
+    }
 }
 
 // Repairs an item that is refused, or leaves it out, and gives one that reads the header's id;
@@ -306,21 +370,14 @@ fn mend_item<R: Rng>(
     ensures { IfOk result (λ o. IfSome o
         (IsMended profile (moment_cell now) rules bytes.now stands.now)) }
 {
-    if stands.is_none() || spot_error(alloc, bytes, spot, now, ids)?.is_none() {
-        let made = identify_item(alloc, bytes, spot, rules, id, stands, now, ids)?;
-        return Ok(made);
+    if stands.is_some()
+        && let Some(error) = spot_error(alloc, bytes, spot, now, ids)?
+    {
+        let item = mend_refused_item(alloc, bytes, spot, &error, rules, id, stands, now, ids)?;
+        return Ok(Some(item));
     }
-    let (repaired, stuck) = try_repairs(alloc, bytes, spot, rules, id, now, ids)?;
-    if let (Some(repaired), Some(framed)) = (repaired, spot.framed) {
-        let made = repair_item(
-            alloc, bytes, spot, framed, repaired, rules, id, stands, now, ids,
-        )?;
-        if made.is_some() {
-            return Ok(made);
-        }
-    }
-    let left = leave_item(alloc, bytes, spot, stuck, rules, stands, now, ids)?;
-    Ok(left)
+    let made = identify_item(alloc, bytes, spot, rules, id, stands, now, ids)?;
+    Ok(made)
 }
 
 // Appends the item, if it is changed.

@@ -119,17 +119,15 @@ fn payload_text(
     Ok(Some(text))
 }
 
-// Returns whether a note puts this text, if it is on `length`.
+// Returns whether a note is on `length` and puts this text.
 fn puts_length(note: &Note, length: &str) -> bool
-    ensures { IsTrue result → note.now.repair ≡ Length → note.now.instead.items ≡ length.now }
+    ensures { IsTrue result →
+        (note.now.repair ≡ Length) × (note.now.instead.items ≡ length.now) }
 {
-    if note.repair != Repair::Length {
-        return true;
-    }
-    note.instead.as_slice() == length.as_bytes()
+    note.repair == Repair::Length && note.instead.as_slice() == length.as_bytes()
 }
 
-// Returns whether each note on `length` puts that of these bytes.
+// Returns whether each note is on `length` and puts that of these bytes.
 fn state_length(alloc: Global, notes: &[Note], payload: &[u8]) -> Result<bool, AllocError>
     ensures { IfOk result (λ b. IsTrue b → All (StatesLength payload.now) notes.now) }
 {
@@ -207,8 +205,8 @@ fn reads_with<R: Rng>(
     Ok(found.is_none())
 }
 
-// Returns whether notes put what they say.
-fn are_true(
+/// Returns whether notes put what they say.
+pub(crate) fn are_true(
     alloc: Global,
     bytes: &[u8],
     framed: Framed,
@@ -261,52 +259,24 @@ fn are_true(
     }
 }
 
-/// Returns whether notes may stand: each puts what it says, and if they are few, each is needed.
-pub(crate) fn may_stand<R: Rng>(
+// Returns whether each note is needed, or there are more than are tested.
+fn may_be_needed<R: Rng>(
     alloc: Global,
     bytes: &[u8],
-    framed: Framed,
-    repaired: &Repaired,
+    start: usize,
+    notes: &[Note],
+    most: usize,
     word: &[u8],
-    rules: MendRules,
-    id: Option<Uuid>,
     now: Moment,
     ids: &mut R,
 ) -> Result<bool, AllocError>
-    requires { IfSome id (StatesId (moment_cell now) bytes.now) }
-    ensures honest_frame { IfOk result (λ b. IsTrue b →
-        All (IsHonest IsTimeOf bytes.now) repaired.now.frame.items) }
-    ensures honest_payload { IfOk result (λ b. IsTrue b →
-        All (IsHonest IsTimeOf bytes.now) repaired.now.payload.items) }
-    ensures given { IfOk result (λ b. IsTrue b →
-        All (GivesId (moment_cell now) bytes.now) repaired.now.id.items) }
-    ensures not_asked { IfOk result (λ b. IsTrue b →
-        rules.header_event_id ≡ false → repaired.now.id.items ≡ []) }
-    ensures lengths { IfOk result (λ b. IsTrue b → All (StatesLength (spliced framed.payload_start
-        (repaired.now.id.items ++ repaired.now.payload.items) (take framed.payload_end bytes.now)))
-        repaired.now.frame.items) }
-    ensures needed { IfOk result (λ b. IsTrue b →
-        length repaired.now.payload.items ≤ rules.max_tested → AreNeeded (RefusesPayload profile word.now)
-        framed.payload_start (take framed.payload_end bytes.now) repaired.now.payload.items) }
+    ensures { IfOk result (λ b. IsTrue b → length notes.now ≤ most →
+        AreNeeded (RefusesPayload profile word.now) start bytes.now notes.now) }
 {
-    if framed.payload_end > bytes.len() {
-        return Ok(false);
-    }
-    if !are_true(alloc, bytes, framed, repaired, rules, id, now)? {
-        return Ok(false);
-    }
-    if repaired.payload.len() > rules.max_tested {
+    if notes.len() > most {
         return Ok(true);
     }
-    let needed = are_needed(
-        alloc,
-        &bytes[..framed.payload_end],
-        framed.payload_start,
-        &repaired.payload,
-        word,
-        now,
-        ids,
-    )?;
+    let needed = are_needed(alloc, bytes, start, notes, word, now, ids)?;
     Ok(needed)
 }
 
@@ -331,7 +301,9 @@ fn with_frame<R: Rng>(
     payload: Vec<Note>,
     now: Moment,
     ids: &mut R,
-) -> Result<Option<Repaired>, AllocError> {
+) -> Result<Option<Repaired>, AllocError>
+    ensures { IfOk result (λ o. IfSome o (λ r. r.payload.items ≡ payload.items)) }
+{
     let part = cut(bytes, 0, framed.payload_end);
     let Some(text) = payload_text(alloc, part, framed.payload_start, &id, &payload)? else {
         return Ok(None);
@@ -388,31 +360,49 @@ fn id_beside<R: Rng>(
     Ok(if refused { Vec::new(alloc) } else { notes })
 }
 
-/// Looks for repairs with which an item reads, or else for a place that can't be repaired.
-pub(crate) fn try_repairs<R: Rng>(
+// Returns notes of which each is needed, if they are few enough to be tested: those that aren't are
+// dropped. `None` if that doesn't lead there.
+fn needed_notes<R: Rng>(
+    alloc: Global,
+    bytes: &[u8],
+    start: usize,
+    notes: Vec<Note>,
+    most: usize,
+    word: &[u8],
+    now: Moment,
+    ids: &mut R,
+) -> Result<Option<Vec<Note>>, AllocError>
+    ensures { IfOk result (λ o. IfSome o (λ notes. length notes.items ≤ most →
+        AreNeeded (RefusesPayload profile word.now) start bytes.now notes.items)) }
+{
+    let mut notes = notes;
+    if !may_be_needed(alloc, bytes, start, &notes, most, word, now, ids)? {
+        prune(alloc, bytes, start, &mut notes, word, now, ids)?;
+        if !may_be_needed(alloc, bytes, start, &notes, most, word, now, ids)? {
+            return Ok(None);
+        }
+    }
+    Ok(Some(notes))
+}
+
+// Searches a payload of JSON for places to repair.
+fn search_payload<R: Rng>(
     alloc: Global,
     bytes: &[u8],
     spot: &Spot,
+    framed: Framed,
     rules: MendRules,
-    id: Option<Uuid>,
     now: Moment,
     ids: &mut R,
-) -> Result<(Option<Repaired>, Option<Place>), AllocError> {
-    let Some(framed) = spot.framed else {
-        return Ok((None, None));
-    };
-    if rules.repairs == Repairs::Strict || !is_searched(spot.kind) {
-        return Ok((None, None));
-    }
-    let payload = cut(bytes, 0, framed.payload_end);
+) -> Result<Searched, AllocError> {
+    let text = cut(bytes, framed.payload_start, framed.payload_end);
+    let is_searched = rules.repairs != Repairs::Strict && is_searched(spot.kind);
     // What isn't JSON has no values to repair.
-    if broken_at(
-        alloc,
-        cut(payload, framed.payload_start, framed.payload_end),
-    )?
-    .is_some()
-    {
-        return Ok((None, None));
+    if !is_searched || broken_at(alloc, text)?.is_some() {
+        return Ok(Searched {
+            notes: Vec::new(alloc),
+            stuck: None,
+        });
     }
     let reader = Reader {
         alloc,
@@ -421,27 +411,48 @@ pub(crate) fn try_repairs<R: Rng>(
         ids,
     };
     let start = framed.payload_start;
-    let searched = find_faults(
+    find_faults(
         alloc,
         reader,
         bytes,
         start,
         Some(rules.repairs),
         rules.max_notes,
-    )?;
+    )
+}
+
+/// Looks for repairs with which an item reads, or else for a place that can't be repaired.
+pub(crate) fn try_repairs<R: Rng>(
+    alloc: Global,
+    bytes: &[u8],
+    spot: &Spot,
+    framed: Framed,
+    rules: MendRules,
+    id: Option<Uuid>,
+    now: Moment,
+    ids: &mut R,
+) -> Result<(Option<Repaired>, Option<Place>), AllocError>
+    ensures { IfOk result (λ tried. IfSome tried.0 (λ r.
+        length r.payload.items ≤ rules.max_tested → AreNeeded (RefusesPayload profile
+        spot.now.word.items) framed.payload_start (take framed.payload_end bytes.now)
+        r.payload.items)) }
+{
+    if framed.payload_end > bytes.len() {
+        return Ok((None, None));
+    }
+    let payload = &bytes[..framed.payload_end];
+    let searched = search_payload(alloc, bytes, spot, framed, rules, now, ids)?;
     let Searched { notes, stuck } = searched;
-    let mut notes = notes;
     if notes.is_empty() {
         return Ok((None, stuck));
     }
-    if notes.len() <= rules.max_tested
-        && !are_needed(alloc, payload, start, &notes, &spot.word, now, ids)?
-    {
-        prune(alloc, payload, start, &mut notes, &spot.word, now, ids)?;
-    }
+    let start = framed.payload_start;
+    let most = rules.max_tested;
+    let word = &spot.word;
+    let Some(notes) = needed_notes(alloc, payload, start, notes, most, word, now, ids)? else {
+        return Ok((None, stuck));
+    };
     let id = id_beside(alloc, bytes, spot, framed, &notes, id, now, ids)?;
-    match with_frame(alloc, bytes, spot, framed, id, notes, now, ids)? {
-        Some(repaired) => Ok((Some(repaired), None)),
-        None => Ok((None, stuck)),
-    }
+    let repaired = with_frame(alloc, bytes, spot, framed, id, notes, now, ids)?;
+    Ok((repaired, stuck))
 }

@@ -43,12 +43,14 @@ pub(crate) const DONORS: [&str; 30] = [
 ];
 
 /// Values by which a place of a kind is known; the first that reads decides.
-pub(crate) const PROBES: [(&str, Wanted); 16] = [
+pub(crate) const PROBES: [(&str, Wanted); 18] = [
     (r#""?""#, Wanted::Text),
     ("true", Wanted::Boolean),
     ("[]", Wanted::List),
     (r#""1970-01-01T00:00:00Z""#, Wanted::Rfc3339),
     ("0", Wanted::Integer),
+    ("1", Wanted::Integer),
+    (r#""0""#, Wanted::NumberText),
     (r#""00000000000000000000000000000000""#, Wanted::Uuid),
     (r#""0000000000000000""#, Wanted::SpanId),
     (r#""http://a/""#, Wanted::Url),

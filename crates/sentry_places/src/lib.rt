@@ -4,6 +4,7 @@
 
 mod donors;
 pub mod honest;
+mod likely;
 pub mod needed;
 pub mod note;
 pub mod oracle;
@@ -11,6 +12,7 @@ pub mod scan;
 pub mod search;
 pub mod splicing;
 pub mod syntax;
+mod table;
 
 pub use honest::{Times, are_honest};
 pub use needed::splice_without;

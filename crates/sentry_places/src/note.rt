@@ -62,6 +62,8 @@ pub enum Wanted {
     Uuid,
     /// 16 hexadecimal digits.
     SpanId,
+    /// A number as a string.
+    NumberText,
     /// A URL.
     Url,
     /// One of some words.
@@ -85,6 +87,7 @@ impl Wanted {
             Wanted::Object => "an object",
             Wanted::Uuid => "a UUID",
             Wanted::SpanId => "16 hexadecimal digits",
+            Wanted::NumberText => "a number as a string",
             Wanted::Url => "a URL",
             Wanted::Word => "one of the known words",
             Wanted::Other => "another value",

@@ -78,3 +78,42 @@ pub(crate) fn wanted<O: Oracle>(
     }
     Ok(Wanted::Other)
 }
+
+/// What reads at a place.
+#[derive(Drop)]
+pub(crate) struct Known {
+    before: Vec<u8>,
+    behind: Vec<u8>,
+    wanted: Wanted,
+}
+
+// How many places are known at most.
+const MAX_KNOWN: usize = 64;
+
+/// Returns what reads at a place, if it is known.
+pub(crate) fn known_at(known: &[Known], around: Around<'_>) -> Option<Wanted> {
+    for place in known {
+        if place.before.as_slice() == around.before && place.behind.as_slice() == around.behind {
+            return Some(place.wanted);
+        }
+    }
+    None
+}
+
+/// Keeps what reads at a place.
+pub(crate) fn know(
+    alloc: Global,
+    known: &mut Vec<Known>,
+    around: Around<'_>,
+    wanted: Wanted,
+) -> Result<(), AllocError> {
+    if known.len() >= MAX_KNOWN {
+        known.clear();
+    }
+    known.push(Known {
+        before: joined(alloc, &[around.before])?,
+        behind: joined(alloc, &[around.behind])?,
+        wanted,
+    })?;
+    Ok(())
+}

@@ -139,10 +139,47 @@ pub fn value_of<'a>(text: &'a [u8], part: &Part) -> &'a [u8] {
     cut(text, part.start, part.end)
 }
 
+// Returns the value of a hexadecimal digit; 16 of any other byte.
+fn digit(byte: u8) -> u8 {
+    match byte {
+        b'0'..=b'9' => byte - b'0',
+        b'a'..=b'f' => byte - b'a' + 10,
+        b'A'..=b'F' => byte - b'A' + 10,
+        _ => 16,
+    }
+}
+
+// Returns the character that stands at an index of a key, and the index behind it: an escape by its
+// number stands for a character of ASCII.
+fn character(key: &[u8], at: usize) -> (u8, usize) {
+    let behind = at.saturating_add(6);
+    if cut(key, at, at.saturating_add(4)) == b"\\u00".as_slice() {
+        let high = digit(byte_at(key, at.saturating_add(4)));
+        let low = digit(byte_at(key, at.saturating_add(5)));
+        if high < 8 && low < 16 {
+            return (high * 16 + low, behind);
+        }
+    }
+    (byte_at(key, at), at.saturating_add(1))
+}
+
+/// Returns whether a key, with its quotes, is that of a word in quotes, however it is escaped.
+pub fn is_key(key: &[u8], word: &[u8]) -> bool {
+    let mut at = 0;
+    for byte in word {
+        let (found, behind) = character(key, at);
+        if found != *byte {
+            return false;
+        }
+        at = behind;
+    }
+    at == key.len()
+}
+
 /// Returns the first member of a key, which is given with its quotes.
 pub fn member_at(text: &[u8], parts: &[Part], key: &[u8]) -> Option<Part> {
     for part in parts {
-        if key_of(text, part) == key {
+        if is_key(key_of(text, part), key) {
             return Some(*part);
         }
     }

@@ -1,15 +1,20 @@
 //! Looks for the places of a JSON text that don't fit its type, from its members inwards.
 //!
 //! A place is tried alone: in a text that holds nothing else but what its tables require. So each
-//! place that doesn't fit is found, however many there are. Nothing is claimed of what is found:
-//! who asks has to try the whole.
+//! place that doesn't fit is found, however many there are. Those beside each other are tried
+//! together, twice as many each time they read, with the repairs that others of their shape got.
+//! Nothing is claimed of what is found: who asks has to try the whole.
 
 use crate::donors::{DONORS, STRING_ATTRIBUTE, UNTYPED};
 use crate::honest::quoted;
+use crate::likely::{Habit, Run, habit_of, keep, likely, run_text, shape_of};
 use crate::note::{Found, Note, Place, Repair, Repairs, Wanted};
-use crate::oracle::{Around, Oracle, fits, joined, wanted};
+use crate::oracle::{Around, Known, Oracle, fits, joined, know, known_at, wanted};
 use crate::scan::{
-    Part, byte_at, cut, found, key_of, member_at, parts, space_end, value_end, value_of,
+    Part, cut, found, is_key, key_of, member_at, parts, space_end, value_end, value_of,
+};
+use crate::table::{
+    Table, before_value, closed, empty_list, inside, item_path, member_path, opened,
 };
 use std::alloc::{AllocError, Global};
 
@@ -26,23 +31,14 @@ struct Search<'t, O> {
     most: usize,
     // what reads at places that were asked: the items of an array are all tried at one place
     known: Vec<Known>,
+    // repairs that others of their shape got
+    habits: Vec<Habit>,
     notes: Vec<Note>,
     // the first place that can't be repaired
     stuck: Option<Place>,
     // there would be more notes
     over: bool,
 }
-
-// What reads at a place.
-#[derive(Drop)]
-struct Known {
-    before: Vec<u8>,
-    behind: Vec<u8>,
-    wanted: Wanted,
-}
-
-// How many places are known at most.
-const MAX_KNOWN: usize = 64;
 
 /// What a search found.
 #[derive(Drop)]
@@ -53,73 +49,11 @@ pub struct Searched {
     pub stuck: Option<Place>,
 }
 
-// Returns what stands between the brackets of an object, with a comma if that is something.
-fn inside(alloc: Global, object: &[u8]) -> Result<Vec<u8>, AllocError> {
-    let members = cut(object, 1, object.len().saturating_sub(1));
-    let mut all = joined(alloc, &[members])?;
-    if !members.is_empty() {
-        all.push(b',')?;
-    }
-    Ok(all)
-}
-
-// A table, by the smallest object that it reads.
-#[derive(Drop)]
-struct Table {
-    donor: &'static [u8],
-    // members of the donor
-    required: Vec<Part>,
-    // text of the donor's members, with a comma if there are some
-    members: Vec<u8>,
-    // an object's own `type` becomes that of the donor
-    retyped: bool,
-}
-
-impl Table {
-    // Returns the donor's value of a key.
-    fn usual(&self, key: &[u8]) -> Option<&'static [u8]> {
-        let part = member_at(self.donor, &self.required, key)?;
-        Some(value_of(self.donor, &part))
-    }
-}
-
 // What becomes of a member that doesn't fit.
 enum Fate {
     Kept,
     TakenOut,
     Stuck,
-}
-
-// Returns what stands before the value of a member, in an object with what its table requires.
-fn before_member(
-    alloc: Global,
-    around: Around<'_>,
-    members: &[u8],
-    key: &[u8],
-) -> Result<Vec<u8>, AllocError> {
-    let open = joined(alloc, &[around.before, b"{".as_slice()])?;
-    joined(alloc, &[&open, members, key, b":".as_slice()])
-}
-
-// Returns the path of a member, whose key is given with its quotes.
-fn member_path(alloc: Global, path: &[u8], key: &[u8]) -> Result<Vec<u8>, AllocError> {
-    let mut all = joined(alloc, &[path])?;
-    if !path.is_empty() {
-        all.push(b'.')?;
-    }
-    all.extend_from_slice(cut(key, 1, key.len().saturating_sub(1)))?;
-    Ok(all)
-}
-
-// Returns a member with an empty list, behind a comma if another member stands before it.
-fn empty_list(alloc: Global, key: &[u8], kept: bool) -> Result<Vec<u8>, AllocError> {
-    let mut all = Vec::new(alloc);
-    if kept {
-        all.push(b',')?;
-    }
-    all.extend_from_slice(key)?;
-    all.extend_from_slice(b":[]")?;
-    Ok(all)
 }
 
 impl<O: Oracle> Search<'_, O> {
@@ -130,22 +64,11 @@ impl<O: Oracle> Search<'_, O> {
 
     // Returns what reads at a place.
     fn wanted(&mut self, around: Around<'_>) -> Result<Wanted, AllocError> {
-        for place in self.known.iter() {
-            if place.before.as_slice() == around.before
-                && place.behind.as_slice() == around.behind
-            {
-                return Ok(place.wanted);
-            }
+        if let Some(wanted) = known_at(&self.known, around) {
+            return Ok(wanted);
         }
         let wanted = wanted(self.alloc, &mut self.oracle, around)?;
-        if self.known.len() >= MAX_KNOWN {
-            self.known.clear();
-        }
-        self.known.push(Known {
-            before: joined(self.alloc, &[around.before])?,
-            behind: joined(self.alloc, &[around.behind])?,
-            wanted,
-        })?;
+        know(self.alloc, &mut self.known, around, wanted)?;
         Ok(wanted)
     }
 
@@ -192,6 +115,13 @@ impl<O: Oracle> Search<'_, O> {
         }
         self.notes.push(note)?;
         Ok(true)
+    }
+
+    // Drops the notes from an index on, but where there would be more than are listed.
+    fn drop_notes(&mut self, from: usize) {
+        if self.repairs.is_some() || !self.over {
+            self.notes.truncate(from);
+        }
     }
 
     // Whether what is lost with a value may be lost: all may, or nothing is.
@@ -255,23 +185,136 @@ impl<O: Oracle> Search<'_, O> {
         }
         let text = quoted(self.alloc, value)?;
         if self.takes(part, around, path, Repair::AsText, text)? {
+            self.learn(part, path)?;
             return Ok(true);
         }
         if matches!(kind, Found::Integer | Found::Decimal)
             && let Some(time) = self.oracle.time_of(value)?
+            && self.takes(part, around, path, Repair::AsMoment, time)?
         {
-            return self.takes(part, around, path, Repair::AsMoment, time);
+            self.learn(part, path)?;
+            return Ok(true);
         }
         Ok(false)
+    }
+
+    // Keeps the last repair for others of its shape.
+    fn learn(&mut self, part: Part, path: &[u8]) -> Result<(), AllocError> {
+        let Some(note) = self.notes.last() else {
+            return Ok(());
+        };
+        let value = value_of(self.text, &part);
+        if let Some(habit) = habit_of(self.alloc, note, value, path)? {
+            keep(&mut self.habits, habit)?;
+        }
+        Ok(())
+    }
+
+    // Keeps the last habit for members of any key, if it is that of this member, and a member of a
+    // key that no table has is refused as this one was and reads as it does now.
+    fn learn_any_key(
+        &mut self,
+        part: Part,
+        around: Around<'_>,
+        path: &[u8],
+    ) -> Result<(), AllocError> {
+        let alloc = self.alloc;
+        let (Some(habit), Some(note)) = (self.habits.last(), self.notes.last()) else {
+            return Ok(());
+        };
+        let (found, wanted, repair) = (habit.found, habit.wanted, habit.repair);
+        // Of a moment others have no part: where a string reads, a number becomes one.
+        if repair != Repair::AsText || found != note.place.found || note.start != part.start {
+            return Ok(());
+        }
+        let instead = joined(alloc, &[&note.instead])?;
+        let before = before_value(alloc, around, b"\"?\"")?;
+        let unknown = Around {
+            before: &before,
+            behind: around.behind,
+        };
+        let value = value_of(self.text, &part);
+        if self.fits(unknown, value)? || !self.fits(unknown, &instead)? {
+            return Ok(());
+        }
+        let habit = Habit {
+            shape: shape_of(alloc, path)?,
+            any_key: true,
+            found,
+            stood: Vec::new(alloc),
+            wanted,
+            repair,
+        };
+        keep(&mut self.habits, habit)
+    }
+
+    // Tries a run at once, with the repairs that are likely in it. Returns whether it reads; the
+    // repairs are noted then.
+    fn mend_run(&mut self, run: Run, around: Around<'_>, path: &[u8]) -> Result<bool, AllocError> {
+        let alloc = self.alloc;
+        let notes = likely(alloc, &self.oracle, self.text, &self.habits, run, path)?;
+        let Some(payload) = run_text(alloc, self.text, run, around, &notes)? else {
+            return Ok(false);
+        };
+        if !self.oracle.reads(&payload)? {
+            return Ok(false);
+        }
+        if !notes.is_empty() {
+            self.stuck = None;
+        }
+        for note in notes {
+            if !self.push(note)? {
+                return Ok(false);
+            }
+        }
+        Ok(true)
     }
 
     // Notes that the type of an attribute becomes `string`. Returns whether it may.
     fn retype(&mut self, part: Part, around: Around<'_>, path: &[u8]) -> Result<bool, AllocError> {
         let word = joined(self.alloc, &[b"\"string\"".as_slice()])?;
-        self.takes(part, around, path, Repair::AsStringType, word)
+        let takes = self.takes(part, around, path, Repair::AsStringType, word)?;
+        if takes {
+            self.learn(part, path)?;
+        }
+        Ok(takes)
     }
 
-    // Repairs a value, tried alone at its place, and notes the changes. Returns whether it fits then.
+    // Returns how many items or members from an index on read together: so many, or one, or none.
+    fn fit_run(
+        &mut self,
+        list: &[Part],
+        at: usize,
+        len: usize,
+        around: Around<'_>,
+        path: &[u8],
+    ) -> Result<usize, AllocError> {
+        if at >= list.len() || self.over {
+            return Ok(0);
+        }
+        let first = list[at];
+        let mut fit = len.min(list.len() - at).max(1);
+        for _ in 0..2u8 {
+            let last = at.saturating_add(fit).saturating_sub(1).min(list.len() - 1);
+            let run = Run {
+                begin: first.begin,
+                end: list[last].end,
+                is_array: first.begin == first.start,
+                index: at,
+            };
+            if self.mend_run(run, around, path)? {
+                return Ok(fit);
+            }
+            if fit == 1 {
+                break;
+            }
+            fit = 1;
+        }
+        Ok(0)
+    }
+
+    // Repairs a value that is refused alone at its place, and notes the changes. Returns whether it
+    // fits then.
     #[cycle(search)]
     fn mend(
         &mut self,
@@ -280,14 +323,10 @@ impl<O: Oracle> Search<'_, O> {
         path: &[u8],
         depth: usize,
     ) -> Result<bool, AllocError> {
-        let value = value_of(self.text, &part);
         if self.over {
             return Ok(false);
         }
-        if self.fits(around, value)? {
-            return Ok(true);
-        }
-        let kind = found(value);
+        let kind = found(value_of(self.text, &part));
         if depth > 0 {
             let below = depth - 1;
             if kind == Found::Array && self.fits(around, b"[]")? {
@@ -345,6 +384,28 @@ impl<O: Oracle> Search<'_, O> {
         })
     }
 
+    // Repairs an item of an array that is refused alone, or takes it out.
+    #[cycle(search)]
+    fn mend_item(
+        &mut self,
+        list: &[Part],
+        at: usize,
+        kept: bool,
+        around: Around<'_>,
+        path: &[u8],
+        depth: usize,
+    ) -> Result<Fate, AllocError> {
+        let path = item_path(self.alloc, path, at)?;
+        if at < list.len() && depth > 0 && self.mend(list[at], around, &path, depth - 1)? {
+            return Ok(Fate::Kept);
+        }
+        Ok(if self.take_out(list, at, kept, around, &path)? {
+            Fate::TakenOut
+        } else {
+            Fate::Stuck
+        })
+    }
+
     // Repairs the items of an array that reads where it is empty.
     #[cycle(search)]
     fn mend_items(
@@ -356,25 +417,58 @@ impl<O: Oracle> Search<'_, O> {
     ) -> Result<bool, AllocError> {
         let alloc = self.alloc;
         let list = parts(alloc, self.text, part.start)?;
-        let before = joined(alloc, &[around.before, b"[".as_slice()])?;
-        let behind = joined(alloc, &[b"]".as_slice(), around.behind])?;
-        let alone = Around {
+        let before = opened(alloc, around, b"[", b"")?;
+        let behind = closed(alloc, around, b"]")?;
+        let inside = Around {
             before: &before,
             behind: &behind,
         };
         let noted = self.notes.len();
-        let mut kept = false;
-        for i in 0..list.len() {
-            let name = format!(in alloc; "[{i}]")?;
-            let path = joined(alloc, &[path, name.as_str().as_bytes()])?;
-            if depth > 0 && self.mend(list[i], alone, &path, depth - 1)? {
-                kept = true;
-            } else if !self.take_out(&list, i, kept, alone, &path)? {
-                self.notes.truncate(noted);
-                return Ok(false);
-            }
+        if self.mend_parts(&list, inside, path, depth, None)?.is_some() {
+            return Ok(self.notes.len() > noted);
         }
-        Ok(self.notes.len() > noted)
+        self.drop_notes(noted);
+        Ok(false)
+    }
+
+    // Repairs the items of an array, or the members of an object of a table. Returns whether some
+    // are kept; `None` if not all can be repaired.
+    #[cycle(search)]
+    fn mend_parts(
+        &mut self,
+        list: &[Part],
+        around: Around<'_>,
+        path: &[u8],
+        depth: usize,
+        table: Option<&Table>,
+    ) -> Result<Option<bool>, AllocError> {
+        let mut kept = false;
+        let mut at = 0;
+        let mut len = 1;
+        for _ in 0..list.len() {
+            let fit = self.fit_run(list, at, len, around, path)?;
+            if fit > 0 {
+                kept = true;
+                at = at.saturating_add(fit);
+                len = fit.saturating_mul(2);
+                continue;
+            }
+            if at >= list.len() {
+                break;
+            }
+            let fate = match table {
+                Some(table) => self.mend_member(list, at, kept, around, path, depth, table)?,
+                None => self.mend_item(list, at, kept, around, path, depth)?,
+            };
+            match fate {
+                Fate::Kept => kept = true,
+                Fate::TakenOut => {}
+                Fate::Stuck => return Ok(None),
+            }
+            at = at.saturating_add(1);
+            len = 1;
+        }
+        Ok(Some(kept))
     }
 
     // Returns a table that reads where an object of these members stands, with the object's own tag
@@ -526,11 +620,10 @@ impl<O: Oracle> Search<'_, O> {
             }
             let path = member_path(alloc, path, key)?;
             if self.repairs.is_none() || value_of(table.donor, own) != b"[]".as_slice() {
-                let before = before_member(alloc, around, &table.members, key)?;
-                let behind = joined(alloc, &[b"}".as_slice(), around.behind])?;
+                let before = before_value(alloc, around, key)?;
                 let alone = Around {
                     before: &before,
-                    behind: &behind,
+                    behind: around.behind,
                 };
                 if !self.note_absent(&path, end, alone)? {
                     return Ok(false);
@@ -575,6 +668,44 @@ impl<O: Oracle> Search<'_, O> {
         }
     }
 
+    // Repairs a member that is refused alone, or takes it out.
+    #[cycle(search)]
+    fn mend_member(
+        &mut self,
+        list: &[Part],
+        at: usize,
+        kept: bool,
+        around: Around<'_>,
+        path: &[u8],
+        depth: usize,
+        table: &Table,
+    ) -> Result<Fate, AllocError> {
+        let alloc = self.alloc;
+        if at >= list.len() {
+            return Ok(Fate::Stuck);
+        }
+        let key = key_of(self.text, &list[at]);
+        let before = before_value(alloc, around, key)?;
+        let inner = member_path(alloc, path, key)?;
+        let alone = Around {
+            before: &before,
+            behind: around.behind,
+        };
+        let known = self.habits.len();
+        let fits = if table.retyped && is_key(key, b"\"type\"") {
+            self.retype(list[at], alone, &inner)?
+        } else {
+            depth > 0 && self.mend(list[at], alone, &inner, depth - 1)?
+        };
+        if !fits {
+            return self.settle(list, at, kept, alone, &inner, table);
+        }
+        if self.habits.len() > known {
+            self.learn_any_key(list[at], around, path)?;
+        }
+        Ok(Fate::Kept)
+    }
+
     // Repairs the members of an object, if some table reads where it stands; with `retyped` that of
     // string attributes, whose type the object gets.
     #[cycle(search)]
@@ -591,46 +722,20 @@ impl<O: Oracle> Search<'_, O> {
         let Some(table) = self.table_for(&list, around, retyped)? else {
             return Ok(false);
         };
-        let behind = joined(alloc, &[b"}".as_slice(), around.behind])?;
+        let before = opened(alloc, around, b"{", &table.members)?;
+        let behind = closed(alloc, around, b"}")?;
+        let inside = Around {
+            before: &before,
+            behind: &behind,
+        };
         let noted = self.notes.len();
-        let mut kept = false;
-        for i in 0..list.len() {
-            let key = key_of(self.text, &list[i]);
-            let before = before_member(alloc, around, &table.members, key)?;
-            let path = member_path(alloc, path, key)?;
-            let alone = Around {
-                before: &before,
-                behind: &behind,
-            };
-            if table.retyped && key == b"\"type\"".as_slice() {
-                if self.retype(list[i], alone, &path)? {
-                    kept = true;
-                    continue;
-                }
-            } else if depth > 0 && self.mend(list[i], alone, &path, depth - 1)? {
-                kept = true;
-                continue;
-            }
-            match self.settle(&list, i, kept, alone, &path, &table)? {
-                Fate::Kept => kept = true,
-                Fate::TakenOut => {}
-                Fate::Stuck => {
-                    self.notes.truncate(noted);
-                    return Ok(false);
-                }
-            }
-        }
-        if self.fill(
-            &list,
-            part.end.saturating_sub(1),
-            kept,
-            around,
-            path,
-            &table,
-        )? {
+        let end = part.end.saturating_sub(1);
+        if let Some(kept) = self.mend_parts(&list, inside, path, depth, Some(&table))?
+            && self.fill(&list, end, kept, inside, path, &table)?
+        {
             return Ok(self.notes.len() > noted);
         }
-        self.notes.truncate(noted);
+        self.drop_notes(noted);
         Ok(false)
     }
 }
@@ -667,6 +772,7 @@ pub fn find_faults<O: Oracle>(
         repairs,
         most,
         known: Vec::new(alloc),
+        habits: Vec::new(alloc),
         notes: Vec::new(alloc),
         stuck: None,
         over: false,
@@ -675,23 +781,17 @@ pub fn find_faults<O: Oracle>(
         before: b"",
         behind: b"",
     };
-    let fits = all.mend(whole, nothing, b"", DEPTH)?;
-    if !fits {
-        all.get_stuck(whole, b"", nothing)?;
+    let reads = all.fits(nothing, value_of(text, &whole))?;
+    if !reads && !all.mend(whole, nothing, b"", DEPTH)? {
+        if all.over {
+            all.stuck = None;
+        } else {
+            all.get_stuck(whole, b"", nothing)?;
+        }
         if repairs.is_some() {
             all.notes.clear();
         }
     }
-    let Search {
-        alloc: _,
-        oracle: _,
-        text: _,
-        repairs: _,
-        most: _,
-        known: _,
-        notes,
-        stuck,
-        over: _,
-    } = all;
+    let Search { notes, stuck, .. } = all;
     Ok(Searched { notes, stuck })
 }

@@ -91,7 +91,7 @@ impl<'a> Tape<'a> {
             × Spells (91 ∷ inside.entry.text.now) rest.text.now (token.Array (length all)) all 126
             × VisitsAll T.visits visitor.old items visitor.new) }
     {
-        if let Some(rest) = inside.after(b']') {
+        if let Some(rest) = inside.after_spaced(b']') {
             return Some(rest);
         }
         let mut left = inside.skip_space();

@@ -168,7 +168,7 @@ impl<'a> Tape<'a> {
             ≡ get_member apart.now (members_of all no_members))) }
     {
         self.keep::<true>(Token::Object(0))?;
-        if let Some(rest) = inside.after(b'}') {
+        if let Some(rest) = inside.after_spaced(b'}') {
             return Some((None, rest));
         }
         let mut found = None;

@@ -110,7 +110,7 @@ fn split_items<'a>(
 {
     let depth = depth.checked_sub(1)?;
     let mut items = Vec::new(requests.alloc);
-    if let Some(rest) = inside.after(b']') {
+    if let Some(rest) = inside.after_spaced(b']') {
         return Some((items, rest));
     }
     let mut left = inside.skip_space();
@@ -163,7 +163,7 @@ pub(crate) fn split_members<'a>(
 {
     let depth = depth.checked_sub(1)?;
     let mut members = Map::new(requests.alloc);
-    if let Some(rest) = inside.after(b'}') {
+    if let Some(rest) = inside.after_spaced(b'}') {
         return Some((members, rest));
     }
     let mut left = inside.skip_space();

@@ -17,6 +17,7 @@ pub use sentry_forward::{
     AnyFrame, AnyFrames, ForwardError, ForwardRules, Forwarded, forward, forward_by,
 };
 pub use sentry_framing::{ItemHeader, ItemKind, read_item_header};
+pub use sentry_items::text::Text;
 pub use sentry_items::{
     Attachment, AttachmentType, AttachmentWriteError, EnvelopeItem, ItemContainer, ItemLossIter,
     LossSlice, LossSource, ReplayRecording,
@@ -40,6 +41,10 @@ pub use sentry_mending::{
     Break, Cause, Expected, Explanation, Fault, Found, MendRules, Mended, MendedItem, Note, Place,
     Refusal, Repair, Repairs, Wanted, explain, mend,
 };
+
+// Envelopes and events that are made of texts, rate limits, and the measure of an envelope.
+pub use sentry_limits::{Measured, RateLimits, measure};
+pub use sentry_making::{TextMember, append_item, event_payload, json_text, make_envelope};
 
 // Small texts.
 pub use sentry_identifiers::{FromHexError, SpanId, TraceId};

@@ -1,6 +1,7 @@
 use Rattle.std.proofs.Common.{rules, refl, ◌≡◌, ◌++◌, ◌∷◌, [], length, if◌then◌else◌, ap, ◌∙◌, arith, not, ◌==◌}
 use Rattle.sentry_json.specs.Tokens.{kept}
-use Rattle.sentry_json.proofs.SoFar.{bracket, empty, begins, next_key, next_value, ends, skipped, kept_more, value_before, string_before}
+use Rattle.sentry_json.specs.Spelled.{IsBehind}
+use Rattle.sentry_json.proofs.SoFar.{bracket, closes, empty, begins, next_key, next_value, ends, skipped, kept_more, value_before, string_before}
 use Rattle.sentry_json.proofs.WordsAndTexts.{string_spelled, text_spelled}
 use Rattle.sentry_json.specs.declared.tape.token.Token.TheVariants as token
 use Rattle.sentry_json.proofs.tape.Tape.+take.Goals as goal
@@ -8,7 +9,8 @@ use Rattle.sentry_json.proofs.tape.Tape.+take.Goals as goal
 pub take_inside-returns-in-Some-clause-spelled : goal.take_inside-returns-in-Some-clause-spelled
 take_inside-returns-in-Some-clause-spelled g t c =
     let pushed : c.keep.new.self.tokens.items ≡ c.args.self.now.tokens.items ++ kept (not (g.row.KEPT == 0)) (bracket c.args.object 0 ∷ []) = search rules in
-    let close = c.in-Some.ensures ∙ ap (λ b. b ∷ c.in-Some.rest.text.now) c.closing-close.ensures in
+    let behind = c.in-Some.ensures.follows in
+    let close : IsBehind (closes c.args.object) c.args.text.text.now c.in-Some.rest.text.now = (behind.0, behind.1, behind.2 ∙ ap (λ b. b ∷ c.in-Some.rest.text.now) c.closing-close.ensures) in
     (bracket c.args.object 0, [], pushed, empty c.args.object c.args.text.text.now c.in-Some.rest.text.now c.args.depth close (omega (arith, c.in_ok-depth.ensures)))
 
 pub take_inside-loop-next-init : goal.take_inside-loop-next-init

@@ -66,4 +66,4 @@ pub returns-in-Some : goal.returns-in-Some
 returns-in-Some c =
     let pushed : c.keep.new.self.tokens.items ≡ token.Object 0 ∷ [] = c.in_ok-keep.ensures ∙ ap (λ ts. ts ++ token.Object 0 ∷ []) c.requires.empty in
     let none = members_end no_members in
-    ([], [], empty true c.args.inside.text.now c.in-Some.rest.text.now 127 c.in-Some.ensures (omega arith), pushed, none ∙ ap (among (map (λ k. k.now) c.args.keys.now)) (sym none), ap (get_member c.args.apart.now) (sym none))
+    ([], [], empty true c.args.inside.text.now c.in-Some.rest.text.now 127 c.in-Some.ensures.follows (omega arith), pushed, none ∙ ap (among (map (λ k. k.now) c.args.keys.now)) (sym none), ap (get_member c.args.apart.now) (sym none))

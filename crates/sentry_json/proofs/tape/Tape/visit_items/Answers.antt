@@ -6,7 +6,7 @@ use Rattle.sentry_json.proofs.TokenLists.{items_end}
 use Rattle.sentry_json.proofs.tape.Tape.visit_items.Goals as goal
 
 pub returns-in-Some : goal.returns-in-Some
-returns-in-Some g c = ([], [], items_end, empty false c.args.inside.text.now c.in-Some.rest.text.now 126 c.in-Some.ensures (omega arith), refl)
+returns-in-Some g c = ([], [], items_end, empty false c.args.inside.text.now c.in-Some.rest.text.now 126 c.in-Some.ensures.follows (omega arith), refl)
 
 pub loop-rest-init : goal.loop-rest-init
 loop-rest-init g c =

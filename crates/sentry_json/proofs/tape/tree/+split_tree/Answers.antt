@@ -18,7 +18,7 @@ split_items-returns-in-Some-clause-spelled t c =
     let none : c.new-items.result.items ≡ [] = c.new-items.ensures.items in (
       token.Array 0,
       [],
-      empty false c.args.inside.text.now c.in-Some.rest.text.now c.args.depth c.in-Some.ensures (omega (arith, c.in_ok-depth.ensures)),
+      empty false c.args.inside.text.now c.in-Some.rest.text.now c.args.depth c.in-Some.ensures.follows (omega (arith, c.in_ok-depth.ensures)),
       value_array 0 [] ∙ ap array (items_end ∙ ap items_view (sym none)),
     )
 
@@ -74,7 +74,7 @@ split_members-returns-in-Some-clause-spelled t c =
     let none : c.new-members.result.entries ≡ [] = c.new-members.ensures.empty in (
       token.Object 0,
       [],
-      empty true c.args.inside.text.now c.in-Some.rest.text.now c.args.depth c.in-Some.ensures (omega (arith, c.in_ok-depth.ensures)),
+      empty true c.args.inside.text.now c.in-Some.rest.text.now c.args.depth c.in-Some.ensures.follows (omega (arith, c.in_ok-depth.ensures)),
       value_object 0 [] ∙ ap object (members_end no_members ∙ ap members_view (sym none)),
     )
 

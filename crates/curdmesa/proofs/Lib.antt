@@ -1,0 +1,3 @@
+pub mod CatLemmas
+pub mod SelectLemmas
+pub mod TextLemmas

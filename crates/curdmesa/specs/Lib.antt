@@ -1,0 +1,4 @@
+pub mod Cat
+pub mod Losing
+pub mod Selecting
+pub mod Texts

@@ -1,0 +1,4 @@
+mod DocumentLemmas
+mod RowLemmas
+mod ScreenLemmas
+mod VerdictLemmas

@@ -1,0 +1,4 @@
+pub mod Document
+pub mod Rows
+pub mod Screen
+pub mod Verdicts
