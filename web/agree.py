@@ -1,11 +1,15 @@
 #!/usr/bin/env python3
 """agree.py PAGE LIBRARY [ENVELOPES]: asks the module of the page, in a browser's worker, and the native library (a shared object)
-about damaged envelopes (2,000): what they show, the normal form, and what is mended. Ends with status 1 where two answers differ."""
+about damaged envelopes (100,000), shared out to the processors: what they show, the normal form, and what is mended. Ends with
+status 1 where two answers differ."""
 import base64
 import ctypes
 import hashlib
+import os
 import random
 import sys
+from concurrent.futures import ProcessPoolExecutor
+from itertools import repeat
 from pathlib import Path
 
 import browsers
@@ -77,9 +81,9 @@ def damaged(chance):
     return bytes(data)
 
 
-def main():
-    page, library, count = Path(sys.argv[1]).resolve(), Native(sys.argv[2]), int((sys.argv[3:] or ["2000"])[0])
-    chance = random.Random(count)
+def compare(page, library, seed, count):
+    """Asks both about so many envelopes, which are drawn from a seed, and returns the browser's name."""
+    library, chance = Native(library), random.Random(seed)
     with browsers.there()[0]() as browser:
         browser.command("Navigate", url=f"file://{page}")
         browser.run(START, ASK)
@@ -89,7 +93,15 @@ def main():
             for data, seen in zip(cases, answer.get("answer") or sys.exit(f"agree: {answer['error']}")):
                 if seen != library.answer(data):
                     sys.exit(f"agree: the answers differ of {data}")
-    print(f"agree: {count:,} damaged envelopes, the same answers in {type(browser).__name__} and of the native library")
+    return type(browser).__name__
+
+
+def main():
+    page, library, count = Path(sys.argv[1]).resolve(), sys.argv[2], int((sys.argv[3:] or ["100000"])[0])
+    parts = os.cpu_count() or 1
+    with ProcessPoolExecutor(parts) as pool:
+        names = pool.map(compare, repeat(page), repeat(library), range(parts), (len(range(it, count, parts)) for it in range(parts)))
+        print(f"agree: {count:,} damaged envelopes, the same answers in {[*names][0]} and of the native library")
 
 
 if __name__ == "__main__":
