@@ -1,4 +1,5 @@
-"""Writes the inputs that docs/PERFORMANCE.md counts into a folder: python3 bench/inputs.py FOLDER.
+"""Writes the inputs that docs/PERFORMANCE.md counts into a folder, and those of rare forms into its folder `rare`:
+python3 bench/inputs.py FOLDER.
 
 `NAME.refused` has an item behind all those of `NAME` whose header is no JSON: all is read, and nothing written.
 """
@@ -59,6 +60,33 @@ def container(ty, value, many):
     return item(ty, text({"items": many * [value]}), content_type=content_type, item_count=many)
 
 
+def rare():
+    """Returns envelopes of rare forms, each of which has one form many times."""
+    header = text({"event_id": ID}) + b"\n"
+    many = lambda value, times=400: b",".join(times * [value])
+    event = lambda members: header + item("event", b'{"timestamp":1595256674,%s}' % members)
+    extra = lambda value, times=400: event(b'"extra":{"x":[%s]}' % many(value, times))
+    attachments = lambda member: header + 100 * (b'{"type":"attachment",%s"length":10}\nhelloworld\n' % member)
+    return {
+        "item header with nested members": attachments(b'"x":{"y":[1,{"z":null}]},'),
+        "item header with 200 spaces": attachments(200 * b" "),
+        "item header with [ ]": attachments(b'"x":[ ],'),
+        "item header with a float that is replaced": attachments(b'"x":0.5,"x":1,'),
+        "header line of 400 numbers": b'{"event_id":"%s","x":[%s]}\n' % (ID.encode(), many(b"1")) + item("attachment", b"helloworld"),
+        "the same with a float that is replaced": b'{"event_id":"%s","x":0.5,"x":[%s]}\n' % (ID.encode(), many(b"1")) + item("attachment", b"helloworld"),
+        "lists [ ]": extra(b"[ ]"),
+        "a float that is replaced": event(b'"extra":{%s}' % many(b'"x":0.5,"x":1')),
+        "one tag's key repeated": event(b'"tags":{%s}' % many(b'"shop":"eu"')),
+        "numbers of 20 digits": extra(b"18446744073709551615"),
+        "empty threads": event(b'"threads":{"values":[%s]}' % many(b"{}")),
+        "one unknown member repeated": event(many(b'"x":1')),
+        "texts of one escape": extra(b'"\\n"'),
+        "maps 122 deep": extra(122 * b'{"a":' + b"1" + 122 * b"}", 10),
+        "maps of one member": extra(b'{"a":1}'),
+        "lists in lists": extra(b"[[[1]]]"),
+    }
+
+
 def write(folder, name, data):
     """Writes a file of the folder."""
     with open(os.path.join(folder, name), "wb") as file:
@@ -87,6 +115,9 @@ def main():
     for m in (5, 10):
         write(folder, f"braces{m}", header + m * 10**6 * b"{")
         write(folder, f"escapes{m}", header + b'{"type":"attachment","x":"' + m * 500000 * b'\\"' + b'"}\n')
+    os.makedirs(os.path.join(folder, "rare"), exist_ok=True)
+    for name, data in rare().items():
+        write(os.path.join(folder, "rare"), name, data)
 
 
 main()
