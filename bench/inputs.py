@@ -68,6 +68,8 @@ def rare():
     extra = lambda value, times=400: event(b'"extra":{"x":[%s]}' % many(value, times))
     attachments = lambda member: header + 100 * (b'{"type":"attachment",%s"length":10}\nhelloworld\n' % member)
     return {
+        "attachment of 10 KiB": header + item("attachment", (10 << 10) * b"x"),
+        "attachment of 1 MiB": header + item("attachment", (1 << 20) * b"x"),
         "item header with nested members": attachments(b'"x":{"y":[1,{"z":null}]},'),
         "item header with 200 spaces": attachments(200 * b" "),
         "item header with [ ]": attachments(b'"x":[ ],'),
