@@ -109,7 +109,7 @@ test_python() {
     "$work/venv/bin/pip" install -q --no-index "$here"/python/curdmesa-*.whl || return 1
     mkdir -p "$here/tests" && cp "$here"/python/test_*.py "$here/tests" || return 1
     (cd "$here/tests" && CURDMESA_SO= CASES="$cases" "$work/venv/bin/python" -m unittest -q \
-        test_curdmesa test_forwarding test_limits test_faults test_making test_cases) || return 1
+        test_curdmesa test_forwarding test_limits test_faults test_making test_headers test_cases) || return 1
     (cd "$work/examples" && CURDMESA_SO= "$work/venv/bin/python" -m unittest -q)
 }
 

@@ -515,6 +515,69 @@ int32_t curdmesa_rfc3339_format(uint64_t secs, uint32_t nanos, uint8_t *out, siz
  */
 int32_t curdmesa_crontab_check(const uint8_t *text, size_t text_len);
 
+/* ---- envelope headers ---------------------------------------------------------------------- */
+
+/* The dynamic sampling context of a trace, with texts as places in the text that was written to
+ * `out`. What is absent is 0 and has length 0. */
+typedef struct CurdmesaTrace {
+    /* 32 hex digits in lower case. */
+    CurdmesaPlace trace_id;
+    /* The public key of the DSN that the trace is sent to. */
+    CurdmesaPlace public_key;
+    CurdmesaPlace release;
+    CurdmesaPlace environment;
+    /* The transaction name. */
+    CurdmesaPlace transaction;
+    /* In billionths: 10^9 is a rate of 1. */
+    uint64_t sample_rate;
+    /* The random value that the sample rate is compared with, in billionths. */
+    uint64_t sample_rand;
+    uint64_t org_id;
+    /* 1 or 0. */
+    uint32_t sampled;
+    uint32_t has_trace_id;
+    uint32_t has_public_key;
+    uint32_t has_release;
+    uint32_t has_environment;
+    uint32_t has_transaction;
+    uint32_t has_sample_rate;
+    uint32_t has_sample_rand;
+    uint32_t has_org_id;
+    uint32_t has_sampled;
+} CurdmesaTrace;
+
+/* The members of an envelope's header line, with texts as places in the text that was written to
+ * `out`. What is absent is 0 and has length 0. */
+typedef struct CurdmesaHeader {
+    /* Hyphenated, in lower case. */
+    CurdmesaPlace event_id;
+    /* The printed form of the DSN, which curdmesa_dsn_parse takes apart. */
+    CurdmesaPlace dsn;
+    /* Name and version of the SDK that sends the envelope. */
+    CurdmesaPlace sdk_name;
+    CurdmesaPlace sdk_version;
+    CurdmesaTrace trace;
+    /* The time of sending. */
+    uint64_t sent_at_secs;
+    uint32_t sent_at_nanos;
+    /* 1 or 0. */
+    uint32_t has_event_id;
+    uint32_t has_dsn;
+    uint32_t has_sdk;
+    uint32_t has_sent_at;
+    uint32_t has_trace;
+} CurdmesaHeader;
+
+/*
+ * Parses the header line of an envelope, writes the texts in it to `out`, and sets `*header` to its
+ * members. `*header` is unchanged unless the status is CURDMESA_OK. Members of other keys are
+ * ignored, and what stands behind the header line isn't parsed.
+ *
+ * CURDMESA_OK, CURDMESA_NO_ROOM, CURDMESA_INVALID_HEADER, CURDMESA_OUT_OF_MEMORY.
+ */
+int32_t curdmesa_envelope_header(const uint8_t *bytes, size_t bytes_len, uint8_t *out,
+                                 size_t out_len, uint64_t *needed, CurdmesaHeader *header);
+
 /* ---- faults and repairs -------------------------------------------------------------------- */
 
 /* The index of the header line in CurdmesaFault, which is no item. */

@@ -389,6 +389,33 @@ static void mends(const uint8_t *bytes, size_t len, uint32_t repairs, int32_t du
     free(out);
 }
 
+/* The texts of the header line stand within what is written, if the envelope's header reads. */
+static void headers(const uint8_t *bytes, size_t len, int32_t due) {
+    uint64_t needed = 0, again = 0;
+    CurdmesaHeader header;
+    uint8_t *none = block(0);
+    int32_t status = curdmesa_envelope_header(bytes, len, none, 0, &needed, &header);
+    free(none);
+    wanted((status == CURDMESA_INVALID_HEADER) == (due == CURDMESA_INVALID_HEADER), "a header");
+    uint8_t *out = block((size_t)needed);
+    if (status != CURDMESA_INVALID_HEADER) {
+        status = curdmesa_envelope_header(bytes, len, out, (size_t)needed, &again, &header);
+        wanted(status == CURDMESA_OK && again == needed, "the same texts with room");
+        const CurdmesaPlace places[] = {
+            header.event_id,         header.dsn,           header.sdk_name,
+            header.sdk_version,      header.trace.trace_id, header.trace.public_key,
+            header.trace.release,    header.trace.environment,
+            header.trace.transaction};
+        uint64_t sum = 0;
+        for (size_t i = 0; i < sizeof places / sizeof places[0]; i++) {
+            wanted(places[i].offset + places[i].length <= needed, "a text within");
+            sum += places[i].length;
+        }
+        wanted(sum == needed, "no other text");
+    }
+    free(out);
+}
+
 int LLVMFuzzerTestOneInput(const uint8_t *data, size_t size) {
     uint8_t *bytes = block(size);
     if (size)
@@ -407,6 +434,7 @@ int LLVMFuzzerTestOneInput(const uint8_t *data, size_t size) {
     shows(bytes, size, status);
     mends(bytes, size, (uint32_t)(size % 3), status);
     appends(bytes, size, items);
+    headers(bytes, size, status);
     if (text) {
         is_steady(text, len);
         wanted(framed == CURDMESA_NOTHING_LEFT, "an envelope's frames");

@@ -1,7 +1,8 @@
 /*
  * Tests every exported function: envelopes, small texts and the ledger here, faults and repairs in
- * test_faults.c, the rest in test_items.c and test_limits.c and test_making.c. Each buffer is a heap block of exactly the length that
- * is told, so that AddressSanitizer sees a read or a write past its end.
+ * test_faults.c, the rest in test_items.c, test_limits.c, test_making.c and test_headers.c. Each
+ * buffer is a heap block of exactly the length that is told, so that AddressSanitizer sees a read or
+ * a write past its end.
  */
 #include "test.h"
 
@@ -730,6 +731,7 @@ int main(void) {
     test_limits();
     test_faults();
     test_making();
+    test_envelope_headers();
     if (failures == 0)
         puts("ok");
     else

@@ -52,5 +52,8 @@ void test_limits(void);
 /* Faults, what is shown, and repairs. */
 void test_faults(void);
 
+/* Envelope headers that are read into a struct. */
+void test_envelope_headers(void);
+
 /* What makes envelopes, items and events. */
 void test_making(void);

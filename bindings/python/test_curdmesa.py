@@ -650,6 +650,8 @@ class Header(unittest.TestCase):
         "CurdmesaNote *": ctypes.POINTER(_library.NoteParts),
         "CurdmesaDsn *": ctypes.POINTER(_library.DsnParts),
         "CurdmesaAuth *": ctypes.POINTER(_library.AuthParts),
+        "CurdmesaTrace ": _library.TraceParts,
+        "CurdmesaHeader *": ctypes.POINTER(_library.HeaderParts),
         "const CurdmesaPair *": ctypes.POINTER(_library.PairParts),
     }
 
@@ -663,7 +665,7 @@ class Header(unittest.TestCase):
         due = {name: [self.declared(one)[1] for one in all_of_them.split(",")]
                for name, all_of_them in found}
         self.assertEqual(_library.FUNCTIONS, due)
-        self.assertEqual(len(due), 43)
+        self.assertEqual(len(due), 44)
 
     def test_manual_page(self):
         page = (BINDINGS / "c/curdmesa.3").read_text("utf-8")
@@ -679,7 +681,7 @@ class Header(unittest.TestCase):
             due = [self.declared(one) for one in fields.split(";") if one.strip()]
             struct = _library.Place if name == "Place" else getattr(_library, f"{name}Parts")
             self.assertEqual(struct._fields_, due)
-        self.assertEqual(len(found), 9)
+        self.assertEqual(len(found), 11)
 
     def test_numbers(self):
         enums = re.findall(r"^enum \{(.*?)\};", self.text, re.M | re.S)

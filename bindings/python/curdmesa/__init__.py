@@ -20,6 +20,7 @@ from .errors import (
     NothingLeft, NotUtf8, OutOfMemory, Status, TextError, UnexpectedEof, error_of)
 from .faults import Fault, Mended, Misfit, Note, Repair, Repairs, explain, mend
 from .forwarding import AnyFrame, Forwarded, any_frames, forward, losses
+from .headers import Header, Trace
 from .ledger import Ledger
 from .making import append_item, make_envelope, make_event
 from .limits import Measured, RateLimits, measure
@@ -32,12 +33,12 @@ __all__ = [
     "AnyFrame", "Auth", "AuthError", "AuthInvalidVersion", "AuthMissingPublicKey", "AuthNonSentry",
     "Category", "Dsn", "DsnError", "DsnInvalidProjectId", "DsnInvalidScheme", "DsnInvalidUrl",
     "DsnNoProjectId", "DsnNoUsername", "EnvelopeError", "Error", "Fault", "Filtered", "Forwarded",
-    "Frame", "InvalidArgument", "InvalidHeader", "InvalidItemHeader", "InvalidItemPayload",
-    "InvalidText", "ItemKind", "Ledger", "LedgerFull", "Loss", "Measured", "Mended", "Misfit",
-    "MissingHeader", "MissingItemHeader", "MissingNewline", "Moment", "NoMoment", "NoRoom",
-    "NotUtf8", "Note", "NothingLeft", "OutOfMemory", "RateLimits", "Reason", "Repair", "Repairs",
-    "Status", "TextError", "UnexpectedEof", "__version__", "any_frames", "append_item", "check",
-    "crontab_check", "error_of", "explain", "forward", "frames", "losses", "make_envelope",
-    "make_event", "measure", "mend", "normalize", "rfc3339_format", "rfc3339_parse",
-    "show_json",
+    "Frame", "Header", "InvalidArgument", "InvalidHeader", "InvalidItemHeader",
+    "InvalidItemPayload", "InvalidText", "ItemKind", "Ledger", "LedgerFull", "Loss", "Measured",
+    "Mended", "Misfit", "MissingHeader", "MissingItemHeader", "MissingNewline", "Moment",
+    "NoMoment", "NoRoom", "NotUtf8", "Note", "NothingLeft", "OutOfMemory", "RateLimits", "Reason",
+    "Repair", "Repairs", "Status", "TextError", "Trace", "UnexpectedEof", "__version__",
+    "any_frames", "append_item", "check", "crontab_check", "error_of", "explain", "forward",
+    "frames", "losses", "make_envelope", "make_event", "measure", "mend", "normalize",
+    "rfc3339_format", "rfc3339_parse", "show_json",
 ]

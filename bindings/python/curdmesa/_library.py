@@ -71,6 +71,46 @@ class AuthParts(ctypes.Structure):
     ]
 
 
+class TraceParts(ctypes.Structure):
+    _fields_ = [
+        ("trace_id", Place),
+        ("public_key", Place),
+        ("release", Place),
+        ("environment", Place),
+        ("transaction", Place),
+        ("sample_rate", ctypes.c_uint64),
+        ("sample_rand", ctypes.c_uint64),
+        ("org_id", ctypes.c_uint64),
+        ("sampled", ctypes.c_uint32),
+        ("has_trace_id", ctypes.c_uint32),
+        ("has_public_key", ctypes.c_uint32),
+        ("has_release", ctypes.c_uint32),
+        ("has_environment", ctypes.c_uint32),
+        ("has_transaction", ctypes.c_uint32),
+        ("has_sample_rate", ctypes.c_uint32),
+        ("has_sample_rand", ctypes.c_uint32),
+        ("has_org_id", ctypes.c_uint32),
+        ("has_sampled", ctypes.c_uint32),
+    ]
+
+
+class HeaderParts(ctypes.Structure):
+    _fields_ = [
+        ("event_id", Place),
+        ("dsn", Place),
+        ("sdk_name", Place),
+        ("sdk_version", Place),
+        ("trace", TraceParts),
+        ("sent_at_secs", ctypes.c_uint64),
+        ("sent_at_nanos", ctypes.c_uint32),
+        ("has_event_id", ctypes.c_uint32),
+        ("has_dsn", ctypes.c_uint32),
+        ("has_sdk", ctypes.c_uint32),
+        ("has_sent_at", ctypes.c_uint32),
+        ("has_trace", ctypes.c_uint32),
+    ]
+
+
 class MisfitParts(ctypes.Structure):
     _fields_ = [
         ("start", ctypes.c_uint64),
@@ -160,6 +200,7 @@ FUNCTIONS = {
     "curdmesa_dsn_auth": [*BYTES, *MOMENT, *BYTES, *OUT],
     "curdmesa_auth_parse": [*BYTES, *OUT, ctypes.POINTER(AuthParts)],
     "curdmesa_auth_from_query": [*BYTES, *OUT, ctypes.POINTER(AuthParts)],
+    "curdmesa_envelope_header": [*BYTES, *OUT, ctypes.POINTER(HeaderParts)],
     "curdmesa_rfc3339_parse": [*BYTES, U64S, U32S],
     "curdmesa_rfc3339_format": [*MOMENT, *OUT],
     "curdmesa_crontab_check": [*BYTES],

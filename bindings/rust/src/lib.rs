@@ -33,6 +33,7 @@ mod envelope;
 mod error;
 mod faults;
 mod frames;
+mod headers;
 mod kinds;
 mod ledger;
 mod limits;
@@ -55,6 +56,7 @@ pub use faults::{
     explain, mend, Cause, Fault, MendRules, Mended, Misfit, Note, Refusal, Repair, Repairs,
 };
 pub use frames::{frames, Frame, Frames};
+pub use headers::{Header, Trace};
 pub use kinds::{Category, ItemKind, Reason};
 pub use ledger::Ledger;
 pub use limits::RateLimits;

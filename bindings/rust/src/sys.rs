@@ -67,6 +67,48 @@ pub struct CurdmesaAuth {
     pub has_timestamp: u32,
 }
 
+/// The dynamic sampling context of a trace.
+#[derive(Clone, Copy, Default)]
+#[repr(C)]
+pub struct CurdmesaTrace {
+    pub trace_id: CurdmesaPlace,
+    pub public_key: CurdmesaPlace,
+    pub release: CurdmesaPlace,
+    pub environment: CurdmesaPlace,
+    pub transaction: CurdmesaPlace,
+    pub sample_rate: u64,
+    pub sample_rand: u64,
+    pub org_id: u64,
+    pub sampled: u32,
+    pub has_trace_id: u32,
+    pub has_public_key: u32,
+    pub has_release: u32,
+    pub has_environment: u32,
+    pub has_transaction: u32,
+    pub has_sample_rate: u32,
+    pub has_sample_rand: u32,
+    pub has_org_id: u32,
+    pub has_sampled: u32,
+}
+
+/// The members of an envelope's header line.
+#[derive(Clone, Copy, Default)]
+#[repr(C)]
+pub struct CurdmesaHeader {
+    pub event_id: CurdmesaPlace,
+    pub dsn: CurdmesaPlace,
+    pub sdk_name: CurdmesaPlace,
+    pub sdk_version: CurdmesaPlace,
+    pub trace: CurdmesaTrace,
+    pub sent_at_secs: u64,
+    pub sent_at_nanos: u32,
+    pub has_event_id: u32,
+    pub has_dsn: u32,
+    pub has_sdk: u32,
+    pub has_sent_at: u32,
+    pub has_trace: u32,
+}
+
 /// A value that doesn't fit.
 #[derive(Clone, Copy, Default)]
 #[repr(C)]
@@ -361,6 +403,15 @@ extern "C" {
         out_len: usize,
         needed: *mut u64,
         auth: *mut CurdmesaAuth,
+    ) -> i32;
+
+    pub fn curdmesa_envelope_header(
+        bytes: *const u8,
+        bytes_len: usize,
+        out: *mut u8,
+        out_len: usize,
+        needed: *mut u64,
+        header: *mut CurdmesaHeader,
     ) -> i32;
 
     pub fn curdmesa_rfc3339_parse(

@@ -107,7 +107,7 @@ fn functions_are_declared_as_in_the_header() {
     due.sort();
     found.sort();
     assert_eq!(found, due);
-    assert_eq!(found.len(), 43);
+    assert_eq!(found.len(), 44);
 }
 
 #[test]
@@ -124,7 +124,7 @@ fn structs_are_declared_as_in_the_header() {
     due.sort();
     found.sort();
     assert_eq!(found, due);
-    assert_eq!(found.len(), 9);
+    assert_eq!(found.len(), 11);
 }
 
 /// The constants of the header's enumerations with a prefix, by their number.

@@ -1,5 +1,5 @@
 -- What is read and written of an envelope.
-use Rattle.std.proofs.Common.{◌≡◌, ℕ, List, Some, ◌∙◌, ap}
+use Rattle.std.proofs.Common.{◌≡◌, ℕ, Bool, true, false, List, Some, ◌∙◌, ap, subst, sym}
 use Rattle.std.proofs.lemmas.Option.{same_Some}
 use Rattle.std.specs.Option.{IsSomeAnd}
 use Rattle.sentry_tables.specs.Cell.{Cell}
@@ -11,7 +11,7 @@ use Rattle.sentry_items.specs.declared.item.EnvelopeItem.TheVariants as items
 use Rattle.sentry_ledger.specs.Held.{Quantities, items_held}
 use Rattle.sentry_reports.specs.declared.report.Report.{Report}
 use Rattle.sentry_c.specs.Envelopes.{IsNormalText, IsSpelled}
-use Rattle.sentry_c.specs.Sums.{IsReportText}
+use Rattle.sentry_c.specs.Sums.{IsReport, IsReportIn, IsReportText}
 
 pub is_spelled : (bytes : List ℕ) (now : Cell) (envelope : Envelope) → IsSomeAnd (structured envelope) (Spells profile bytes now) → IsSpelled bytes now
 is_spelled bytes now envelope spelled = go (held envelope) spelled
@@ -42,3 +42,8 @@ pub report_text_is : (held : Quantities) (secs nanos : ℕ) (given : Report) (en
     → given.timestamp.secs ≡ secs → given.timestamp.nanos ≡ nanos → given.items ≡ items_held held → text ≡ text_of envelope → IsReportText held secs nanos text
 report_text_is held secs nanos given envelope text is secs_are nanos_are items_are text_is =
     record { given = given; secs_are = secs_are; nanos_are = nanos_are; items_are = items_are; text_is = text_is ∙ text_of_model envelope _ is }
+
+-- what is delivered of that text: all, or the item alone
+pub report_is : (item_alone : Bool) (held : Quantities) (secs nanos : ℕ) (text report : List ℕ) → IsReportText held secs nanos text → IsReportIn item_alone text report → IsReport item_alone held secs nanos report
+report_is false held secs nanos text report reports is = subst (IsReportText held secs nanos) (sym is) reports
+report_is true held secs nanos text report reports (line, split) = record { text = text; line = line; reports = reports; split = split }

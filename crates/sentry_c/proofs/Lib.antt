@@ -4,6 +4,8 @@ pub mod Rows
 pub mod LimitRows
 pub mod Parts
 pub mod Envelopes
+pub mod Pieces
+pub mod HeaderRows
 pub mod Filtering
 pub mod Items
 pub mod Asking

@@ -22,3 +22,4 @@ pub mod Events
 pub mod Making
 pub mod Limits
 pub mod Showing
+pub mod Headers

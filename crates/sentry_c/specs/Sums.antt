@@ -1,15 +1,19 @@
 -- A ledger in one row of sums.
-use Rattle.std.specs.Prelude.{◌≡◌, ℕ, List}
+use Rattle.std.specs.Prelude.{◌≡◌, ◌≢◌, ◌⊎◌, ℕ, ℤ, Bool, true, false, List, length, replicate}
 use Rattle.sentry_framing.specs.Framing.{IsLineAndBody}
 use Rattle.sentry_envelope.specs.Envelope.{envelope_text}
 use Rattle.sentry_envelope.specs.EnvelopeView.{empty, item_view, with_item}
 use Rattle.sentry_envelope.specs.SentryProfile.{profile}
 use Rattle.sentry_items.specs.declared.item.EnvelopeItem.TheVariants as items
-use Rattle.sentry_ledger.specs.Held.{Quantities, items_held}
+use Rattle.sentry_ledger.specs.Held.{HoldsNothing, Quantities, held_in, items_held}
+use Rattle.sentry_moments.specs.Rfc3339.{IsMomentTime}
 use Rattle.sentry_reports.specs.Categories.{category_index, reason_index}
 use Rattle.sentry_reports.specs.declared.category.Category.{Category}
 use Rattle.sentry_reports.specs.declared.reason.Reason.{Reason}
 use Rattle.sentry_reports.specs.declared.report.Report.{Report}
+use Rattle.sentry_reports.specs.declared.kept_sums.TheConstants.{PAIRS}
+use Rattle.sentry_c.specs.Output.{IsTooLong, Puts}
+use Rattle.sentry_c.specs.declared.status.TheConstants.{INVALID_ARGUMENT, NOTHING_LEFT, NO_MOMENT, NO_ROOM, OK, OUT_OF_MEMORY}
 
 -- the numbers of a pair: its category and its reason by their places in order
 pub record IsPair (category_number reason_number : ℕ) (category : Category) (reason : Reason) : Type 0 where
@@ -35,3 +39,33 @@ pub record IsReportItem (held : Quantities) (secs nanos : ℕ) (item : List ℕ)
   pub line : List ℕ
   pub reports : IsReportText held secs nanos text
   pub split : IsLineAndBody text line item
+
+-- ---- flushing
+
+-- what a call that moves all losses of a ledger into a report does, by its status
+pub record Flushes (Reports : Quantities → ℕ → ℕ → List ℕ → Type 0) (secs nanos : ℕ) (ledger emptied out written : List ℕ) (told : ℕ) (status : ℤ) : Type 0 where
+  pub reports : status ≡ OK → Puts (Reports (held_in ledger) secs nanos) out written told
+  pub empties : status ≡ OK → emptied ≡ replicate PAIRS 0
+  pub no_room : status ≡ NO_ROOM → IsTooLong (Reports (held_in ledger) secs nanos) out told
+  pub nothing : status ≡ NOTHING_LEFT → HoldsNothing (held_in ledger)
+  pub something : (status ≡ OK) ⊎ (status ≡ NO_ROOM) → HoldsNothing (held_in ledger) → ⊥
+  pub moment : status ≡ NO_MOMENT → IsMomentTime secs nanos → ⊥
+  pub is_moment : status ≢ NO_MOMENT → status ≢ INVALID_ARGUMENT → IsMomentTime secs nanos
+  pub argument : status ≡ INVALID_ARGUMENT → length ledger ≢ PAIRS
+  pub long : status ≢ INVALID_ARGUMENT → length ledger ≡ PAIRS
+  pub memory : status ≡ OUT_OF_MEMORY → HoldsNothing (held_in ledger) → ⊥
+  pub unchanged : status ≢ OK → emptied ≡ ledger
+  pub out_unchanged : status ≢ OK → written ≡ out
+  pub no_text : status ≢ OK → status ≢ NO_ROOM → told ≡ 0
+  pub answers : (status ≡ OK) ⊎ ((status ≡ NO_ROOM) ⊎ ((status ≡ NOTHING_LEFT) ⊎ ((status ≡ NO_MOMENT) ⊎ ((status ≡ INVALID_ARGUMENT) ⊎ (status ≡ OUT_OF_MEMORY)))))
+
+-- ---- parts of a run
+
+-- the text of an envelope, or what stands behind its header line
+abbrev pub IsReportIn : Bool → List ℕ → List ℕ → Type 0
+IsReportIn false text report = report ≡ text
+IsReportIn true text report = (line : List ℕ) × IsLineAndBody text line report
+
+abbrev pub IsReport : Bool → Quantities → ℕ → ℕ → List ℕ → Type 0
+IsReport false = IsReportText
+IsReport true = IsReportItem

@@ -1,6 +1,6 @@
 //! Parsing, normalizing and filtering envelopes.
 
-ghost use Rattle.std.specs.Prelude.{◌≡◌, ◌≢◌, ◌⊎◌, ◌^◌, ◌<◌, ◌≤◌, IfErr, IfOk, IsSomeAnd, MatchOption, OnOk, length};
+ghost use Rattle.std.specs.Prelude.{◌≡◌, ◌≢◌, ◌⊎◌, ◌^◌, ◌<◌, ◌≤◌, IfErr, IfOk, IsSomeAnd, MatchOption, None, Ok, OnErr, OnOk, Some, false, length, true};
 ghost use Rattle.sentry_framing.specs.ItemWords.{item_kinds};
 ghost use Rattle.sentry_framing.specs.declared.error.EnvelopeError.{EnvelopeError as Refusal};
 ghost use Rattle.sentry_framing.specs.declared.error.EnvelopeError.TheVariants as refusals;
@@ -17,7 +17,7 @@ ghost use Rattle.sentry_c.specs.Output.{IsTooLong, Puts};
 ghost use Rattle.sentry_c.specs.Statuses.{refusal_status};
 
 use crate::filter::{KindFilter, are_kinds};
-use crate::output::deliver;
+use crate::output::deliver_envelope;
 use crate::status::{
     INVALID_ARGUMENT, NO_MOMENT, NO_ROOM, NOTHING_LEFT, OK, status_of_envelope_error,
 };
@@ -38,26 +38,33 @@ fn read(alloc: Global, bytes: &[u8], now: Moment, seed: u64) -> Result<Envelope,
     Envelope::from_slice(alloc, bytes, now, &mut ids)
 }
 
-// Returns the text of an envelope. What was parsed or made of a report is plain, so that only an
-// allocation can fail.
+// Returns the text of an envelope that was parsed or made of a report: only an allocation can fail.
 pub(crate) fn text_of(alloc: Global, envelope: &Envelope) -> Result<Vec<u8>, AllocError>
     ensures { IfOk result (λ text. text.items ≡ text_of envelope.now) }
 {
     envelope.to_vec(alloc).map_err(|_| AllocError)
 }
 
-#[tactic(auto, using(crate::proofs::Envelopes::normal_form_is))]
-pub(crate) fn normal_form(
+// Parses an envelope, and writes its normal form to `out` if there is room. Returns whether there
+// was.
+pub(crate) fn deliver_normal_form(
     alloc: Global,
     bytes: &[u8],
     now: Moment,
     seed: u64,
-) -> Result<Vec<u8>, EnvelopeError>
-    ensures ok { IfOk result (λ text. IsNormalText bytes.now (moment_cell now) text.items) }
+    out: &mut [u8],
+    needed: &mut u64,
+) -> Result<bool, EnvelopeError>
+    ensures written { result ≡ Ok true →
+        Puts (IsNormalText bytes.now (moment_cell now)) out.old out.new needed.new }
+    ensures no_room { result ≡ Ok false →
+        IsTooLong (IsNormalText bytes.now (moment_cell now)) out.old needed.new }
     ensures fault { IfErr result (λ x. x ≢ EnvelopeError.OutOfMemory → Fault profile bytes.now x) }
+    ensures unchanged { result ≢ Ok true → out.new ≡ out.old }
+    ensures untold { OnErr result (needed.new ≡ needed.old) }
 {
     let envelope = read(alloc, bytes, now, seed)?;
-    Ok(text_of(alloc, &envelope)?)
+    Ok(deliver_envelope(alloc, &envelope, out, needed)?)
 }
 
 /// Parses an envelope and writes its normal form to `out`.
@@ -96,9 +103,9 @@ pub extern "C" fn curdmesa_envelope_normalize(
     let Some(now) = Moment::new(now_secs, now_nanos) else {
         return NO_MOMENT;
     };
-    match normal_form(alloc, bytes, now, seed) {
-        Ok(text) if deliver(&text, out, needed) => OK,
-        Ok(_) => NO_ROOM,
+    match deliver_normal_form(alloc, bytes, now, seed, out, needed) {
+        Ok(true) => OK,
+        Ok(false) => NO_ROOM,
         Err(error) => status_of_envelope_error(&error),
     }
 }
@@ -169,27 +176,38 @@ fn read_left(
     }
 }
 
-// Returns the text of what is left, if anything.
-fn text_left(
+// Writes what is left of an envelope to `out`, if anything is left and there is room. Returns whether
+// there was.
+fn deliver_left(
     alloc: Global,
     bytes: &[u8],
     now: Moment,
     seed: u64,
     keep_headers: bool,
     filter: &mut KindFilter,
-) -> Result<Option<Vec<u8>>, EnvelopeError>
+    out: &mut [u8],
+    needed: &mut u64,
+) -> Result<Option<bool>, EnvelopeError>
     requires { filter.old.sums.row ≡ no_sums }
-    ensures left { IfOk result (λ left. MatchOption left
-        (LeavesNothing bytes.now (moment_cell now)
+    ensures written { result ≡ Ok (Some true) →
+        Puts (IsLeft bytes.now (moment_cell now)
         filter.old.kinds filter.old.keep keep_headers filter.new.sums.row)
-        (λ text. IsLeft bytes.now (moment_cell now)
-        filter.old.kinds filter.old.keep keep_headers filter.new.sums.row text.items)) }
+        out.old out.new needed.new }
+    ensures no_room { result ≡ Ok (Some false) →
+        IsTooLong (IsLeft bytes.now (moment_cell now)
+        filter.old.kinds filter.old.keep keep_headers filter.new.sums.row) out.old needed.new }
+    ensures nothing { result ≡ Ok None →
+        LeavesNothing bytes.now (moment_cell now)
+        filter.old.kinds filter.old.keep keep_headers filter.new.sums.row }
     ensures fault { IfErr result (λ x. x ≢ EnvelopeError.OutOfMemory → Fault profile bytes.now x) }
+    ensures unchanged { result ≢ Ok (Some true) → out.new ≡ out.old }
+    ensures untold { result ≢ Ok (Some true) → result ≢ Ok (Some false) →
+        needed.new ≡ needed.old }
 {
-    let Some(left) = read_left(alloc, bytes, now, seed, keep_headers, filter)? else {
-        return Ok(None);
-    };
-    Ok(Some(text_of(alloc, &left)?))
+    match read_left(alloc, bytes, now, seed, keep_headers, filter)? {
+        Some(left) => Ok(Some(deliver_envelope(alloc, &left, out, needed)?)),
+        None => Ok(None),
+    }
 }
 
 /// Parses an envelope, removes items by their type, and writes what is left to `out`.
@@ -253,14 +271,24 @@ pub extern "C" fn curdmesa_envelope_filter(
         return NO_MOMENT;
     };
     let mut filter = KindFilter::new(kinds, keep);
-    let left = match text_left(alloc, bytes, now, seed, keep_headers, &mut filter) {
-        Ok(left) => left,
+    let left = deliver_left(
+        alloc,
+        bytes,
+        now,
+        seed,
+        keep_headers,
+        &mut filter,
+        out,
+        needed,
+    );
+    let delivered = match left {
+        Ok(delivered) => delivered,
         Err(error) => return status_of_envelope_error(&error),
     };
     losses.copy_from_slice(filter.sums());
-    match left {
-        Some(text) if deliver(&text, out, needed) => OK,
-        Some(_) => NO_ROOM,
+    match delivered {
+        Some(true) => OK,
+        Some(false) => NO_ROOM,
         None => NOTHING_LEFT,
     }
 }

@@ -14,14 +14,12 @@ ghost use Rattle.sentry_c.specs.Making.{HasNoTexts, event_envelope, event_member
 ghost use Rattle.sentry_c.specs.Output.{IsTooLong, Puts};
 ghost use Rattle.sentry_c.specs.Statuses.{refusal_status};
 
-use crate::envelope::normal_form;
-use crate::output::deliver;
+use crate::envelope::deliver_normal_form;
 use crate::pairs::{CurdmesaPair, items_of, members_of};
 use crate::status::{
     INVALID_ARGUMENT, NO_MOMENT, NO_ROOM, NOT_UTF8, OK, OUT_OF_MEMORY, status_of_envelope_error,
 };
-use sentry_making::{TextMember, event_payload};
-use sentry_types::protocol::v7::Moment;
+use sentry_types::protocol::v7::{Moment, TextMember, event_payload};
 use std::alloc::{AllocError, Global};
 use std::str;
 
@@ -157,9 +155,9 @@ pub extern "C" fn curdmesa_event_make(
     let Ok(bytes) = event_of(alloc, &members, &tags) else {
         return OUT_OF_MEMORY;
     };
-    match normal_form(alloc, &bytes, now, seed) {
-        Ok(text) if deliver(&text, out, needed) => OK,
-        Ok(_) => NO_ROOM,
+    match deliver_normal_form(alloc, &bytes, now, seed, out, needed) {
+        Ok(true) => OK,
+        Ok(false) => NO_ROOM,
         Err(error) => status_of_envelope_error(&error),
     }
 }

@@ -8,7 +8,7 @@ ghost use Rattle.sentry_reports.specs.declared.reason.Reason.{Reason as Reasons}
 ghost use Rattle.sentry_ledger.specs.Held.{HoldsNothing, held_in};
 ghost use Rattle.sentry_moments.specs.Rfc3339.{IsMomentTime};
 ghost use Rattle.sentry_c.specs.Output.{IsTooLong, Puts};
-ghost use Rattle.sentry_c.specs.Sums.{HasPair, IsPair, IsReportItem, IsReportText};
+ghost use Rattle.sentry_c.specs.Sums.{Flushes, HasPair, IsPair, IsReport, IsReportIn, IsReportItem, IsReportText};
 
 use crate::envelope::text_of;
 use crate::output::deliver;
@@ -135,6 +135,68 @@ fn report_text(alloc: Global, ledger: &[u64], now: Moment) -> Result<Vec<u8>, Al
     text_of(alloc, &envelope)
 }
 
+// Returns the text of an envelope, or what stands behind its header line.
+fn report_in(text: &[u8], item_alone: bool) -> &[u8]
+    ensures { IsReportIn item_alone text.now result.now }
+{
+    if item_alone {
+        Frames::new(text).rest()
+    } else {
+        text
+    }
+}
+
+// Moves all losses of a ledger into a client report: writes its envelope to `out`, or its item alone.
+fn flush(
+    alloc: Global,
+    ledger: &mut [u64],
+    now_secs: u64,
+    now_nanos: u32,
+    item_alone: bool,
+    out: &mut [u8],
+    needed: &mut u64,
+) -> i32
+    ensures written { result ≡ OK →
+        Puts (IsReport item_alone (held_in ledger.old) now_secs now_nanos)
+        out.old out.new needed.new }
+    ensures emptied { result ≡ OK → ledger.new ≡ replicate PAIRS 0 }
+    ensures no_room { result ≡ NO_ROOM →
+        IsTooLong (IsReport item_alone (held_in ledger.old) now_secs now_nanos)
+        out.old needed.new }
+    ensures nothing { result ≡ NOTHING_LEFT → HoldsNothing (held_in ledger.old) }
+    ensures something { (result ≡ OK) ⊎ (result ≡ NO_ROOM) → ¬ HoldsNothing (held_in ledger.old) }
+    ensures moment { result ≡ NO_MOMENT → ¬ IsMomentTime now_secs now_nanos }
+    ensures is_moment { result ≢ NO_MOMENT → result ≢ INVALID_ARGUMENT →
+        IsMomentTime now_secs now_nanos }
+    ensures argument { result ≡ INVALID_ARGUMENT → length ledger.old ≢ PAIRS }
+    ensures long { result ≢ INVALID_ARGUMENT → length ledger.old ≡ PAIRS }
+    ensures memory { result ≡ OUT_OF_MEMORY → ¬ HoldsNothing (held_in ledger.old) }
+    ensures unchanged { result ≢ OK → ledger.new ≡ ledger.old }
+    ensures out_unchanged { result ≢ OK → out.new ≡ out.old }
+    ensures no_text { result ≢ OK → result ≢ NO_ROOM → needed.new ≡ 0 }
+    ensures answers { (result ≡ OK) ⊎ ((result ≡ NO_ROOM) ⊎ ((result ≡ NOTHING_LEFT) ⊎
+        ((result ≡ NO_MOMENT) ⊎ ((result ≡ INVALID_ARGUMENT) ⊎ (result ≡ OUT_OF_MEMORY))))) }
+{
+    *needed = 0;
+    if ledger.len() != PAIRS {
+        return INVALID_ARGUMENT;
+    }
+    let Some(now) = Moment::new(now_secs, now_nanos) else {
+        return NO_MOMENT;
+    };
+    if holds_nothing(ledger) {
+        return NOTHING_LEFT;
+    }
+    let Ok(text) = report_text(alloc, ledger, now) else {
+        return OUT_OF_MEMORY;
+    };
+    if !deliver(report_in(&text, item_alone), out, needed) {
+        return NO_ROOM;
+    }
+    ledger.fill(0);
+    OK
+}
+
 /// Moves all losses of a ledger into a client report, in an envelope that is written to `out`.
 ///
 /// # Returns
@@ -154,43 +216,10 @@ pub extern "C" fn curdmesa_ledger_flush(
     out: &mut [u8],
     needed: &mut u64,
 ) -> i32
-    ensures written { result ≡ OK → Puts (IsReportText (held_in ledger.old) now_secs now_nanos)
-        out.old out.new needed.new }
-    ensures emptied { result ≡ OK → ledger.new ≡ replicate PAIRS 0 }
-    ensures no_room { result ≡ NO_ROOM →
-        IsTooLong (IsReportText (held_in ledger.old) now_secs now_nanos) out.old needed.new }
-    ensures nothing { result ≡ NOTHING_LEFT → HoldsNothing (held_in ledger.old) }
-    ensures something { (result ≡ OK) ⊎ (result ≡ NO_ROOM) → ¬ HoldsNothing (held_in ledger.old) }
-    ensures moment { result ≡ NO_MOMENT → ¬ IsMomentTime now_secs now_nanos }
-    ensures is_moment { result ≢ NO_MOMENT → result ≢ INVALID_ARGUMENT →
-        IsMomentTime now_secs now_nanos }
-    ensures argument { result ≡ INVALID_ARGUMENT → length ledger.old ≢ PAIRS }
-    ensures long { result ≢ INVALID_ARGUMENT → length ledger.old ≡ PAIRS }
-    ensures memory { result ≡ OUT_OF_MEMORY → ¬ HoldsNothing (held_in ledger.old) }
-    ensures unchanged { result ≢ OK → ledger.new ≡ ledger.old }
-    ensures out_unchanged { result ≢ OK → out.new ≡ out.old }
-    ensures no_text { result ≢ OK → result ≢ NO_ROOM → needed.new ≡ 0 }
-    ensures answers { (result ≡ OK) ⊎ ((result ≡ NO_ROOM) ⊎ ((result ≡ NOTHING_LEFT) ⊎
-        ((result ≡ NO_MOMENT) ⊎ ((result ≡ INVALID_ARGUMENT) ⊎ (result ≡ OUT_OF_MEMORY))))) }
+    ensures { Flushes IsReportText now_secs now_nanos ledger.old ledger.new out.old out.new
+        needed.new result }
 {
-    *needed = 0;
-    if ledger.len() != PAIRS {
-        return INVALID_ARGUMENT;
-    }
-    let Some(now) = Moment::new(now_secs, now_nanos) else {
-        return NO_MOMENT;
-    };
-    if holds_nothing(ledger) {
-        return NOTHING_LEFT;
-    }
-    let Ok(text) = report_text(alloc, ledger, now) else {
-        return OUT_OF_MEMORY;
-    };
-    if !deliver(&text, out, needed) {
-        return NO_ROOM;
-    }
-    ledger.fill(0);
-    OK
+    flush(alloc, ledger, now_secs, now_nanos, false, out, needed)
 }
 
 /// Moves all losses of a ledger into a client report, and writes its item to `out`: the item header
@@ -208,41 +237,8 @@ pub extern "C" fn curdmesa_ledger_flush_item(
     out: &mut [u8],
     needed: &mut u64,
 ) -> i32
-    ensures written { result ≡ OK → Puts (IsReportItem (held_in ledger.old) now_secs now_nanos)
-        out.old out.new needed.new }
-    ensures emptied { result ≡ OK → ledger.new ≡ replicate PAIRS 0 }
-    ensures no_room { result ≡ NO_ROOM →
-        IsTooLong (IsReportItem (held_in ledger.old) now_secs now_nanos) out.old needed.new }
-    ensures nothing { result ≡ NOTHING_LEFT → HoldsNothing (held_in ledger.old) }
-    ensures something { (result ≡ OK) ⊎ (result ≡ NO_ROOM) → ¬ HoldsNothing (held_in ledger.old) }
-    ensures moment { result ≡ NO_MOMENT → ¬ IsMomentTime now_secs now_nanos }
-    ensures is_moment { result ≢ NO_MOMENT → result ≢ INVALID_ARGUMENT →
-        IsMomentTime now_secs now_nanos }
-    ensures argument { result ≡ INVALID_ARGUMENT → length ledger.old ≢ PAIRS }
-    ensures long { result ≢ INVALID_ARGUMENT → length ledger.old ≡ PAIRS }
-    ensures memory { result ≡ OUT_OF_MEMORY → ¬ HoldsNothing (held_in ledger.old) }
-    ensures unchanged { result ≢ OK → ledger.new ≡ ledger.old }
-    ensures out_unchanged { result ≢ OK → out.new ≡ out.old }
-    ensures no_text { result ≢ OK → result ≢ NO_ROOM → needed.new ≡ 0 }
-    ensures answers { (result ≡ OK) ⊎ ((result ≡ NO_ROOM) ⊎ ((result ≡ NOTHING_LEFT) ⊎
-        ((result ≡ NO_MOMENT) ⊎ ((result ≡ INVALID_ARGUMENT) ⊎ (result ≡ OUT_OF_MEMORY))))) }
+    ensures { Flushes IsReportItem now_secs now_nanos ledger.old ledger.new out.old out.new
+        needed.new result }
 {
-    *needed = 0;
-    if ledger.len() != PAIRS {
-        return INVALID_ARGUMENT;
-    }
-    let Some(now) = Moment::new(now_secs, now_nanos) else {
-        return NO_MOMENT;
-    };
-    if holds_nothing(ledger) {
-        return NOTHING_LEFT;
-    }
-    let Ok(text) = report_text(alloc, ledger, now) else {
-        return OUT_OF_MEMORY;
-    };
-    if !deliver(Frames::new(&text).rest(), out, needed) {
-        return NO_ROOM;
-    }
-    ledger.fill(0);
-    OK
+    flush(alloc, ledger, now_secs, now_nanos, true, out, needed)
 }

@@ -14,6 +14,7 @@ pub mod explaining;
 mod filter;
 pub mod forwarding;
 pub mod frames;
+pub mod headers;
 pub mod keeping;
 pub mod keys;
 pub mod ledger;

@@ -7,14 +7,13 @@ ghost use Rattle.sentry_reports.specs.Categories.{categories, category_index};
 ghost use Rattle.sentry_reports.specs.declared.category.Category.{Category as Categories};
 ghost use Rattle.sentry_ledger.specs.FrameLosses.{category_of_type as category_of};
 ghost use Rattle.sentry_limits.specs.RateLimits.{category_end, item_end};
-ghost use Rattle.sentry_c.specs.Limits.{HoldsBackRow, UpdatesRow, limits_of};
+ghost use Rattle.sentry_c.specs.Limits.{HoldsBackRow, HoldsRow, HoldsStated, IsHeldOf, UpdatesRow, limits_of};
 
 use crate::ledger::category_at;
 use crate::status::{INVALID_ARGUMENT, NO_MOMENT, NOT_UTF8, OK};
-use sentry_limits::RateLimits;
 use sentry_limits::rate_limits::ENDS;
-use sentry_types::protocol::v7::Moment;
 use sentry_types::protocol::v7::client_report::category_of_type;
+use sentry_types::protocol::v7::{Moment, RateLimits};
 use std::str;
 
 // Returns the limits of a row of ends; `None` if it has another length than `ENDS`.
@@ -31,65 +30,26 @@ fn limits_in(row: &[u64]) -> Option<RateLimits>
     Some(RateLimits::from_ends(ends))
 }
 
-/// Holds the rate limits that the value of an `X-Sentry-Rate-Limits` header states, beside those that
-/// are held.
-///
-/// # Returns
-///
-/// - `OK` if the limits are held.
-/// - `NOT_UTF8` if the header isn't UTF-8.
-/// - `NO_MOMENT` if the seconds and nanoseconds are no moment.
-/// - `INVALID_ARGUMENT` if there are other than [`ENDS`] limits.
-#[unsafe(no_mangle)]
-pub extern "C" fn curdmesa_limits_update(
-    limits: &mut [u64],
-    header: &[u8],
-    now_secs: u64,
-    now_nanos: u32,
-) -> i32
-    ensures updated { result ≡ OK →
-        UpdatesRow header.now now_secs now_nanos limits.old limits.new }
-    ensures not_utf8 { result ≡ NOT_UTF8 → ¬ IsUtf8 header.now }
-    ensures utf8 { result ≡ OK → IsUtf8 header.now }
-    ensures moment { result ≡ NO_MOMENT → ¬ IsMomentTime now_secs now_nanos }
-    ensures argument { result ≡ INVALID_ARGUMENT → length limits.old ≢ ENDS }
-    ensures long { result ≢ INVALID_ARGUMENT → length limits.old ≡ ENDS }
-    ensures unchanged { result ≢ OK → limits.new ≡ limits.old }
-    ensures answers { (result ≡ OK) ⊎ ((result ≡ NOT_UTF8) ⊎ ((result ≡ NO_MOMENT) ⊎
-        (result ≡ INVALID_ARGUMENT))) }
+fn hold(held: &mut RateLimits, text: &str, now: Moment, retry_after: bool)
+    ensures { IsHeldOf retry_after text.now now held.old held.new }
 {
-    let Some(mut held) = limits_in(limits) else {
-        return INVALID_ARGUMENT;
-    };
-    let Some(now) = Moment::new(now_secs, now_nanos) else {
-        return NO_MOMENT;
-    };
-    let Ok(header) = str::from_utf8(header) else {
-        return NOT_UTF8;
-    };
-    held.update(header, now);
-    limits.copy_from_slice(&held.ends());
-    OK
+    if retry_after {
+        held.update_retry_after(text, now);
+    } else {
+        held.update(text, now);
+    }
 }
 
-/// Holds a limit of all categories that the value of a `Retry-After` header states, beside those that
-/// are held.
-///
-/// # Returns
-///
-/// - `OK` if the limit is held.
-/// - `NOT_UTF8` if the header isn't UTF-8.
-/// - `NO_MOMENT` if the seconds and nanoseconds are no moment.
-/// - `INVALID_ARGUMENT` if there are other than [`ENDS`] limits.
-#[unsafe(no_mangle)]
-pub extern "C" fn curdmesa_limits_retry_after(
+// Holds the limits that the value of a header states, beside those that are held.
+fn hold_row(
     limits: &mut [u64],
     text: &[u8],
     now_secs: u64,
     now_nanos: u32,
+    retry_after: bool,
 ) -> i32
-    ensures updated { result ≡ OK →
-        HoldsBackRow text.now now_secs now_nanos limits.old limits.new }
+    ensures held { result ≡ OK →
+        HoldsRow retry_after text.now now_secs now_nanos limits.old limits.new }
     ensures not_utf8 { result ≡ NOT_UTF8 → ¬ IsUtf8 text.now }
     ensures utf8 { result ≡ OK → IsUtf8 text.now }
     ensures moment { result ≡ NO_MOMENT → ¬ IsMomentTime now_secs now_nanos }
@@ -108,9 +68,51 @@ pub extern "C" fn curdmesa_limits_retry_after(
     let Ok(text) = str::from_utf8(text) else {
         return NOT_UTF8;
     };
-    held.update_retry_after(text, now);
+    hold(&mut held, text, now, retry_after);
     limits.copy_from_slice(&held.ends());
     OK
+}
+
+/// Holds the rate limits that the value of an `X-Sentry-Rate-Limits` header states, beside those that
+/// are held.
+///
+/// # Returns
+///
+/// - `OK` if the limits are held.
+/// - `NOT_UTF8` if the header isn't UTF-8.
+/// - `NO_MOMENT` if the seconds and nanoseconds are no moment.
+/// - `INVALID_ARGUMENT` if there are other than [`ENDS`] limits.
+#[unsafe(no_mangle)]
+pub extern "C" fn curdmesa_limits_update(
+    limits: &mut [u64],
+    header: &[u8],
+    now_secs: u64,
+    now_nanos: u32,
+) -> i32
+    ensures { HoldsStated UpdatesRow header.now now_secs now_nanos limits.old limits.new result }
+{
+    hold_row(limits, header, now_secs, now_nanos, false)
+}
+
+/// Holds a limit of all categories that the value of a `Retry-After` header states, beside those that
+/// are held.
+///
+/// # Returns
+///
+/// - `OK` if the limit is held.
+/// - `NOT_UTF8` if the header isn't UTF-8.
+/// - `NO_MOMENT` if the seconds and nanoseconds are no moment.
+/// - `INVALID_ARGUMENT` if there are other than [`ENDS`] limits.
+#[unsafe(no_mangle)]
+pub extern "C" fn curdmesa_limits_retry_after(
+    limits: &mut [u64],
+    text: &[u8],
+    now_secs: u64,
+    now_nanos: u32,
+) -> i32
+    ensures { HoldsStated HoldsBackRow text.now now_secs now_nanos limits.old limits.new result }
+{
+    hold_row(limits, text, now_secs, now_nanos, true)
 }
 
 /// Tells until when a category is limited.

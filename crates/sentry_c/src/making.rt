@@ -16,7 +16,7 @@ use crate::status::{
     INVALID_ARGUMENT, NO_ROOM, NOT_UTF8, OK, OUT_OF_MEMORY, status_of_envelope_error,
 };
 use sentry_framing::{EnvelopeError, ItemFrame};
-use sentry_making::{append_item, json_text, make_envelope};
+use sentry_types::protocol::v7::{append_item, json_text, make_envelope};
 use std::alloc::Global;
 use std::str;
 

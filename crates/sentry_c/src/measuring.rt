@@ -8,8 +8,8 @@ ghost use Rattle.sentry_c.specs.Limits.{MeasuresRows};
 ghost use Rattle.sentry_c.specs.Statuses.{refusal_status};
 
 use crate::status::{INVALID_ARGUMENT, OK, status_of_envelope_error};
-use sentry_limits::measure;
 use sentry_limits::sizes::KINDS;
+use sentry_types::protocol::v7::measure;
 use std::alloc::Global;
 
 /// Counts the items of an envelope, and the bytes of their payloads, by their types.

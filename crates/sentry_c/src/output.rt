@@ -1,7 +1,12 @@
 //! Texts that are written to the caller's memory.
 
-ghost use Rattle.std.specs.Prelude.{◌≡◌, ◌<◌, ◌≤◌, ◌++◌, IfSome, IsFalse, IsTrue, length, drop};
+ghost use Rattle.std.specs.Prelude.{◌≡◌, ◌≢◌, ◌<◌, ◌≤◌, ◌++◌, Ok, IfSome, IsFalse, IsTrue, OnErr, length, drop, true, false};
+ghost use Rattle.sentry_envelope.specs.EnvelopeView.{text_of};
 ghost use Rattle.sentry_forward.specs.View.{joined_parts};
+ghost use Rattle.sentry_c.specs.Output.{IsTooLong, Puts};
+
+use sentry_types::protocol::v7::Envelope;
+use std::alloc::{AllocError, Global};
 
 /// Sets `needed` to the length of a text, and writes the text to the front of `out`. Returns
 /// whether there was room; if not, `out` is unchanged.
@@ -60,4 +65,32 @@ pub fn deliver_parts(parts: &[&[u8]], len: usize, out: &mut [u8], needed: &mut u
     }
     put_parts(parts, out);
     true
+}
+
+/// Writes the text of an envelope as [`deliver`] does. What was parsed or made of a report is plain,
+/// so that only an allocation can fail.
+///
+/// # Errors
+///
+/// `AllocError` if an allocation fails; nothing was written.
+#[tactic(auto, using(crate::proofs::Pieces::pieces_are_parts))]
+pub fn deliver_envelope(
+    alloc: Global,
+    envelope: &Envelope,
+    out: &mut [u8],
+    needed: &mut u64,
+) -> Result<bool, AllocError>
+    ensures written { result ≡ Ok true →
+        Puts (λ text. text ≡ text_of envelope.now) out.old out.new needed.new }
+    ensures no_room { result ≡ Ok false →
+        IsTooLong (λ text. text ≡ text_of envelope.now) out.old needed.new }
+    ensures unchanged { result ≢ Ok true → out.new ≡ out.old }
+    ensures untold { OnErr result (needed.new ≡ needed.old) }
+{
+    let Ok(text) = envelope.text(alloc) else {
+        return Err(AllocError);
+    };
+    let pieces = text.pieces(alloc)?;
+    let len = parts_len(&pieces).ok_or(AllocError)?;
+    Ok(deliver_parts(&pieces, len, out, needed))
 }

@@ -4,7 +4,7 @@ ghost use Rattle.std.specs.Prelude.{◌≡◌, ◌≢◌, ◌+◌, ◌<◌, ◌+
 ghost use Rattle.sentry_c.specs.Making.{AreJoined, AreTexts, both, pair_of, total};
 
 use sentry_framing::ItemFrame;
-use sentry_making::TextMember;
+use sentry_types::protocol::v7::TextMember;
 use std::alloc::{AllocError, Global};
 use std::str;
 

@@ -26,6 +26,8 @@ pub const INVALID_ARGUMENT: i32 = 5;
 pub const NOTHING_LEFT: i32 = 6;
 /// The sum would exceed 2^64-1.
 pub const LEDGER_FULL: i32 = 7;
+/// The header line isn't one JSON object without floats that reads as envelope headers.
+pub const INVALID_HEADER: i32 = 14;
 /// An allocation failed.
 pub const OUT_OF_MEMORY: i32 = 17;
 
@@ -44,7 +46,7 @@ pub fn status_of_envelope_error(error: &EnvelopeError) -> i32
         EnvelopeError::MissingHeader => 11,
         EnvelopeError::MissingItemHeader => 12,
         EnvelopeError::MissingNewline => 13,
-        EnvelopeError::InvalidHeader => 14,
+        EnvelopeError::InvalidHeader => INVALID_HEADER,
         EnvelopeError::InvalidItemHeader => 15,
         EnvelopeError::InvalidItemPayload => 16,
         EnvelopeError::OutOfMemory => OUT_OF_MEMORY,

@@ -238,7 +238,7 @@ fn last_part(part: Option<&str>, total: usize) -> LastPart
 }
 
 // Returns the numbers of a timestamp and 1, or three times 0.
-fn numbers_of(timestamp: Option<Moment>) -> (u64, u32, u32)
+pub(crate) fn numbers_of(timestamp: Option<Moment>) -> (u64, u32, u32)
     ensures { IsTimestamp result.0 result.1 result.2 (option_map time_of timestamp) }
 {
     match timestamp {

@@ -26,7 +26,7 @@ returns-in_default-event_of-clause-answers c = inr (inr (inr (inr (inr (refusals
 pub returns-clause-fault : goal.returns-clause-fault
 returns-clause-fault c = λ x is other.
     let same = c.status_of_envelope_error.ensures.only x (search rules) in
-    let fault = rw c.deref-4.ensures.value at c.in-Err-normal_form.ensures.fault in
+    let fault = rw c.deref-4.ensures.value at c.in-Err-deliver_normal_form.ensures.fault in
     record {
       bytes = c.in-Ok-event_of.bytes.items;
       event = search rules;
