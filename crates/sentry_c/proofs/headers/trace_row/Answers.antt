@@ -1,4 +1,3 @@
-use Rattle.std.proofs.Common.{List, ℕ}
 use Rattle.sentry_c.specs.Misfits.{IsGrown}
 use Rattle.sentry_c.proofs.HeaderRows.{copied_plain, optional_on}
 use Rattle.sentry_c.proofs.Rowed.{grown_on}
