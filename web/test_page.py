@@ -185,7 +185,7 @@ class Checks:
 
 
 def main():
-    page, megabytes, shot = [*sys.argv[1:], "10", ""][:3]
+    page, megabytes, shot = [*sys.argv[1:], *["10", ""][len(sys.argv) - 2 :]]
     for kind in browsers.there():
         with kind() as browser:
             it = Checks(browser, Path(page).resolve())
