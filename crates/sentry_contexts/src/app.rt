@@ -6,9 +6,8 @@ ghost use Rattle.serde_json.specs.View.{members_view};
 ghost use Rattle.sentry_tables.specs.Kind.{tag};
 ghost use Rattle.sentry_contexts.specs.Programs.{app_fields, app_in_order};
 
-use sentry_json::Node;
 use sentry_moments::{Moment, Rfc3339};
-use sentry_rows::{AsKept, Copier, KeptTable, Reader, Sink, Table};
+use sentry_rows::{AsKept, Copier, KeptTable, Sink, Source, Table};
 use sentry_tables::{Formed, Member};
 use serde_json::{Map, Value};
 use std::alloc::{AllocError, Global};
@@ -110,7 +109,7 @@ impl KeptTable for AppContext {
         ]
     }
 
-    fn read<N: Node>(from: &mut Reader<'_, N>) -> AppContext {
+    fn read<S: Source>(from: &mut S) -> AppContext {
         AppContext {
             app_build: from.optional("app_build"),
             app_identifier: from.optional("app_identifier"),

@@ -6,8 +6,7 @@ ghost use Rattle.serde_json.specs.View.{members_view};
 ghost use Rattle.sentry_tables.specs.Kind.{tag};
 ghost use Rattle.sentry_contexts.specs.Programs.{browser_fields, browser_in_order};
 
-use sentry_json::Node;
-use sentry_rows::{AsKept, Copier, KeptTable, Reader, Sink, Table};
+use sentry_rows::{AsKept, Copier, KeptTable, Sink, Source, Table};
 use sentry_tables::{Formed, Member};
 use serde_json::{Map, Value};
 use std::alloc::{AllocError, Global};
@@ -80,7 +79,7 @@ impl KeptTable for BrowserContext {
         &["type", "name", "version"]
     }
 
-    fn read<N: Node>(from: &mut Reader<'_, N>) -> BrowserContext {
+    fn read<S: Source>(from: &mut S) -> BrowserContext {
         BrowserContext {
             name: from.optional("name"),
             version: from.optional("version"),

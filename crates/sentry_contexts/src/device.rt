@@ -6,9 +6,8 @@ ghost use Rattle.serde_json.specs.View.{members_view};
 ghost use Rattle.sentry_tables.specs.Kind.{tag};
 ghost use Rattle.sentry_contexts.specs.Devices.{device_fields, device_in_order};
 
-use sentry_json::Node;
 use sentry_moments::{Moment, Rfc3339};
-use sentry_rows::{AsKept, Copier, KeptTable, Reader, Sink, Table};
+use sentry_rows::{AsKept, Copier, KeptTable, Sink, Source, Table};
 use sentry_tables::{Formed, Member};
 use sentry_words::Orientation;
 use serde_json::{Map, Value};
@@ -161,7 +160,7 @@ impl KeptTable for DeviceContext {
         ]
     }
 
-    fn read<N: Node>(from: &mut Reader<'_, N>) -> DeviceContext {
+    fn read<S: Source>(from: &mut S) -> DeviceContext {
         DeviceContext {
             arch: from.optional("arch"),
             battery_level: from.optional("battery_level"),

@@ -6,8 +6,7 @@ ghost use Rattle.serde_json.specs.View.{members_view};
 ghost use Rattle.sentry_tables.specs.Kind.{tag};
 ghost use Rattle.sentry_contexts.specs.Devices.{gpu_fields, gpu_in_order};
 
-use sentry_json::Node;
-use sentry_rows::{AsKept, Copier, KeptTable, Reader, Sink, Table};
+use sentry_rows::{AsKept, Copier, KeptTable, Sink, Source, Table};
 use sentry_tables::{Formed, Member};
 use serde_json::{Map, Value};
 use std::alloc::{AllocError, Global};
@@ -157,7 +156,7 @@ impl KeptTable for GpuContext {
         ]
     }
 
-    fn read<N: Node>(from: &mut Reader<'_, N>) -> GpuContext {
+    fn read<S: Source>(from: &mut S) -> GpuContext {
         GpuContext {
             api_type: from.optional("api_type"),
             driver_version: from.optional("driver_version"),

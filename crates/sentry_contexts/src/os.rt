@@ -6,8 +6,7 @@ ghost use Rattle.serde_json.specs.View.{members_view};
 ghost use Rattle.sentry_tables.specs.Kind.{tag};
 ghost use Rattle.sentry_contexts.specs.Systems.{os_fields, os_in_order};
 
-use sentry_json::Node;
-use sentry_rows::{AsKept, Copier, KeptTable, Reader, Sink, Table};
+use sentry_rows::{AsKept, Copier, KeptTable, Sink, Source, Table};
 use sentry_tables::{Formed, Member};
 use serde_json::{Map, Value};
 use std::alloc::{AllocError, Global};
@@ -99,7 +98,7 @@ impl KeptTable for OsContext {
         ]
     }
 
-    fn read<N: Node>(from: &mut Reader<'_, N>) -> OsContext {
+    fn read<S: Source>(from: &mut S) -> OsContext {
         OsContext {
             build: from.optional("build"),
             kernel_version: from.optional("kernel_version"),

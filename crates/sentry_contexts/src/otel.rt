@@ -6,8 +6,7 @@ ghost use Rattle.serde_json.specs.View.{members_view};
 ghost use Rattle.sentry_tables.specs.Kind.{tag};
 ghost use Rattle.sentry_contexts.specs.Telemetry.{otel_fields, otel_in_order};
 
-use sentry_json::Node;
-use sentry_rows::{AsKept, Copier, KeptTable, Reader, Sink, Table};
+use sentry_rows::{AsKept, Copier, KeptTable, Sink, Source, Table};
 use sentry_tables::{Formed, Member};
 use serde_json::{Map, Value};
 use std::alloc::{AllocError, Global};
@@ -81,7 +80,7 @@ impl KeptTable for OtelContext {
         &["type", "attributes", "resource"]
     }
 
-    fn read<N: Node>(from: &mut Reader<'_, N>) -> OtelContext {
+    fn read<S: Source>(from: &mut S) -> OtelContext {
         OtelContext {
             attributes: from.map("attributes"),
             resource: from.map("resource"),

@@ -3,8 +3,7 @@
 
 ghost use Rattle.sentry_contexts.specs.Responses.{response_fields, response_in_order};
 
-use sentry_json::Node;
-use sentry_rows::{AsTable, Copier, CopyTable, ReadTable, Reader, Sink, Table};
+use sentry_rows::{AsTable, Copier, CopyTable, ReadTable, Sink, Source, Table};
 use sentry_tables::{Formed, Member};
 use serde_json::{Map, Value};
 use std::alloc::{AllocError, Global};
@@ -72,7 +71,7 @@ impl Table for ResponseContext {
 }
 
 impl ReadTable for ResponseContext {
-    fn read<N: Node>(from: &mut Reader<'_, N>) -> ResponseContext {
+    fn read<S: Source>(from: &mut S) -> ResponseContext {
         ResponseContext {
             body_size: from.optional("body_size"),
             cookies: from.optional("cookies"),

@@ -5,9 +5,8 @@ ghost use Rattle.sentry_contexts.specs.Telemetry.{trace_context_fields, trace_co
 
 use rand_core::Rng;
 use sentry_identifiers::{SpanId, TraceId};
-use sentry_json::Node;
 use sentry_moments::Moment;
-use sentry_rows::{AsTable, Copier, CopyTable, ReadTableAt, Reader, Sink, Table};
+use sentry_rows::{AsTable, Copier, CopyTable, ReadTableAt, Sink, Source, Table};
 use sentry_tables::{Drawn, Formed, Member, Own};
 use sentry_words::SpanStatus;
 use serde_json::{Map, Value};
@@ -95,7 +94,7 @@ impl Table for TraceContext {
 }
 
 impl ReadTableAt for TraceContext {
-    fn read<N: Node, R: Rng>(from: &mut Reader<'_, N>, _now: Moment, ids: &mut R) -> TraceContext {
+    fn read<S: Source, R: Rng>(from: &mut S, _now: Moment, ids: &mut R) -> TraceContext {
         TraceContext {
             data_: from.map("data"),
             description: from.optional("description"),

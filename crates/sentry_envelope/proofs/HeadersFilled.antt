@@ -8,7 +8,7 @@ use Rattle.sentry_tables.specs.Shows.{Shows}
 use Rattle.sentry_tables.specs.Reading.{Only, Refused, Shown, TextRefused, TextShown}
 use Rattle.sentry_tables.specs.declared.error.TreeError.{TreeError}
 use Rattle.sentry_tables.proofs.Texts.{line_refused, line_shows, text_read_by}
-use Rattle.sentry_rows.specs.Fields.{Ends, ReadsFields, read_of}
+use Rattle.sentry_rows.specs.Fields.{Ends, ReadsField, ReadsFields, read_of}
 use Rattle.sentry_rows.specs.declared.reader.Reader.{Reader}
 use Rattle.sentry_rows.proofs.Reading.{table_ends}
 use Rattle.sentry_envelope.specs.EnvelopeView.{no_fields}
@@ -16,7 +16,7 @@ use Rattle.sentry_envelope.specs.HeaderFields.{header_fields, header_kind, heade
 use Rattle.sentry_envelope.specs.declared.headers.EnvelopeHeaders.{EnvelopeHeaders}
 
 -- the rows were read into their place, and the reader's end says whether all of them could be
-pub rows_filled : {N : Type 0} (data_of : N → Data) (h : EnvelopeHeaders) (a z : Reader N) (d : Data) (r : Result (Unit {0}) TreeError) → read_of data_of a ≡ d → ReadsFields data_of header_fields h a z → a.failed ≡ None → Ends z tt r → OnOk r (Shown header_kind d (headers_cell h)) × IfErr r (λ e. Only e (Refused header_kind d))
+pub rows_filled : {N : Type 0} (data_of : N → Data) (h : EnvelopeHeaders) (a z : Reader N) (d : Data) (r : Result (Unit {0}) TreeError) → read_of data_of a ≡ d → ReadsFields (ReadsField data_of) header_fields h a z → a.failed ≡ None → Ends z tt r → OnOk r (Shown header_kind d (headers_cell h)) × IfErr r (λ e. Only e (Refused header_kind d))
 rows_filled data_of h a z d (Ok u) is read none ends = (table_ends data_of header_fields h a z d (Ok h) is read none (ends.0, refl), tt)
 rows_filled data_of h a z d (Err e) is read none ends = (tt, table_ends data_of header_fields h a z d (Err e) is read none ends)
 

@@ -3,18 +3,17 @@
 
 ghost use Rattle.std.specs.Prelude.{◌≡◌, ◌⊎◌, IfErr, IfSome, OnOk, Some};
 ghost use Rattle.sentry_tables.specs.Reading.{Only, Refused, Shown, TextRefused, TextShown};
-ghost use Rattle.sentry_json.specs.TapeView.{node_data};
 ghost use Rattle.sentry_envelope.specs.EnvelopeView.{no_fields};
 ghost use Rattle.sentry_envelope.specs.HeaderFields.{header_fields, header_in_order, header_kind, headers_cell, put_id};
 
 use sentry_framing::EnvelopeError;
 use sentry_identifiers::Hyphenated;
-use sentry_json::{Node, TapeNode, look_up};
+use sentry_json::{Node, look_up};
 use sentry_keys::Dsn;
 use sentry_moments::{Moment, Rfc3339};
 use sentry_parts::ClientSdkInfo;
 use sentry_records::DynamicSamplingContext;
-use sentry_rows::{AsTable, Copier, CopyTable, ReadTable, Reader, Sink, Table};
+use sentry_rows::{AsTable, Copier, CopyTable, ReadTable, Reader, Sink, Source, Table};
 use sentry_tables::{Formed, LineReader, Member, ReadCodec, TreeError};
 use std::alloc::{AllocError, Global};
 use uuid::Uuid;
@@ -203,7 +202,7 @@ impl Table for EnvelopeHeaders {
 }
 
 impl ReadTable for EnvelopeHeaders {
-    fn read<N: Node>(from: &mut Reader<'_, N>) -> EnvelopeHeaders {
+    fn read<S: Source>(from: &mut S) -> EnvelopeHeaders {
         EnvelopeHeaders {
             dsn: from.optional("dsn"),
             event_id: from.optional_as::<Hyphenated, Uuid>("event_id"),
@@ -298,13 +297,13 @@ fn fill_headers<'a>(
 }
 
 #[tactic(auto, using(sentry_rows::proofs::Answering::no_object_fails))]
-fn fill_from_root<'t, 'a>(
+fn fill_from_root<N: Node>(
     alloc: Global,
-    root: &TapeNode<'t, 'a>,
+    root: &N,
     headers: &mut EnvelopeHeaders,
 ) -> Result<(), TreeError>
-    ensures ok { OnOk result (Shown header_kind (node_data root.now) (headers_cell headers.new)) }
-    ensures err { IfErr result (λ e. Only e (Refused header_kind (node_data root.now))) }
+    ensures ok { OnOk result (Shown header_kind (N.data_of root.now) (headers_cell headers.new)) }
+    ensures err { IfErr result (λ e. Only e (Refused header_kind (N.data_of root.now))) }
 {
     let mut from = Reader::new(alloc, root)?;
     *headers = ReadTable::read(&mut from);

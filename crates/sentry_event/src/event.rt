@@ -14,11 +14,10 @@ use rand_core::Rng;
 use sentry_contexts::Context;
 use sentry_frames::{Exception, LogEntry, Stacktrace, TemplateInfo, Thread};
 use sentry_identifiers::{Simple, random_uuid};
-use sentry_json::Node;
 use sentry_moments::{Moment, Seconds};
 use sentry_parts::{Breadcrumb, ClientSdkInfo, DebugMeta, Request, User};
 use sentry_rows::{
-    AsCaseMap, AsTable, Copier, CopyTable, MadeCodec, ReadTableAt, Reader, Sink, Table, Values,
+    AsCaseMap, AsTable, Copier, CopyTable, MadeCodec, ReadTableAt, Sink, Source, Table, Values,
 };
 use sentry_tables::{Formed, Member};
 use sentry_words::Level;
@@ -274,17 +273,20 @@ impl<'a> Table for Event<'a> {
 }
 
 impl<'a> ReadTableAt for Event<'a> {
-    fn read<N: Node, R: Rng>(from: &mut Reader<'_, N>, now: Moment, ids: &mut R) -> Event<'a> {
+    fn read<S: Source, R: Rng>(from: &mut S, now: Moment, ids: &mut R) -> Event<'a> {
         Event {
             breadcrumbs: from.values_at("breadcrumbs", now, ids),
             contexts: from.or_as_at::<AsCaseMap, Map<String, Context>, R>(
                 "contexts",
-                Map::new(from.alloc),
+                Map::new(from.alloc()),
                 now,
                 ids,
             ),
             culprit: from.optional("culprit"),
-            debug_meta: from.or("debug_meta", DebugMeta::default_in(from.alloc)),
+            debug_meta: from.or_as::<AsTable, DebugMeta>(
+                "debug_meta",
+                DebugMeta::default_in(from.alloc()),
+            ),
             dist: from.optional("dist"),
             environment: from.optional("environment"),
             event_id: from.drawn_as::<Simple, Uuid, R>("event_id", ids),
@@ -292,7 +294,7 @@ impl<'a> ReadTableAt for Event<'a> {
             extra: from.map("extra"),
             fingerprint: from.made_as::<AsFingerprint, Vec<CowStr<'a>>>(
                 "fingerprint",
-                Vec::new(from.alloc),
+                Vec::new(from.alloc()),
             ),
             level: from.or("level", Level::Error),
             logentry: from.optional("logentry"),

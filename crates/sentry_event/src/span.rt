@@ -5,9 +5,8 @@ ghost use Rattle.sentry_event.specs.Spans.{span_fields, span_in_order};
 
 use rand_core::Rng;
 use sentry_identifiers::{SpanId, TraceId};
-use sentry_json::Node;
 use sentry_moments::{Moment, Rfc3339, Seconds};
-use sentry_rows::{AsTable, Copier, CopyTable, ReadTableAt, Reader, Sink, Table};
+use sentry_rows::{AsTable, Copier, CopyTable, ReadTableAt, Sink, Source, Table};
 use sentry_tables::{Drawn, Formed, Member, Own};
 use sentry_words::SpanStatus;
 use serde_json::{Map, Value};
@@ -140,7 +139,7 @@ impl Table for Span {
 }
 
 impl ReadTableAt for Span {
-    fn read<N: Node, R: Rng>(from: &mut Reader<'_, N>, now: Moment, ids: &mut R) -> Span {
+    fn read<S: Source, R: Rng>(from: &mut S, now: Moment, ids: &mut R) -> Span {
         Span {
             data_: from.map("data"),
             description: from.optional("description"),

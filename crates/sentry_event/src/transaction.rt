@@ -13,10 +13,9 @@ use crate::span::Span;
 use rand_core::Rng;
 use sentry_contexts::Context;
 use sentry_identifiers::{Simple, random_uuid};
-use sentry_json::Node;
 use sentry_moments::{Moment, Rfc3339, Seconds};
 use sentry_parts::{ClientSdkInfo, Request, User};
-use sentry_rows::{AsCaseMap, AsTable, Copier, CopyTable, ReadTableAt, Reader, Sink, Table};
+use sentry_rows::{AsCaseMap, AsTable, Copier, CopyTable, ReadTableAt, Sink, Source, Table};
 use sentry_tables::{Formed, Member};
 use serde_json::{Map, Value};
 use std::alloc::{AllocError, Global};
@@ -202,15 +201,11 @@ impl<'a> Table for Transaction<'a> {
 }
 
 impl<'a> ReadTableAt for Transaction<'a> {
-    fn read<N: Node, R: Rng>(
-        from: &mut Reader<'_, N>,
-        now: Moment,
-        ids: &mut R,
-    ) -> Transaction<'a> {
+    fn read<S: Source, R: Rng>(from: &mut S, now: Moment, ids: &mut R) -> Transaction<'a> {
         Transaction {
             contexts: from.or_as_at::<AsCaseMap, Map<String, Context>, R>(
                 "contexts",
-                Map::new(from.alloc),
+                Map::new(from.alloc()),
                 now,
                 ids,
             ),

@@ -3,8 +3,7 @@
 
 ghost use Rattle.sentry_frames.specs.Causes.{c_error_fields, c_error_in_order};
 
-use sentry_json::Node;
-use sentry_rows::{AsTable, Copier, CopyTable, ReadTable, Reader, Sink, Table};
+use sentry_rows::{AsTable, Copier, CopyTable, ReadTable, Sink, Source, Table};
 use sentry_tables::{Formed, Member};
 use std::alloc::{AllocError, Global};
 
@@ -79,7 +78,7 @@ impl Table for CError {
 }
 
 impl ReadTable for CError {
-    fn read<N: Node>(from: &mut Reader<'_, N>) -> CError {
+    fn read<S: Source>(from: &mut S) -> CError {
         CError {
             name: from.optional("name"),
             number: from.required("number", 0),

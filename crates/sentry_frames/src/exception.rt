@@ -6,8 +6,7 @@ ghost use Rattle.sentry_frames.specs.Exceptions.{exception_fields, exception_in_
 use crate::mechanism::Mechanism;
 use crate::stacktrace::Stacktrace;
 use crate::thread_id::ThreadId;
-use sentry_json::Node;
-use sentry_rows::{AsTable, Copier, CopyTable, ReadTable, Reader, Sink, Table};
+use sentry_rows::{AsTable, Copier, CopyTable, ReadTable, Sink, Source, Table};
 use sentry_tables::{Formed, Member};
 use std::alloc::{AllocError, Global};
 
@@ -82,7 +81,7 @@ impl Table for Exception {
 }
 
 impl ReadTable for Exception {
-    fn read<N: Node>(from: &mut Reader<'_, N>) -> Exception {
+    fn read<S: Source>(from: &mut S) -> Exception {
         Exception {
             mechanism: from.optional("mechanism"),
             module: from.optional("module"),

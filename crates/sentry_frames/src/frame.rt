@@ -3,8 +3,7 @@
 
 ghost use Rattle.sentry_frames.specs.Frames.{frame_fields, frame_in_order};
 
-use sentry_json::Node;
-use sentry_rows::{AsTable, Copier, CopyTable, ReadTable, Reader, Sink, Table};
+use sentry_rows::{AsTable, Copier, CopyTable, ReadTable, Sink, Source, Table};
 use sentry_tables::{Formed, Member};
 use sentry_text::Addr;
 use serde_json::{Map, Value};
@@ -122,7 +121,7 @@ impl Table for Frame {
 }
 
 impl ReadTable for Frame {
-    fn read<N: Node>(from: &mut Reader<'_, N>) -> Frame {
+    fn read<S: Source>(from: &mut S) -> Frame {
         Frame {
             abs_path: from.optional("abs_path"),
             addr_mode: from.optional("addr_mode"),

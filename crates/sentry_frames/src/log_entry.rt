@@ -3,8 +3,7 @@
 
 ghost use Rattle.sentry_frames.specs.LogEntries.{entry_fields, entry_in_order};
 
-use sentry_json::Node;
-use sentry_rows::{AsTable, Copier, CopyTable, ReadTable, Reader, Sink, Table};
+use sentry_rows::{AsTable, Copier, CopyTable, ReadTable, Sink, Source, Table};
 use sentry_tables::{Formed, Member};
 use serde_json::Value;
 use std::alloc::{AllocError, Global};
@@ -62,7 +61,7 @@ impl Table for LogEntry {
 }
 
 impl ReadTable for LogEntry {
-    fn read<N: Node>(from: &mut Reader<'_, N>) -> LogEntry {
+    fn read<S: Source>(from: &mut S) -> LogEntry {
         LogEntry {
             message: from.text("message"),
             params: from.list("params"),

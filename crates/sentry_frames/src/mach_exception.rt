@@ -3,8 +3,7 @@
 
 ghost use Rattle.sentry_frames.specs.Causes.{mach_fields, mach_in_order};
 
-use sentry_json::Node;
-use sentry_rows::{AsTable, Copier, CopyTable, ReadTable, Reader, Sink, Table};
+use sentry_rows::{AsTable, Copier, CopyTable, ReadTable, Sink, Source, Table};
 use sentry_tables::{Formed, Member};
 use std::alloc::{AllocError, Global};
 
@@ -67,7 +66,7 @@ impl Table for MachException {
 }
 
 impl ReadTable for MachException {
-    fn read<N: Node>(from: &mut Reader<'_, N>) -> MachException {
+    fn read<S: Source>(from: &mut S) -> MachException {
         MachException {
             code: from.required("code", 0),
             exception: from.required("exception", 0),

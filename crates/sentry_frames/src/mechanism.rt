@@ -4,8 +4,7 @@
 ghost use Rattle.sentry_frames.specs.Mechanisms.{mechanism_fields, mechanism_in_order};
 
 use crate::mechanism_meta::MechanismMeta;
-use sentry_json::Node;
-use sentry_rows::{AsTable, Copier, CopyTable, ReadTable, Reader, Sink, Table};
+use sentry_rows::{AsTable, Copier, CopyTable, ReadTable, Sink, Source, Table};
 use sentry_tables::{Formed, Member};
 use sentry_text::UrlText;
 use serde_json::{Map, Value};
@@ -83,13 +82,16 @@ impl Table for Mechanism {
 }
 
 impl ReadTable for Mechanism {
-    fn read<N: Node>(from: &mut Reader<'_, N>) -> Mechanism {
+    fn read<S: Source>(from: &mut S) -> Mechanism {
         Mechanism {
             data_: from.map("data"),
             description: from.optional("description"),
             handled: from.optional("handled"),
             help_link: from.optional_as::<UrlText, Url>("help_link"),
-            meta: from.or("meta", MechanismMeta::default_in(from.alloc)),
+            meta: from.or_as::<AsTable, MechanismMeta>(
+                "meta",
+                MechanismMeta::default_in(from.alloc()),
+            ),
             synthetic: from.optional("synthetic"),
             ty: from.text("type"),
         }

@@ -6,8 +6,7 @@ ghost use Rattle.sentry_frames.specs.Mechanisms.{mechanism_meta_fields, meta_in_
 use crate::c_error::CError;
 use crate::mach_exception::MachException;
 use crate::posix_signal::PosixSignal;
-use sentry_json::Node;
-use sentry_rows::{AsTable, Copier, CopyTable, DefaultedTable, ReadTable, Reader, Sink, Table};
+use sentry_rows::{AsTable, Copier, CopyTable, DefaultedTable, ReadTable, Sink, Source, Table};
 use sentry_tables::{Formed, Member};
 use std::alloc::{AllocError, Global};
 
@@ -67,7 +66,7 @@ impl Table for MechanismMeta {
 }
 
 impl ReadTable for MechanismMeta {
-    fn read<N: Node>(from: &mut Reader<'_, N>) -> MechanismMeta {
+    fn read<S: Source>(from: &mut S) -> MechanismMeta {
         MechanismMeta {
             errno: from.optional("errno"),
             mach_exception: from.optional("mach_exception"),

@@ -3,8 +3,7 @@
 
 ghost use Rattle.sentry_frames.specs.Causes.{signal_fields, signal_in_order};
 
-use sentry_json::Node;
-use sentry_rows::{AsTable, Copier, CopyTable, ReadTable, Reader, Sink, Table};
+use sentry_rows::{AsTable, Copier, CopyTable, ReadTable, Sink, Source, Table};
 use sentry_tables::{Formed, Member};
 use std::alloc::{AllocError, Global};
 
@@ -111,7 +110,7 @@ impl Table for PosixSignal {
 }
 
 impl ReadTable for PosixSignal {
-    fn read<N: Node>(from: &mut Reader<'_, N>) -> PosixSignal {
+    fn read<S: Source>(from: &mut S) -> PosixSignal {
         PosixSignal {
             code: from.optional("code"),
             code_name: from.optional("code_name"),

@@ -4,8 +4,7 @@
 ghost use Rattle.sentry_frames.specs.Frames.{stacktrace_fields, stacktrace_in_order};
 
 use crate::frame::Frame;
-use sentry_json::Node;
-use sentry_rows::{AsTable, Copier, CopyTable, ReadTable, Reader, Sink, Table};
+use sentry_rows::{AsTable, Copier, CopyTable, ReadTable, Sink, Source, Table};
 use sentry_tables::{Formed, Member};
 use sentry_text::RegVal;
 use serde_json::Map;
@@ -88,7 +87,7 @@ impl Table for Stacktrace {
 }
 
 impl ReadTable for Stacktrace {
-    fn read<N: Node>(from: &mut Reader<'_, N>) -> Stacktrace {
+    fn read<S: Source>(from: &mut S) -> Stacktrace {
         Stacktrace {
             frames: from.written_list("frames"),
             frames_omitted: from.optional("frames_omitted"),

@@ -3,8 +3,7 @@
 
 ghost use Rattle.sentry_frames.specs.Frames.{template_fields, template_in_order};
 
-use sentry_json::Node;
-use sentry_rows::{AsTable, Copier, CopyTable, ReadTable, Reader, Sink, Table};
+use sentry_rows::{AsTable, Copier, CopyTable, ReadTable, Sink, Source, Table};
 use sentry_tables::{Formed, Member};
 use std::alloc::{AllocError, Global};
 
@@ -79,7 +78,7 @@ impl Table for TemplateInfo {
 }
 
 impl ReadTable for TemplateInfo {
-    fn read<N: Node>(from: &mut Reader<'_, N>) -> TemplateInfo {
+    fn read<S: Source>(from: &mut S) -> TemplateInfo {
         TemplateInfo {
             abs_path: from.optional("abs_path"),
             colno: from.optional("colno"),

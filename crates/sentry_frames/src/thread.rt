@@ -5,8 +5,7 @@ ghost use Rattle.sentry_frames.specs.Threads.{thread_fields, thread_in_order};
 
 use crate::stacktrace::Stacktrace;
 use crate::thread_id::ThreadId;
-use sentry_json::Node;
-use sentry_rows::{AsTable, Copier, CopyTable, ReadTable, Reader, Sink, Table};
+use sentry_rows::{AsTable, Copier, CopyTable, ReadTable, Sink, Source, Table};
 use sentry_tables::{Formed, Member};
 use std::alloc::{AllocError, Global};
 
@@ -77,7 +76,7 @@ impl Table for Thread {
 }
 
 impl ReadTable for Thread {
-    fn read<N: Node>(from: &mut Reader<'_, N>) -> Thread {
+    fn read<S: Source>(from: &mut S) -> Thread {
         Thread {
             crashed: from.or("crashed", false),
             current: from.or("current", false),

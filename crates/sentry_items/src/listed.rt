@@ -3,8 +3,7 @@
 ghost use Rattle.sentry_items.specs.Containers.{container_kind, items_cell};
 ghost use Rattle.sentry_tables.specs.Reading.{ReadsText};
 
-use sentry_json::Node;
-use sentry_rows::{AsTable, Copier, CopyTable, ReadTable, Reader, Sink, Table};
+use sentry_rows::{AsTable, Copier, CopyTable, ReadTable, Sink, Source, Table};
 use sentry_tables::{Formed, FromTree, LineReader, Member, TreeError};
 use std::alloc::AllocError;
 
@@ -33,9 +32,9 @@ impl<T: Member> Table for Listed<T> {
 }
 
 impl<T: FromTree> ReadTable for Listed<T> {
-    fn read<N: Node>(from: &mut Reader<'_, N>) -> Listed<T> {
+    fn read<S: Source>(from: &mut S) -> Listed<T> {
         Listed {
-            items: from.required("items", Vec::new(from.alloc)),
+            items: from.required("items", Vec::new(from.alloc())),
         }
     }
 }

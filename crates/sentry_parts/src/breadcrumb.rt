@@ -4,9 +4,8 @@
 ghost use Rattle.sentry_parts.specs.Breadcrumbs.{breadcrumb_fields, breadcrumb_in_order};
 
 use rand_core::Rng;
-use sentry_json::Node;
 use sentry_moments::{Moment, Seconds};
-use sentry_rows::{AsTable, Copier, CopyTable, ReadTableAt, Reader, Sink, Table};
+use sentry_rows::{AsTable, Copier, CopyTable, ReadTableAt, Sink, Source, Table};
 use sentry_tables::{Formed, Member};
 use sentry_words::Level;
 use serde_json::{Map, Value};
@@ -85,7 +84,7 @@ impl Table for Breadcrumb {
 }
 
 impl ReadTableAt for Breadcrumb {
-    fn read<N: Node, R: Rng>(from: &mut Reader<'_, N>, now: Moment, _ids: &mut R) -> Breadcrumb {
+    fn read<S: Source, R: Rng>(from: &mut S, now: Moment, _ids: &mut R) -> Breadcrumb {
         Breadcrumb {
             category: from.optional("category"),
             data_: from.map("data"),

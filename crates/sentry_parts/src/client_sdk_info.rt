@@ -4,8 +4,7 @@
 ghost use Rattle.sentry_parts.specs.ClientSdk.{sdk_fields, sdk_in_order};
 
 use crate::client_sdk_package::ClientSdkPackage;
-use sentry_json::Node;
-use sentry_rows::{AsTable, Copier, CopyTable, ReadTable, Reader, Sink, Table};
+use sentry_rows::{AsTable, Copier, CopyTable, ReadTable, Sink, Source, Table};
 use sentry_tables::{Formed, Member};
 use std::alloc::AllocError;
 
@@ -54,7 +53,7 @@ impl Table for ClientSdkInfo {
 }
 
 impl ReadTable for ClientSdkInfo {
-    fn read<N: Node>(from: &mut Reader<'_, N>) -> ClientSdkInfo {
+    fn read<S: Source>(from: &mut S) -> ClientSdkInfo {
         ClientSdkInfo {
             integrations: from.list("integrations"),
             name: from.text("name"),

@@ -3,8 +3,7 @@
 
 ghost use Rattle.sentry_parts.specs.ClientSdk.{package_fields, package_in_order};
 
-use sentry_json::Node;
-use sentry_rows::{AsTable, Copier, CopyTable, ReadTable, Reader, Sink, Table};
+use sentry_rows::{AsTable, Copier, CopyTable, ReadTable, Sink, Source, Table};
 use sentry_tables::{Formed, Member};
 use std::alloc::AllocError;
 
@@ -47,7 +46,7 @@ impl Table for ClientSdkPackage {
 }
 
 impl ReadTable for ClientSdkPackage {
-    fn read<N: Node>(from: &mut Reader<'_, N>) -> ClientSdkPackage {
+    fn read<S: Source>(from: &mut S) -> ClientSdkPackage {
         ClientSdkPackage {
             name: from.text("name"),
             version: from.text("version"),

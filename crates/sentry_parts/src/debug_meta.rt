@@ -5,8 +5,7 @@ ghost use Rattle.sentry_parts.specs.Debugging.{empty_meta, debug_meta_fields, de
 
 use crate::debug_image::DebugImage;
 use crate::system_sdk_info::SystemSdkInfo;
-use sentry_json::Node;
-use sentry_rows::{AsTable, Copier, CopyTable, DefaultedTable, ReadTable, Reader, Sink, Table};
+use sentry_rows::{AsTable, Copier, CopyTable, DefaultedTable, ReadTable, Sink, Source, Table};
 use sentry_tables::{Formed, Member};
 use std::alloc::{AllocError, Global};
 
@@ -68,7 +67,7 @@ impl Table for DebugMeta {
 }
 
 impl ReadTable for DebugMeta {
-    fn read<N: Node>(from: &mut Reader<'_, N>) -> DebugMeta {
+    fn read<S: Source>(from: &mut S) -> DebugMeta {
         DebugMeta {
             images: from.list("images"),
             sdk_info: from.optional("sdk_info"),

@@ -4,8 +4,7 @@
 ghost use Rattle.sentry_parts.specs.DebugImages.{apple_fields, apple_in_order, symbolic_fields, symbolic_in_order};
 
 use sentry_identifiers::{CodeId, DebugId, Hyphenated};
-use sentry_json::Node;
-use sentry_rows::{AsTable, Copier, CopyTable, ReadTable, Reader, Sink, Table};
+use sentry_rows::{AsTable, Copier, CopyTable, ReadTable, Sink, Source, Table};
 use sentry_tables::{Formed, Member};
 use sentry_text::Addr;
 use std::alloc::AllocError;
@@ -68,7 +67,7 @@ impl Table for AppleDebugImage {
 }
 
 impl ReadTable for AppleDebugImage {
-    fn read<N: Node>(from: &mut Reader<'_, N>) -> AppleDebugImage {
+    fn read<S: Source>(from: &mut S) -> AppleDebugImage {
         AppleDebugImage {
             arch: from.optional_or_null("arch"),
             cpu_subtype: from.optional_or_null("cpu_subtype"),
@@ -154,7 +153,7 @@ impl Table for SymbolicDebugImage {
 }
 
 impl ReadTable for SymbolicDebugImage {
-    fn read<N: Node>(from: &mut Reader<'_, N>) -> SymbolicDebugImage {
+    fn read<S: Source>(from: &mut S) -> SymbolicDebugImage {
         SymbolicDebugImage {
             arch: from.optional_or_null("arch"),
             code_id: from.optional("code_id"),

@@ -4,8 +4,7 @@
 ghost use Rattle.sentry_parts.specs.DebugImages.{proguard_fields, proguard_in_order, wasm_fields, wasm_in_order};
 
 use sentry_identifiers::Hyphenated;
-use sentry_json::Node;
-use sentry_rows::{AsTable, Copier, CopyTable, ReadTable, Reader, Sink, Table};
+use sentry_rows::{AsTable, Copier, CopyTable, ReadTable, Sink, Source, Table};
 use sentry_tables::{Formed, Member};
 use std::alloc::AllocError;
 use uuid::Uuid;
@@ -46,7 +45,7 @@ impl Table for ProguardDebugImage {
 }
 
 impl ReadTable for ProguardDebugImage {
-    fn read<N: Node>(from: &mut Reader<'_, N>) -> ProguardDebugImage {
+    fn read<S: Source>(from: &mut S) -> ProguardDebugImage {
         ProguardDebugImage {
             uuid: from.required_as::<Hyphenated, Uuid>("uuid", Uuid::nil()),
         }
@@ -109,7 +108,7 @@ impl Table for WasmDebugImage {
 }
 
 impl ReadTable for WasmDebugImage {
-    fn read<N: Node>(from: &mut Reader<'_, N>) -> WasmDebugImage {
+    fn read<S: Source>(from: &mut S) -> WasmDebugImage {
         WasmDebugImage {
             code_file: from.text("code_file"),
             code_id: from.optional("code_id"),

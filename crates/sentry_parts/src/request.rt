@@ -3,8 +3,7 @@
 
 ghost use Rattle.sentry_parts.specs.Requests.{request_fields, request_in_order};
 
-use sentry_json::Node;
-use sentry_rows::{AsTable, Copier, CopyTable, ReadTable, Reader, Sink, Table};
+use sentry_rows::{AsTable, Copier, CopyTable, ReadTable, Sink, Source, Table};
 use sentry_tables::{Formed, Member};
 use sentry_text::UrlText;
 use serde_json::Map;
@@ -81,7 +80,7 @@ impl Table for Request {
 }
 
 impl ReadTable for Request {
-    fn read<N: Node>(from: &mut Reader<'_, N>) -> Request {
+    fn read<S: Source>(from: &mut S) -> Request {
         Request {
             cookies: from.optional("cookies"),
             data_: from.optional("data"),

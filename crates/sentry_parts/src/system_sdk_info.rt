@@ -3,8 +3,7 @@
 
 ghost use Rattle.sentry_parts.specs.Debugging.{system_fields, system_in_order};
 
-use sentry_json::Node;
-use sentry_rows::{AsTable, Copier, CopyTable, ReadTable, Reader, Sink, Table};
+use sentry_rows::{AsTable, Copier, CopyTable, ReadTable, Sink, Source, Table};
 use sentry_tables::{Formed, Member};
 use std::alloc::AllocError;
 
@@ -53,7 +52,7 @@ impl Table for SystemSdkInfo {
 }
 
 impl ReadTable for SystemSdkInfo {
-    fn read<N: Node>(from: &mut Reader<'_, N>) -> SystemSdkInfo {
+    fn read<S: Source>(from: &mut S) -> SystemSdkInfo {
         SystemSdkInfo {
             sdk_name: from.text("sdk_name"),
             version_major: from.required("version_major", 0),

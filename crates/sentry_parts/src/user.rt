@@ -5,8 +5,7 @@ ghost use Rattle.std.specs.Prelude.{[]};
 ghost use Rattle.serde_json.specs.View.{members_view};
 ghost use Rattle.sentry_parts.specs.Users.{user_fields, user_in_order};
 
-use sentry_json::Node;
-use sentry_rows::{AsKept, Copier, KeptTable, Reader, Sink, Table};
+use sentry_rows::{AsKept, Copier, KeptTable, Sink, Source, Table};
 use sentry_tables::{Formed, Member};
 use sentry_text::IpAddress;
 use serde_json::{Map, Value};
@@ -87,7 +86,7 @@ impl KeptTable for User {
         &["email", "id", "ip_address", "username"]
     }
 
-    fn read<N: Node>(from: &mut Reader<'_, N>) -> User {
+    fn read<S: Source>(from: &mut S) -> User {
         User {
             email: from.optional("email"),
             id: from.optional("id"),

@@ -6,9 +6,8 @@ ghost use Rattle.sentry_records.specs.Logs.{log_fields, log_in_order};
 use crate::log_attribute::LogAttribute;
 use crate::stand_in::epoch;
 use sentry_identifiers::TraceId;
-use sentry_json::Node;
 use sentry_moments::{Moment, Seconds};
-use sentry_rows::{AsTable, Copier, CopyTable, ReadTable, Reader, Sink, Table};
+use sentry_rows::{AsTable, Copier, CopyTable, ReadTable, Sink, Source, Table};
 use sentry_tables::{Formed, Member};
 use sentry_text::LogSeverityNumber;
 use sentry_words::LogLevel;
@@ -67,7 +66,7 @@ impl Table for Log {
 }
 
 impl ReadTable for Log {
-    fn read<N: Node>(from: &mut Reader<'_, N>) -> Log {
+    fn read<S: Source>(from: &mut S) -> Log {
         Log {
             attributes: from.map("attributes"),
             body: from.text("body"),

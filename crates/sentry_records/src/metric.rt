@@ -6,9 +6,8 @@ ghost use Rattle.sentry_records.specs.Metrics.{metric_fields, metric_in_order};
 use crate::log_attribute::LogAttribute;
 use crate::stand_in::epoch;
 use sentry_identifiers::{SpanId, TraceId};
-use sentry_json::Node;
 use sentry_moments::{Moment, Seconds};
-use sentry_rows::{AsTable, Copier, CopyTable, ReadTable, Reader, Sink, Table};
+use sentry_rows::{AsTable, Copier, CopyTable, ReadTable, Sink, Source, Table};
 use sentry_tables::{Formed, Member};
 use sentry_words::{MetricType, Unit};
 use serde_json::Map;
@@ -73,7 +72,7 @@ impl Table for Metric {
 }
 
 impl ReadTable for Metric {
-    fn read<N: Node>(from: &mut Reader<'_, N>) -> Metric {
+    fn read<S: Source>(from: &mut S) -> Metric {
         Metric {
             attributes: from.map("attributes"),
             name: from.cow("name"),

@@ -5,8 +5,7 @@ ghost use Rattle.sentry_records.specs.Monitors.{check_in_fields, check_in_in_ord
 
 use crate::monitor_config::MonitorConfig;
 use sentry_identifiers::Simple;
-use sentry_json::Node;
-use sentry_rows::{AsTable, Copier, CopyTable, ReadTable, Reader, Sink, Table};
+use sentry_rows::{AsTable, Copier, CopyTable, ReadTable, Sink, Source, Table};
 use sentry_tables::{Formed, Member};
 use sentry_words::MonitorCheckInStatus;
 use std::alloc::AllocError;
@@ -63,7 +62,7 @@ impl Table for MonitorCheckIn {
 }
 
 impl ReadTable for MonitorCheckIn {
-    fn read<N: Node>(from: &mut Reader<'_, N>) -> MonitorCheckIn {
+    fn read<S: Source>(from: &mut S) -> MonitorCheckIn {
         MonitorCheckIn {
             check_in_id: from.required_as::<Simple, Uuid>("check_in_id", Uuid::nil()),
             duration: from.optional("duration"),

@@ -4,8 +4,7 @@
 ghost use Rattle.sentry_records.specs.Monitors.{config_fields, config_in_order};
 
 use crate::monitor_schedule::MonitorSchedule;
-use sentry_json::Node;
-use sentry_rows::{AsTable, Copier, CopyTable, ReadTable, Reader, Sink, Table};
+use sentry_rows::{AsTable, Copier, CopyTable, ReadTable, Sink, Source, Table};
 use sentry_tables::{Formed, Member};
 use std::alloc::AllocError;
 
@@ -60,7 +59,7 @@ impl Table for MonitorConfig {
 }
 
 impl ReadTable for MonitorConfig {
-    fn read<N: Node>(from: &mut Reader<'_, N>) -> MonitorConfig {
+    fn read<S: Source>(from: &mut S) -> MonitorConfig {
         MonitorConfig {
             checkin_margin: from.optional("checkin_margin"),
             failure_issue_threshold: from.optional("failure_issue_threshold"),

@@ -4,9 +4,8 @@
 ghost use Rattle.sentry_records.specs.Sampling.{sampling_fields, sampling_in_order};
 
 use sentry_identifiers::TraceId;
-use sentry_json::Node;
 use sentry_moments::{SampleRand, SampleRate};
-use sentry_rows::{AsTable, Copier, CopyTable, ReadTable, Reader, Sink, Table};
+use sentry_rows::{AsTable, Copier, CopyTable, ReadTable, Sink, Source, Table};
 use sentry_tables::{Formed, Member};
 use sentry_text::{OrganizationId, OrganizationText};
 use sentry_words::Sampled;
@@ -262,7 +261,7 @@ impl Table for DynamicSamplingContext {
 }
 
 impl ReadTable for DynamicSamplingContext {
-    fn read<N: Node>(from: &mut Reader<'_, N>) -> DynamicSamplingContext {
+    fn read<S: Source>(from: &mut S) -> DynamicSamplingContext {
         DynamicSamplingContext {
             environment: from.optional("environment"),
             org_id: from.optional_as::<OrganizationText, OrganizationId>("org_id"),

@@ -3,8 +3,7 @@
 
 ghost use Rattle.sentry_records.specs.Monitors.{crontab_fields, crontab_in_order, interval_fields, interval_in_order, lent_fields, lent_in_order};
 
-use sentry_json::Node;
-use sentry_rows::{AsTable, Copier, CopyTable, ReadTable, Reader, Sink, Table};
+use sentry_rows::{AsTable, Copier, CopyTable, ReadTable, Sink, Source, Table};
 use sentry_tables::Formed;
 use sentry_words::MonitorIntervalUnit;
 use std::alloc::AllocError;
@@ -30,7 +29,7 @@ impl Table for CrontabRows {
 }
 
 impl ReadTable for CrontabRows {
-    fn read<N: Node>(from: &mut Reader<'_, N>) -> CrontabRows {
+    fn read<S: Source>(from: &mut S) -> CrontabRows {
         CrontabRows {
             value: from.text("value"),
         }
@@ -68,7 +67,7 @@ impl Table for IntervalRows {
 }
 
 impl ReadTable for IntervalRows {
-    fn read<N: Node>(from: &mut Reader<'_, N>) -> IntervalRows {
+    fn read<S: Source>(from: &mut S) -> IntervalRows {
         IntervalRows {
             unit: from.required("unit", MonitorIntervalUnit::Minute),
             value: from.required("value", 0),

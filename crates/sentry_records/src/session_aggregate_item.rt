@@ -4,9 +4,8 @@
 ghost use Rattle.sentry_records.specs.Sessions.{group_fields, group_in_order};
 
 use crate::stand_in::epoch;
-use sentry_json::Node;
 use sentry_moments::{Moment, Rfc3339};
-use sentry_rows::{AsTable, Copier, CopyTable, ReadTable, Reader, Sink, Table};
+use sentry_rows::{AsTable, Copier, CopyTable, ReadTable, Sink, Source, Table};
 use sentry_tables::{Formed, Member};
 use std::alloc::AllocError;
 
@@ -62,7 +61,7 @@ impl Table for SessionAggregateItem {
 }
 
 impl ReadTable for SessionAggregateItem {
-    fn read<N: Node>(from: &mut Reader<'_, N>) -> SessionAggregateItem {
+    fn read<S: Source>(from: &mut S) -> SessionAggregateItem {
         SessionAggregateItem {
             abnormal: from.or("abnormal", 0),
             crashed: from.or("crashed", 0),

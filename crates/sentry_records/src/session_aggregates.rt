@@ -5,8 +5,7 @@ ghost use Rattle.sentry_records.specs.Sessions.{groups_fields, groups_in_order};
 
 use crate::session_aggregate_item::SessionAggregateItem;
 use crate::session_attributes::SessionAttributes;
-use sentry_json::Node;
-use sentry_rows::{AsTable, Copier, CopyTable, ReadTable, Reader, Sink, Table};
+use sentry_rows::{AsTable, Copier, CopyTable, ReadTable, Sink, Source, Table};
 use sentry_tables::{Formed, Member};
 use std::alloc::AllocError;
 
@@ -49,7 +48,7 @@ impl<'a> Table for SessionAggregates<'a> {
 }
 
 impl<'a> ReadTable for SessionAggregates<'a> {
-    fn read<N: Node>(from: &mut Reader<'_, N>) -> SessionAggregates<'a> {
+    fn read<S: Source>(from: &mut S) -> SessionAggregates<'a> {
         SessionAggregates {
             aggregates: from.written_list("aggregates"),
             attributes: from.required("attrs", SessionAttributes::blank()),

@@ -3,8 +3,7 @@
 
 ghost use Rattle.sentry_records.specs.Sessions.{attributes_fields, attributes_in_order};
 
-use sentry_json::Node;
-use sentry_rows::{AsTable, Copier, CopyTable, ReadTable, Reader, Sink, Table};
+use sentry_rows::{AsTable, Copier, CopyTable, ReadTable, Sink, Source, Table};
 use sentry_tables::{Formed, Member};
 use sentry_text::IpText;
 use std::alloc::AllocError;
@@ -68,7 +67,7 @@ impl<'a> Table for SessionAttributes<'a> {
 }
 
 impl<'a> ReadTable for SessionAttributes<'a> {
-    fn read<N: Node>(from: &mut Reader<'_, N>) -> SessionAttributes<'a> {
+    fn read<S: Source>(from: &mut S) -> SessionAttributes<'a> {
         SessionAttributes {
             environment: from.optional("environment"),
             ip_address: from.optional_as::<IpText, IpAddr>("ip_address"),

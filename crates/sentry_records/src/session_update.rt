@@ -6,9 +6,8 @@ ghost use Rattle.sentry_records.specs.Sessions.{session_fields, session_in_order
 use crate::session_attributes::SessionAttributes;
 use rand_core::Rng;
 use sentry_identifiers::Hyphenated;
-use sentry_json::Node;
 use sentry_moments::{Moment, Rfc3339};
-use sentry_rows::{AsTable, Copier, CopyTable, ReadTableAt, Reader, Sink, Table};
+use sentry_rows::{AsTable, Copier, CopyTable, ReadTableAt, Sink, Source, Table};
 use sentry_tables::{Formed, Member};
 use sentry_words::SessionStatus;
 use std::alloc::AllocError;
@@ -80,11 +79,7 @@ impl<'a> Table for SessionUpdate<'a> {
 }
 
 impl<'a> ReadTableAt for SessionUpdate<'a> {
-    fn read<N: Node, R: Rng>(
-        from: &mut Reader<'_, N>,
-        now: Moment,
-        ids: &mut R,
-    ) -> SessionUpdate<'a> {
+    fn read<S: Source, R: Rng>(from: &mut S, now: Moment, ids: &mut R) -> SessionUpdate<'a> {
         SessionUpdate {
             attributes: from.required("attrs", SessionAttributes::blank()),
             distinct_id: from.optional_or_null("did"),

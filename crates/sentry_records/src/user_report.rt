@@ -4,8 +4,7 @@
 ghost use Rattle.sentry_records.specs.UserReports.{user_report_fields, user_report_in_order};
 
 use sentry_identifiers::Simple;
-use sentry_json::Node;
-use sentry_rows::{AsTable, Copier, CopyTable, ReadTable, Reader, Sink, Table};
+use sentry_rows::{AsTable, Copier, CopyTable, ReadTable, Sink, Source, Table};
 use sentry_tables::{Formed, Member};
 use std::alloc::AllocError;
 use uuid::Uuid;
@@ -55,7 +54,7 @@ impl Table for UserReport {
 }
 
 impl ReadTable for UserReport {
-    fn read<N: Node>(from: &mut Reader<'_, N>) -> UserReport {
+    fn read<S: Source>(from: &mut S) -> UserReport {
         UserReport {
             comments: from.text("comments"),
             email: from.optional("email"),

@@ -5,8 +5,7 @@ ghost use Rattle.sentry_reports.specs.ItemTable.{item_fields, item_in_order};
 
 use crate::category::Category;
 use crate::reason::Reason;
-use sentry_json::Node;
-use sentry_rows::{AsTable, Copier, CopyTable, ReadTable, Reader, Sink, Table};
+use sentry_rows::{AsTable, Copier, CopyTable, ReadTable, Sink, Source, Table};
 use sentry_tables::Formed;
 use std::alloc::AllocError;
 
@@ -54,7 +53,7 @@ impl Table for Item {
 }
 
 impl ReadTable for Item {
-    fn read<N: Node>(from: &mut Reader<'_, N>) -> Item {
+    fn read<S: Source>(from: &mut S) -> Item {
         Item {
             category: from.required("category", Category::Error),
             quantity: from.required("quantity", 0),

@@ -8,9 +8,8 @@ use crate::kept_sums::{PAIRS, pair_place};
 use crate::reason::Reason;
 use crate::report_rows::ReportRows;
 use rand_core::Rng;
-use sentry_json::Node;
 use sentry_moments::Moment;
-use sentry_rows::{AsTable, Copier, CopyTable, ReadTableAt, Reader, Sink, Table};
+use sentry_rows::{AsTable, Copier, CopyTable, ReadTableAt, Sink, Source, Table};
 use sentry_tables::{Formed, Member};
 use std::alloc::AllocError;
 use std::fmt;
@@ -128,7 +127,7 @@ impl Table for Report {
 }
 
 impl ReadTableAt for Report {
-    fn read<N: Node, R: Rng>(from: &mut Reader<'_, N>, now: Moment, ids: &mut R) -> Report {
+    fn read<S: Source, R: Rng>(from: &mut S, now: Moment, ids: &mut R) -> Report {
         ReportRows::read(from, now, ids).report()
     }
 }

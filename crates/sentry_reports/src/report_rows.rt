@@ -8,9 +8,8 @@ use crate::item::Item;
 use crate::kept_sums::sums_of;
 use crate::report::Report;
 use rand_core::Rng;
-use sentry_json::Node;
 use sentry_moments::{Moment, Seconds};
-use sentry_rows::{AsTable, Copier, CopyTable, ReadTableAt, Reader, Sink, Table};
+use sentry_rows::{AsTable, Copier, CopyTable, ReadTableAt, Sink, Source, Table};
 use sentry_tables::Formed;
 use std::alloc::AllocError;
 use std::marker::Model;
@@ -75,8 +74,8 @@ impl Table for ReportRows {
 }
 
 impl ReadTableAt for ReportRows {
-    fn read<N: Node, R: Rng>(from: &mut Reader<'_, N>, now: Moment, _ids: &mut R) -> ReportRows {
-        let discarded_events = from.required("discarded_events", Vec::new(from.alloc));
+    fn read<S: Source, R: Rng>(from: &mut S, now: Moment, _ids: &mut R) -> ReportRows {
+        let discarded_events = from.required("discarded_events", Vec::new(from.alloc()));
         let timestamp = from.at_once_as::<Seconds>("timestamp", now);
         ReportRows::new(timestamp, discarded_events)
     }

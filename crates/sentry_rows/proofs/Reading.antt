@@ -104,7 +104,7 @@ module _ {N : Type 0} (data_of : N → Data) where
   unfolding ReadsOthers
   others_fit names others a b h misfit = h.2 misfit
 
-  fields_tree : {A : Type 0} (fs : List (Field A)) (v : A) (a z : Reader N) → ReadsFields data_of fs v a z → read_of data_of z ≡ read_of data_of a
+  fields_tree : {A : Type 0} (fs : List (Field A)) (v : A) (a z : Reader N) → ReadsFields (ReadsField data_of) fs v a z → read_of data_of z ≡ read_of data_of a
   unfolding ReadsField
   fields_tree [] v a z same = ap (read_of data_of) (sym same)
   fields_tree (f ∷ fs) v a z h = fields_tree fs v h.0 z h.2 ∙ same_tree a h.0 h.1.0
@@ -154,11 +154,11 @@ module _ {N : Type 0} (data_of : N → Data) where
     row_now : (key : List ℕ) (r : Rule) (K : Kind) (c : Cell) (a b : Reader N) → ReadsField data_of key r K c a b ⊎ ReadsFieldAt data_of now key r K c a b → ReadsFieldAt data_of now key r K c a b
     row_now key r K c a b h = elim h [ inl ever ↦ field_now key r K c a b ever | inr here ↦ here ]
 
-    pub fields_now : {A : Type 0} (fs : List (Field A)) (v : A) (a z : Reader N) → ReadsFields data_of fs v a z → ReadsFieldsAt data_of now fs v a z
+    pub fields_now : {A : Type 0} (fs : List (Field A)) (v : A) (a z : Reader N) → ReadsFields (ReadsField data_of) fs v a z → ReadsFieldsAt (ReadsField data_of) (ReadsFieldAt data_of) now fs v a z
     fields_now [] v a z same = same
     fields_now (f ∷ fs) v a z h = (h.0, inl h.1, fields_now fs v h.0 z h.2)
 
-    rows_shown_at : {A : Type 0} (fs : List (Field A)) (v : A) (a z : Reader N) → ReadsFieldsAt data_of now fs v a z → z.failed ≡ None → (a.failed ≡ None) × RowsShownAt now (rows_of fs) (read_of data_of a) (cells_by fs v)
+    rows_shown_at : {A : Type 0} (fs : List (Field A)) (v : A) (a z : Reader N) → ReadsFieldsAt (ReadsField data_of) (ReadsFieldAt data_of) now fs v a z → z.failed ≡ None → (a.failed ≡ None) × RowsShownAt now (rows_of fs) (read_of data_of a) (cells_by fs v)
     unfolding ReadsFieldAt
     rows_shown_at [] v a z same none = (ap (λ s. s.failed) same ∙ none, tt)
     rows_shown_at (f ∷ fs) v a z h none =
@@ -167,7 +167,7 @@ module _ {N : Type 0} (data_of : N → Data) where
         let first = row.1 rest.0 in
         (first.0, (first.1, subst (λ d. RowsShownAt now (rows_of fs) d (cells_by fs v)) (same_tree a h.0 row.0) rest.1))
 
-    rows_refused_at : {A : Type 0} (fs : List (Field A)) (v : A) (a z : Reader N) → ReadsFieldsAt data_of now fs v a z → z.failed ≡ Some Misfit → (a.failed ≡ Some Misfit) ⊎ ((cs : Cells) → RowsShow (rows_of fs) now (read_of data_of a) cs → ⊥)
+    rows_refused_at : {A : Type 0} (fs : List (Field A)) (v : A) (a z : Reader N) → ReadsFieldsAt (ReadsField data_of) (ReadsFieldAt data_of) now fs v a z → z.failed ≡ Some Misfit → (a.failed ≡ Some Misfit) ⊎ ((cs : Cells) → RowsShow (rows_of fs) now (read_of data_of a) cs → ⊥)
     unfolding ReadsFieldAt RowRefusedAt
     rows_refused_at [] v a z same misfit = inl (ap (λ s. s.failed) same ∙ misfit)
     rows_refused_at (f ∷ fs) v a z h misfit =
@@ -177,7 +177,7 @@ module _ {N : Type 0} (data_of : N → Data) where
           | inr later ↦ inr (rest_refused f fs now (read_of data_of a) (subst (λ d. (cs : Cells) → RowsShow (rows_of fs) now d cs → ⊥) (same_tree a h.0 row.0) later))
         ]
 
-    misfit_at : {A : Type 0} (fs : List (Field A)) (o : Other) (v : A) (a z : Reader N) → ReadsFieldsAt data_of now fs v a z → a.failed ≡ None → z.failed ≡ Some Misfit → RefusedAt now (table (rows_of fs) o) (read_of data_of a)
+    misfit_at : {A : Type 0} (fs : List (Field A)) (o : Other) (v : A) (a z : Reader N) → ReadsFieldsAt (ReadsField data_of) (ReadsFieldAt data_of) now fs v a z → a.failed ≡ None → z.failed ≡ Some Misfit → RefusedAt now (table (rows_of fs) o) (read_of data_of a)
     unfolding RefusedAt
     misfit_at fs o v a z h none misfit c shown =
         elim (rows_refused_at fs v a z h misfit) [
@@ -186,7 +186,7 @@ module _ {N : Type 0} (data_of : N → Data) where
         ]
 
     -- the rows were read from a to m, and members of other keys from there to z
-    answered_at : {A : Type 0} (fs : List (Field A)) (o : Other) (others_of : A → Members) (v : A) (a m z : Reader N) (d : Data) (r : Result A TreeError) → read_of data_of a ≡ d → ReadsFieldsAt data_of now fs v a m → a.failed ≡ None
+    answered_at : {A : Type 0} (fs : List (Field A)) (o : Other) (others_of : A → Members) (v : A) (a m z : Reader N) (d : Data) (r : Result A TreeError) → read_of data_of a ≡ d → ReadsFieldsAt (ReadsField data_of) (ReadsFieldAt data_of) now fs v a m → a.failed ≡ None
         → (z.failed ≡ None → (m.failed ≡ None) × (others_of v ≡ others o (keys (rows_of fs)) (members_in d))) → (z.failed ≡ Some Misfit → m.failed ≡ Some Misfit) → Ends z v r → ReadsAt now (table (rows_of fs) o) (λ w. fields (cells_by fs w) (others_of w)) d r
     answered_at fs o others_of v a m z d (Ok w) is h none stay fit ends =
         let rest = stay ends.0 in
@@ -195,7 +195,7 @@ module _ {N : Type 0} (data_of : N → Data) where
     answered_at fs o others_of v a m z d (Err Misfit) is h none stay fit ends = subst (RefusedAt now (table (rows_of fs) o)) is (misfit_at fs o v a m h none (fit ends))
     answered_at fs o others_of v a m z d (Err Memory) is h none stay fit ends = tt
 
-    pub table_ends_at : {A : Type 0} (fs : List (Field A)) (v : A) (a z : Reader N) (d : Data) (r : Result A TreeError) → read_of data_of a ≡ d → ReadsFieldsAt data_of now fs v a z → a.failed ≡ None → Ends z v r → ReadsAt now (table_of fs) (fields_by fs) d r
+    pub table_ends_at : {A : Type 0} (fs : List (Field A)) (v : A) (a z : Reader N) (d : Data) (r : Result A TreeError) → read_of data_of a ≡ d → ReadsFieldsAt (ReadsField data_of) (ReadsFieldAt data_of) now fs v a z → a.failed ≡ None → Ends z v r → ReadsAt now (table_of fs) (fields_by fs) d r
     table_ends_at fs v a z d r is h none ends = answered_at fs ignored (λ w. no_members) v a z z d r is h none (λ end. (end, refl)) (λ end. end) ends
 
   -- ---- at every moment
@@ -206,10 +206,10 @@ module _ {N : Type 0} (data_of : N → Data) where
   every K f d (Err Misfit) h = h
   every K f d (Err Memory) h = tt
 
-  pub table_ends : {A : Type 0} (fs : List (Field A)) (v : A) (a z : Reader N) (d : Data) (r : Result A TreeError) → read_of data_of a ≡ d → ReadsFields data_of fs v a z → a.failed ≡ None → Ends z v r → Reads (table_of fs) (fields_by fs) d r
+  pub table_ends : {A : Type 0} (fs : List (Field A)) (v : A) (a z : Reader N) (d : Data) (r : Result A TreeError) → read_of data_of a ≡ d → ReadsFields (ReadsField data_of) fs v a z → a.failed ≡ None → Ends z v r → Reads (table_of fs) (fields_by fs) d r
   table_ends fs v a z d r is h none ends = every (table_of fs) (fields_by fs) d r (λ now. table_ends_at now fs v a z d r is (fields_now now fs v a z h) none ends)
 
-  pub kept_ends : {A : Type 0} (fs : List (Field A)) (reserved : List (List ℕ)) (others_of : A → Members) (v : A) (a z : Reader N) (d : Data) (r : Result A TreeError) → read_of data_of a ≡ d → ReadsKept data_of fs (reserved ++ keys (rows_of fs)) v (others_of v) a z → a.failed ≡ None → Ends z v r
+  pub kept_ends : {A : Type 0} (fs : List (Field A)) (reserved : List (List ℕ)) (others_of : A → Members) (v : A) (a z : Reader N) (d : Data) (r : Result A TreeError) → read_of data_of a ≡ d → ReadsKept (ReadsField data_of) (ReadsOthers data_of) fs (reserved ++ keys (rows_of fs)) v (others_of v) a z → a.failed ≡ None → Ends z v r
       → Reads (table (rows_of fs) (kept reserved)) (λ w. fields (cells_by fs w) (others_of w)) d r
   kept_ends fs reserved others_of v a z d r is h none ends =
       let names = reserved ++ keys (rows_of fs) in

@@ -1,4 +1,4 @@
--- What a reader of a table's rows has read.
+-- What a source of a table's rows has given, and what a reader of them has read.
 use Rattle.std.specs.Prelude.{◌≡◌, ◌⊎◌, List, [], ◌∷◌, ℕ, Some, None, Result, Ok, Err}
 use Rattle.serde_json.specs.Data.{Data, Members}
 use Rattle.sentry_json.specs.Nodes.{object_data}
@@ -31,19 +31,10 @@ unfoldable pub ReadsField : {N : Type 0} → (N → Data) → List ℕ → Rule 
 ReadsField data_of key r K c a b =
     (b.object ≡ a.object) × (b.failed ≡ None → (a.failed ≡ None) × RowShown key r K (read_of data_of a) c) × (b.failed ≡ Some Misfit → (a.failed ≡ Some Misfit) ⊎ RowRefused key r K (read_of data_of a))
 
--- each row of the table was read, from one state of the reader to the next
-abbrev pub ReadsFields : {A N : Type 0} → (N → Data) → List (Field A) → A → Reader N → Reader N → Type 0
-ReadsFields data_of [] v a z = a ≡ z
-ReadsFields {A} {N} data_of (f ∷ fs) v a z = (b : Reader N) × ReadsField data_of f.key f.rule f.kind (f.part v) a b × ReadsFields data_of fs v b z
-
 -- while nothing fails these are the members of other keys; no misfit comes of them
 unfoldable pub ReadsOthers : {N : Type 0} → (N → Data) → List (List ℕ) → Members → Reader N → Reader N → Type 0
 ReadsOthers data_of names others a b =
     (b.object ≡ a.object) × (b.failed ≡ None → (a.failed ≡ None) × (others ≡ beside names (members_in (read_of data_of a)))) × (b.failed ≡ Some Misfit → a.failed ≡ Some Misfit)
-
--- each row of the table was read, and then the members of other keys
-abbrev pub ReadsKept : {A N : Type 0} → (N → Data) → List (Field A) → List (List ℕ) → A → Members → Reader N → Reader N → Type 0
-ReadsKept {A} {N} data_of fs names v others a z = (b : Reader N) × ReadsFields data_of fs v a b × ReadsOthers data_of names others b z
 
 -- ---- at a moment
 
@@ -52,8 +43,19 @@ unfoldable pub ReadsFieldAt : {N : Type 0} → (N → Data) → Cell → List �
 ReadsFieldAt data_of now key r K c a b =
     (b.object ≡ a.object) × (b.failed ≡ None → (a.failed ≡ None) × RowShownAt now key r K (read_of data_of a) c) × (b.failed ≡ Some Misfit → (a.failed ≡ Some Misfit) ⊎ RowRefusedAt now key r K (read_of data_of a))
 
--- each row of the table was read, at every moment or now, from one state of the reader to the next
-abbrev pub ReadsFieldsAt : {A N : Type 0} → (N → Data) → Cell → List (Field A) → A → Reader N → Reader N → Type 0
-ReadsFieldsAt data_of now [] v a z = a ≡ z
-ReadsFieldsAt {A} {N} data_of now (f ∷ fs) v a z =
-    (b : Reader N) × (ReadsField data_of f.key f.rule f.kind (f.part v) a b ⊎ ReadsFieldAt data_of now f.key f.rule f.kind (f.part v) a b) × ReadsFieldsAt data_of now fs v b z
+-- ---- row by row, whatever the source
+
+-- each row of the table was taken, from one state of the source to the next
+abbrev pub ReadsFields : {A S : Type 0} → (List ℕ → Rule → Kind → Cell → S → S → Type 0) → List (Field A) → A → S → S → Type 0
+ReadsFields Takes [] v a z = a ≡ z
+ReadsFields {A} {S} Takes (f ∷ fs) v a z = (b : S) × Takes f.key f.rule f.kind (f.part v) a b × ReadsFields Takes fs v b z
+
+-- each row of the table was taken, and then the members of other keys
+abbrev pub ReadsKept : {A S : Type 0} → (List ℕ → Rule → Kind → Cell → S → S → Type 0) → (List (List ℕ) → Members → S → S → Type 0) → List (Field A) → List (List ℕ) → A → Members → S → S → Type 0
+ReadsKept {A} {S} Takes TakesOthers fs names v others a z = (b : S) × ReadsFields Takes fs v a b × TakesOthers names others b z
+
+-- each row of the table was taken, at every moment or now, from one state of the source to the next
+abbrev pub ReadsFieldsAt : {A S : Type 0} → (List ℕ → Rule → Kind → Cell → S → S → Type 0) → (Cell → List ℕ → Rule → Kind → Cell → S → S → Type 0) → Cell → List (Field A) → A → S → S → Type 0
+ReadsFieldsAt Takes TakesAt now [] v a z = a ≡ z
+ReadsFieldsAt {A} {S} Takes TakesAt now (f ∷ fs) v a z =
+    (b : S) × (Takes f.key f.rule f.kind (f.part v) a b ⊎ TakesAt now f.key f.rule f.kind (f.part v) a b) × ReadsFieldsAt Takes TakesAt now fs v b z

@@ -14,6 +14,7 @@ ghost use Rattle.sentry_rows.specs.Cased.{but_tag, TakesCase, MakesCase, ReadsCa
 
 use crate::read::KeptTable;
 use crate::reader::Reader;
+use crate::source::Source;
 use crate::tagged::tag;
 use crate::taken::{PlainCase, TextCase, TreeCase};
 use crate::timed::ReadCodecAt;

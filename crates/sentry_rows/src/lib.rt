@@ -1,9 +1,9 @@
 //! Tables: protocol types that are read, written and copied row by row.
 //!
-//! A table writes its rows to a [`Sink`], or tests with one whether they are plain; reads them from
-//! a [`Reader`], which remembers the first failure; and copies them with a [`Copier`]. The codecs
-//! [`AsTable`] and [`AsKept`] combine the three for a member of another table. The types that a row
-//! may hold are in `sentry_tables`.
+//! A table writes its rows to a [`Sink`], or tests with one whether they are plain; takes them from
+//! a [`Source`], such as a [`Reader`]; and copies them with a [`Copier`]. The codecs [`AsTable`] and
+//! [`AsKept`] combine the three for a member of another table. The types that a row may hold are in
+//! `sentry_tables`.
 #![tactic(auto)]
 
 mod case_map;
@@ -13,8 +13,8 @@ mod draw;
 mod form;
 mod read;
 mod reader;
-mod reader_at;
 mod rows;
+mod source;
 pub mod tagged;
 mod taken;
 mod timed;
@@ -28,4 +28,5 @@ pub use reader::Reader;
 pub use rows::MadeCodec;
 pub use sentry_tables::Drawn;
 pub use sentry_writing::{Sink, Table, Values, table, text, tree, values};
+pub use source::Source;
 pub use timed::{FromTreeAt, ReadCodecAt};

@@ -10,21 +10,20 @@ ghost use Rattle.sentry_rows.specs.Fields.{ReadsFields, ReadsFieldsAt, ReadsKept
 ghost use Rattle.sentry_moments.specs.Moments.{moment_cell};
 
 use crate::copier::Copier;
-use crate::reader::Reader;
+use crate::source::Source;
 use rand_core::Rng;
-use sentry_json::Node;
 use sentry_moments::Moment;
 use sentry_writing::Table;
 use serde_json::{Map, Value};
 use std::alloc::AllocError;
 
-/// A table that is read row by row from a [`Reader`].
+/// A table whose rows are taken from a [`Source`].
 pub trait ReadTable: Table {
-    /// Reads a value from the rows of an object.
+    /// Takes a value from the rows of an object.
     ///
     /// A failure is remembered in `from`, and stand-ins fill the value.
-    fn read<N: Node>(from: &mut Reader<'_, N>) -> Self
-        ensures { ReadsFields N.data_of Self.lines result from.old from.new };
+    fn read<S: Source>(from: &mut S) -> Self
+        ensures { ReadsFields S.Takes Self.lines result from.old from.new };
 }
 
 /// A table that keeps additional members, whose keys no row has.
@@ -43,11 +42,11 @@ pub trait KeptTable: Table {
     fn names() -> &'static [&'static str]
         ensures { map (λ name. name.now) result.now ≡ reserved ++ keys (rows_of Self.lines) };
 
-    /// Reads a value from the rows and additional members of an object.
+    /// Takes a value from the rows and additional members of an object.
     ///
     /// A failure is remembered in `from`, and stand-ins fill the value.
-    fn read<N: Node>(from: &mut Reader<'_, N>) -> Self
-        ensures { ReadsKept N.data_of Self.lines (reserved ++
+    fn read<S: Source>(from: &mut S) -> Self
+        ensures { ReadsKept S.Takes S.TakesOthers Self.lines (reserved ++
             keys (rows_of Self.lines)) result (others_of result) from.old from.new };
 
     /// Returns a copy of the value, or its normal form, as `copies` asks.
@@ -62,11 +61,12 @@ pub trait KeptTable: Table {
             (others_of self.now) (others_of v) copies.old copies.new) };
 }
 
-/// A table that is read row by row at a moment, with a generator of ids.
+/// A table whose rows are taken at a moment, with a generator of ids.
 pub trait ReadTableAt: Table {
-    /// Reads a value from the rows of an object; `now` fills absent timestamps, `ids` absent ids.
+    /// Takes a value from the rows of an object; `now` fills absent timestamps, `ids` absent ids.
     ///
     /// A failure is remembered in `from`, and stand-ins fill the value.
-    fn read<N: Node, R: Rng>(from: &mut Reader<'_, N>, now: Moment, ids: &mut R) -> Self
-        ensures { ReadsFieldsAt N.data_of (moment_cell now) Self.lines result from.old from.new };
+    fn read<S: Source, R: Rng>(from: &mut S, now: Moment, ids: &mut R) -> Self
+        ensures { ReadsFieldsAt S.Takes S.TakesAt (moment_cell now) Self.lines
+            result from.old from.new };
 }

@@ -1,30 +1,32 @@
 //! A reader of a table's rows.
 
-ghost use Rattle.std.specs.Prelude.{◌≡◌, None, IfOk, IfErr, is_some, false, map as map_list};
+ghost use Rattle.std.specs.Prelude.{◌≡◌, None, IfOk, IfErr, is_some, false};
 ghost use Rattle.serde_json.specs.Find.{as_object};
-ghost use Rattle.serde_json.specs.View.{members_view};
-ghost use Rattle.sentry_tables.specs.Cell.{text};
-ghost use Rattle.sentry_tables.specs.Kind.{must, may, may_strict, may_null, default as default_rule, always, draw, list as list_kind, map as map_kind, values as values_kind};
-ghost use Rattle.sentry_tables.specs.Cells.{text_cell, cow_cell, option_cell, list_cell, map_cell, empty_list, empty_map};
-ghost use Rattle.sentry_tables.specs.Kinds.{text_kind};
+ghost use Rattle.sentry_tables.specs.Kind.{may, default as default_rule};
+ghost use Rattle.sentry_tables.specs.Cells.{option_cell};
 ghost use Rattle.sentry_tables.specs.Reading.{Only};
+ghost use Rattle.sentry_moments.specs.Moments.{moment_cell};
 ghost use Rattle.sentry_json.specs.Nodes.{object_data};
-ghost use Rattle.sentry_rows.specs.Fields.{Keeps, Ends, ReadsField, ReadsOthers};
+ghost use Rattle.sentry_rows.specs.Fields.{Keeps, Ends, ReadsField, ReadsFieldAt, ReadsOthers};
 
 use crate::draw::or_drawn_as;
 use crate::rows::{self, MadeCodec};
+use crate::source::Source;
+use crate::timed::{FromTreeAt, ReadCodecAt, now_or_as, read_list_at};
 use rand_core::Rng;
 use sentry_json::{Node, Object};
+use sentry_moments::Moment;
+use sentry_tables::codec::DefaultedCodec;
+use sentry_tables::member::Usual;
 use sentry_tables::{Drawn, FromTree, Own, ReadCodec, TreeError};
-use sentry_writing::Values;
+use sentry_writing::values::{AsValues, Values};
 use serde_json::{Map, Value};
 use std::alloc::Global;
 use std::borrow::CowStr;
 
 /// A JSON object that is read row by row.
 ///
-/// Each call reads the member at a key by the rule of its row. The first failure is remembered and
-/// returned by [`end`](Reader::end); a call that fails returns a stand-in value.
+/// The first failure is returned by [`end`](Reader::end).
 ///
 /// The calls are inlined where a type reads its rows, so that keys are compared with literals.
 #[derive(Drop)]
@@ -91,30 +93,12 @@ impl<'t, N: Node> Reader<'t, N> {
         }
     }
 
-    /// Reads a required member with the codec `F`; `Misfit` if absent.
-    #[tactic(auto, using(crate::proofs::Reading::field_kept))]
-    #[inline(always)]
-    pub fn required_as<F: ReadCodec<X>, X: Drop>(&mut self, key: &str, stand_in: X) -> X
-        ensures { ReadsField N.data_of key.now must F.kind (F.cell_of result) self.old self.new }
-    {
-        let read = rows::required_as::<F, X, N>(self.alloc, &self.object, key);
-        self.keep(read, stand_in)
-    }
-
-    /// Reads a required member; `Misfit` if absent.
-    #[inline(always)]
-    pub fn required<X: FromTree>(&mut self, key: &str, stand_in: X) -> X
-        ensures { ReadsField N.data_of key.now must X.kind (X.cell_of result) self.old self.new }
-    {
-        self.required_as::<Own, X>(key, stand_in)
-    }
-
-    /// Reads an optional member with the codec `F`; `None` if absent or null.
-    ///
-    /// Most members are absent, and then nothing is moved, however large a value may be.
+    // Reads an optional member with the codec `F`; `None` if absent or null.
+    //
+    // Most members are absent, and then nothing is moved, however large a value may be.
     #[tactic(auto, using(crate::proofs::Reading::field_ready, crate::proofs::Reading::field_failed, crate::proofs::RowLemmas::may_absent, crate::proofs::RowLemmas::may_is_null, crate::proofs::RowLemmas::may_shown, crate::proofs::RowLemmas::may_fails))]
     #[inline(always)]
-    pub fn optional_as<F: ReadCodec<X>, X: Drop>(&mut self, key: &str) -> Option<X>
+    fn unless_null<F: ReadCodec<X>, X: Drop>(&mut self, key: &str) -> Option<X>
         ensures { ReadsField N.data_of key.now may F.kind
             (option_cell F.cell_of result) self.old self.new }
     {
@@ -133,116 +117,116 @@ impl<'t, N: Node> Reader<'t, N> {
         }
     }
 
-    /// Reads an optional member; `None` if absent or null.
-    #[inline(always)]
-    pub fn optional<X: FromTree>(&mut self, key: &str) -> Option<X>
-        ensures { ReadsField N.data_of key.now may X.kind
-            (option_cell X.cell_of result) self.old self.new }
-    {
-        self.optional_as::<Own, X>(key)
-    }
-
-    /// Reads an optional member that is written as null when `None`; `None` if absent or null.
-    #[tactic(auto, using(crate::proofs::Reading::field_or_null))]
-    #[inline(always)]
-    pub fn optional_or_null<X: FromTree>(&mut self, key: &str) -> Option<X>
-        ensures { ReadsField N.data_of key.now may_null X.kind
-            (option_cell X.cell_of result) self.old self.new }
-    {
-        self.optional_as::<Own, X>(key)
-    }
-
-    /// Reads an optional member that rejects null, with the codec `F`; `None` if absent.
-    #[tactic(auto, using(crate::proofs::Reading::field_kept))]
-    #[inline(always)]
-    pub fn optional_strict_as<F: ReadCodec<X>, X: Drop>(&mut self, key: &str) -> Option<X>
-        ensures { ReadsField N.data_of key.now may_strict F.kind
-            (option_cell F.cell_of result) self.old self.new }
-    {
-        let read = rows::optional_strict_as::<F, X, N>(self.alloc, &self.object, key);
-        self.keep(read, None)
-    }
-
-    /// Reads a member; defaults to `default`.
+    // Reads a member with the codec `F`; defaults to `default`.
     #[tactic(auto, using(crate::proofs::Reading::default_kept, crate::proofs::Reading::field_ready, crate::proofs::RowLemmas::default_absent))]
     #[inline(always)]
-    pub fn or<X: FromTree>(&mut self, key: &str, default: X) -> X
-        ensures { ReadsField N.data_of key.now (default_rule (X.cell_of default)) X.kind
-            (X.cell_of result) self.old self.new }
+    fn default_as<F: ReadCodec<X>, X: Drop>(&mut self, key: &str, default: X) -> X
+        ensures { ReadsField N.data_of key.now (default_rule (F.cell_of default)) F.kind
+            (F.cell_of result) self.old self.new }
     {
         let Some(member) = self.object.get(key) else {
             return default;
         };
-        let read = X::from_node(self.alloc, member);
+        let read = F::from_node(self.alloc, member);
         self.keep(read, default)
     }
 
-    /// Reads a member that is always written; defaults to `default`.
-    #[tactic(auto, using(crate::proofs::Reading::field_always))]
+    // Reads a member with the codec `F` at the moment `now`; defaults to `default`.
+    #[tactic(auto, using(crate::proofs::Reading::default_kept_at, crate::proofs::Reading::field_ready_at, crate::proofs::RowLemmas::default_absent_at))]
     #[inline(always)]
-    pub fn written_or<X: FromTree>(&mut self, key: &str, default: X) -> X
-        ensures { ReadsField N.data_of key.now (always (X.cell_of default)) X.kind
-            (X.cell_of result) self.old self.new }
+    fn default_as_at<F: ReadCodecAt<X>, X: Drop, R: Rng>(
+        &mut self,
+        key: &str,
+        default: X,
+        now: Moment,
+        ids: &mut R,
+    ) -> X
+        ensures { ReadsFieldAt N.data_of (moment_cell now) key.now
+            (default_rule (F.cell_of default)) F.kind (F.cell_of result) self.old self.new }
     {
-        self.or(key, default)
+        let Some(member) = self.object.get(key) else {
+            return default;
+        };
+        let read = F::from_node(self.alloc, member, now, ids);
+        self.keep(read, default)
+    }
+}
+
+impl<'t, N: Node> Source for Reader<'t, N> {
+    ghost Takes = { ReadsField N.data_of };
+
+    ghost TakesAt = { ReadsFieldAt N.data_of };
+
+    ghost TakesOthers = { ReadsOthers N.data_of };
+
+    #[inline(always)]
+    fn alloc(&self) -> Global {
+        self.alloc
     }
 
-    /// Reads a member with the codec `F`; defaults to the default of `F`.
     #[tactic(auto, using(crate::proofs::Reading::field_kept))]
     #[inline(always)]
-    pub fn made_as<F: MadeCodec<X>, X: Drop>(&mut self, key: &str, stand_in: X) -> X
-        ensures { ReadsField N.data_of key.now (default_rule F.usual) F.kind
-            (F.cell_of result) self.old self.new }
-    {
+    fn required_as<F: ReadCodec<X>, X: Drop>(&mut self, key: &str, stand_in: X) -> X {
+        let read = rows::required_as::<F, X, N>(self.alloc, &self.object, key);
+        self.keep(read, stand_in)
+    }
+
+    #[inline(always)]
+    fn optional_as<F: ReadCodec<X>, X: Drop>(&mut self, key: &str) -> Option<X> {
+        self.unless_null::<F, X>(key)
+    }
+
+    #[tactic(auto, using(crate::proofs::Reading::field_or_null))]
+    #[inline(always)]
+    fn optional_or_null<X: FromTree>(&mut self, key: &str) -> Option<X> {
+        self.unless_null::<Own, X>(key)
+    }
+
+    #[tactic(auto, using(crate::proofs::Reading::field_kept))]
+    #[inline(always)]
+    fn optional_strict_as<F: ReadCodec<X>, X: Drop>(&mut self, key: &str) -> Option<X> {
+        let read = rows::optional_strict_as::<F, X, N>(self.alloc, &self.object, key);
+        self.keep(read, None)
+    }
+
+    #[inline(always)]
+    fn or<X: FromTree + Usual>(&mut self, key: &str, default: X) -> X {
+        self.default_as::<Own, X>(key, default)
+    }
+
+    #[inline(always)]
+    fn or_as<F: ReadCodec<X> + DefaultedCodec<X>, X: Drop>(&mut self, key: &str, default: X) -> X {
+        self.default_as::<F, X>(key, default)
+    }
+
+    #[tactic(auto, using(crate::proofs::Reading::field_kept))]
+    #[inline(always)]
+    fn made_as<F: MadeCodec<X>, X: Drop>(&mut self, key: &str, stand_in: X) -> X {
         let read = rows::made_as::<F, X, N>(self.alloc, &self.object, key);
         self.keep(read, stand_in)
     }
 
-    /// Reads a required string; `Misfit` if absent.
+    #[tactic(auto, using(crate::proofs::Reading::field_always))]
     #[inline(always)]
-    pub fn text(&mut self, key: &str) -> String
-        ensures { ReadsField N.data_of key.now must text_kind (text_cell result) self.old self.new }
-    {
-        self.required(key, String::new(self.alloc))
+    fn written_or<X: FromTree>(&mut self, key: &str, default: X) -> X {
+        self.default_as::<Own, X>(key, default)
     }
 
-    /// Reads a string; defaults to `default`.
     #[tactic(auto, using(crate::proofs::Reading::field_kept))]
     #[inline(always)]
-    pub fn text_or(&mut self, key: &str, default: &str) -> String
-        ensures { ReadsField N.data_of key.now (default_rule (text default.now)) text_kind
-            (text_cell result) self.old self.new }
-    {
+    fn text_or(&mut self, key: &str, default: &str) -> String {
         let read = rows::text_or(self.alloc, &self.object, key, default);
         self.keep(read, String::new(self.alloc))
     }
 
-    /// Reads a required string as a [`CowStr`]; `Misfit` if absent.
     #[inline(always)]
-    pub fn cow<'a>(&mut self, key: &str) -> CowStr<'a>
-        ensures { ReadsField N.data_of key.now must text_kind (cow_cell result) self.old self.new }
-    {
-        self.required(key, CowStr::Borrowed(""))
+    fn cow_or<'a>(&mut self, key: &str, default: &'a str) -> CowStr<'a> {
+        self.default_as::<Own, CowStr<'a>>(key, CowStr::Borrowed(default))
     }
 
-    /// Reads a string as a [`CowStr`]; defaults to `default`, which is borrowed.
-    #[inline(always)]
-    pub fn cow_or<'a>(&mut self, key: &str, default: &'a str) -> CowStr<'a>
-        ensures { ReadsField N.data_of key.now (default_rule (text default.now)) text_kind
-            (cow_cell result) self.old self.new }
-    {
-        self.or(key, CowStr::Borrowed(default))
-    }
-
-    /// Reads a member with the codec `F`; drawn from `ids` if absent.
-    ///
-    /// The stand-in of a failure is drawn from `ids` too.
     #[tactic(auto, using(crate::proofs::Reading::field_ready, crate::proofs::Reading::field_kept))]
     #[inline(always)]
-    pub fn drawn_as<F: Drawn<X>, X: Drop, R: Rng>(&mut self, key: &str, ids: &mut R) -> X
-        ensures { ReadsField N.data_of key.now (draw F.IsDrawn) F.kind
-            (F.cell_of result) self.old self.new }
-    {
+    fn drawn_as<F: Drawn<X>, X: Drop, R: Rng>(&mut self, key: &str, ids: &mut R) -> X {
         match or_drawn_as::<F, X, R, N>(self.alloc, &self.object, key, ids) {
             Ok(value) => value,
             Err(error) => {
@@ -252,55 +236,75 @@ impl<'t, N: Node> Reader<'t, N> {
         }
     }
 
-    /// Reads a list; defaults to empty.
     #[inline(always)]
-    pub fn list<X: FromTree>(&mut self, key: &str) -> Vec<X>
-        ensures { ReadsField N.data_of key.now (default_rule empty_list) (list_kind X.kind)
-            (list_cell X.cell_of result.items) self.old self.new }
-    {
-        self.or(key, Vec::new(self.alloc))
+    fn list<X: FromTree>(&mut self, key: &str) -> Vec<X> {
+        self.default_as::<Own, Vec<X>>(key, Vec::new(self.alloc))
     }
 
-    /// Reads a list that is always written; defaults to empty.
+    #[tactic(auto, using(crate::proofs::Reading::field_always))]
     #[inline(always)]
-    pub fn written_list<X: FromTree>(&mut self, key: &str) -> Vec<X>
-        ensures { ReadsField N.data_of key.now (always empty_list) (list_kind X.kind)
-            (list_cell X.cell_of result.items) self.old self.new }
-    {
-        self.written_or(key, Vec::new(self.alloc))
+    fn written_list<X: FromTree>(&mut self, key: &str) -> Vec<X> {
+        self.default_as::<Own, Vec<X>>(key, Vec::new(self.alloc))
     }
 
-    /// Reads a map; defaults to empty.
     #[inline(always)]
-    pub fn map<X: FromTree>(&mut self, key: &str) -> Map<String, X>
-        ensures { ReadsField N.data_of key.now (default_rule empty_map) (map_kind X.kind)
-            (map_cell X.cell_of result.entries) self.old self.new }
-    {
-        self.or(key, Map::new(self.alloc))
+    fn map<X: FromTree>(&mut self, key: &str) -> Map<String, X> {
+        self.default_as::<Own, Map<String, X>>(key, Map::new(self.alloc))
     }
 
-    /// Reads a list under the key `values`, or a bare array; defaults to empty.
     #[inline(always)]
-    pub fn values<X: FromTree>(&mut self, key: &str) -> Values<X>
-        ensures { ReadsField N.data_of key.now (default_rule empty_list) (values_kind X.kind)
-            (list_cell X.cell_of result.values.items) self.old self.new }
-    {
+    fn values<X: FromTree>(&mut self, key: &str) -> Values<X> {
         let none = Values {
             values: Vec::new(self.alloc),
         };
-        self.or(key, none)
+        self.default_as::<Own, Values<X>>(key, none)
     }
 
-    /// Reads the additional members: those whose keys are none of `names`.
-    ///
-    /// `names` are the keys that the members may not have: those of the table's rows, and `type` in
-    /// a type with a tag.
     #[inline(always)]
-    pub fn others(&mut self, names: &[&str]) -> Map<String, Value>
-        ensures { ReadsOthers N.data_of (map_list (λ name.
-            name.now) names.now) (members_view result.entries) self.old self.new }
-    {
+    fn others(&mut self, names: &[&str]) -> Map<String, Value> {
         let read = rows::others(self.alloc, &self.object, names);
         self.keep(read, Map::new(self.alloc))
+    }
+
+    #[tactic(auto, using(crate::proofs::Reading::field_kept_at))]
+    fn at_once_as<F: ReadCodec<Moment>>(&mut self, key: &str, now: Moment) -> Moment {
+        let read = now_or_as::<F, N>(self.alloc, &self.object, key, now);
+        self.keep(read, now)
+    }
+
+    fn or_as_at<F: ReadCodecAt<X> + DefaultedCodec<X>, X: Drop, R: Rng>(
+        &mut self,
+        key: &str,
+        default: X,
+        now: Moment,
+        ids: &mut R,
+    ) -> X {
+        self.default_as_at::<F, X, R>(key, default, now, ids)
+    }
+
+    #[tactic(auto, using(crate::proofs::RowLemmas::must_missing_at))]
+    fn required_list_at<X: FromTreeAt, R: Rng>(
+        &mut self,
+        key: &str,
+        now: Moment,
+        ids: &mut R,
+    ) -> Vec<X> {
+        let Some(member) = self.object.get(key) else {
+            return self.keep(Err(TreeError::Misfit), Vec::new(self.alloc));
+        };
+        let read = read_list_at(self.alloc, member, now, ids);
+        self.keep(read, Vec::new(self.alloc))
+    }
+
+    fn values_at<X: FromTreeAt, R: Rng>(
+        &mut self,
+        key: &str,
+        now: Moment,
+        ids: &mut R,
+    ) -> Values<X> {
+        let none = Values {
+            values: Vec::new(self.alloc),
+        };
+        self.default_as_at::<AsValues, Values<X>, R>(key, none, now, ids)
     }
 }

@@ -7,7 +7,7 @@ ghost use Rattle.sentry_keys.specs.AuthFields.{auth_table, rows_cell};
 use crate::auth::{Auth, LATEST};
 use sentry_json::{Node, Writer};
 use sentry_rows::table::{table_tree, write_table};
-use sentry_rows::{Reader, Sink, Table};
+use sentry_rows::{Reader, Sink, Source, Table};
 use sentry_tables::{FromTree, Member, TreeError, Way};
 use serde_json::Value;
 use std::alloc::{AllocError, Global};

@@ -4,4 +4,4 @@ use Rattle.sentry_frames.proofs.mechanism.MechanismReadTable.read.Goals as goal
 
 pub returns : goal.returns
 unfolding mechanism_fields
-returns g c = (_, c.map.ensures, (_, c.optional.ensures, (_, c.optional-2.ensures, (_, c.optional_as.ensures, (_, rw c.default_in.ensures.empty at c.or.ensures, (_, c.optional-3.ensures, (_, c.text.ensures, refl)))))))
+returns g c = (_, c.map.ensures, (_, c.optional.ensures, (_, c.optional-2.ensures, (_, c.optional_as.ensures, (_, c.or_as.ensures, (_, c.optional-3.ensures, (_, c.text.ensures, refl)))))))

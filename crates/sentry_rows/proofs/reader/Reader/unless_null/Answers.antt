@@ -4,7 +4,7 @@ use Rattle.sentry_tables.specs.Cell.{absent}
 use Rattle.sentry_tables.specs.Kind.{may}
 use Rattle.sentry_rows.proofs.Reading.{field_failed}
 use Rattle.sentry_rows.proofs.RowLemmas.{may_fails}
-use Rattle.sentry_rows.proofs.reader.Reader.optional_as.Goals as goal
+use Rattle.sentry_rows.proofs.reader.Reader.unless_null.Goals as goal
 
 pub returns-in-Err : goal.returns-in-Err
 returns-in-Err g c =
