@@ -1,4 +1,5 @@
 pub mod Given
 pub mod Left
 pub mod Refusals
+pub mod Shown
 pub mod Timed

@@ -1,4 +1,5 @@
 pub mod Alone
+pub mod FaultTrees
 pub mod HeaderIds
 pub mod MendedItems
 pub mod Times

@@ -33,6 +33,11 @@ LeavesOut f [] = ⊥
 LeavesOut f (n ∷ []) = (n.repair ≡ Left) × (n.start ≡ f.start) × (n.end ≡ f.end)
 LeavesOut f (n ∷ m ∷ ns) = ⊥
 
+-- the first note leaves bytes out
+abbrev pub IsLeftFirst : List Note → Type 0
+IsLeftFirst [] = ⊥
+IsLeftFirst (n ∷ ns) = n.repair ≡ Left
+
 -- the item is left out whole, and was refused
 abbrev pub IsLeft : MendedItem → Type 0
 IsLeft m = IsSomeAnd m.fault (λ f. LeavesOut f m.frame.items) × (m.id.items ≡ []) × (m.payload.items ≡ [])

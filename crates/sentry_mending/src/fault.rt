@@ -1,8 +1,14 @@
 //! A fault of an envelope, with its place.
 
+ghost use Rattle.std.specs.Prelude.{◌≡◌, IfOk, List, OnOk, ℕ};
+ghost use Rattle.serde_json.specs.Data.{string};
+ghost use Rattle.serde_json.specs.View.{members_view, view};
+ghost use Rattle.sentry_mending.specs.FaultTrees.{break_members, cause_members, fault_tree, index_tree, place_members, shown_text};
+ghost use Rattle.sentry_tables.specs.Written.{put_all};
+
 use sentry_framing::EnvelopeError;
 use sentry_places::{Break, Place};
-use serde_json::{Map, Value};
+use serde_json::{Map, Value, put};
 use std::alloc::{AllocError, Global};
 use std::{fmt, str};
 
@@ -32,6 +38,17 @@ pub struct Fault {
     pub end: usize,
     /// What doesn't fit. Offsets are those of the envelope.
     pub cause: Cause,
+}
+
+// Returns the text of these bytes; `?` if they aren't UTF-8.
+#[tactic(auto, using(crate::proofs::Shown::shown_as_text, crate::proofs::Shown::shown_as_mark))]
+fn text_of(bytes: &[u8]) -> &str
+    ensures { result.now ≡ shown_text bytes.now }
+{
+    match str::from_utf8(bytes) {
+        Ok(text) => text,
+        Err(_) => "?",
+    }
 }
 
 impl fmt::Display for Cause {
@@ -75,18 +92,22 @@ impl fmt::Display for Fault {
     }
 }
 
-fn text_value(alloc: Global, bytes: &[u8]) -> Result<Value, AllocError> {
-    Value::try_from_str(alloc, str::from_utf8(bytes).unwrap_or("?"))
+fn text_value(alloc: Global, bytes: &[u8]) -> Result<Value, AllocError>
+    ensures { IfOk result (λ t. view t ≡ string (shown_text bytes.now)) }
+{
+    let text = text_of(bytes);
+    let value = Value::try_from_str(alloc, text)?;
+    Ok(value)
 }
 
-// Sets a member.
-fn put(
-    alloc: Global,
-    members: &mut Map<String, Value>,
-    key: &str,
-    value: Value,
-) -> Result<(), AllocError> {
-    drop(members.insert(String::from_str(alloc, key)?, value)?);
+// Sets the members of a break.
+fn put_break(alloc: Global, members: &mut Map<String, Value>, end: &Break) -> Result<(), AllocError>
+    ensures { OnOk result (members_view members.new.entries
+        ≡ put_all (break_members end.now) (members_view members.old.entries)) }
+{
+    put(members, alloc, "at", Value::from(end.at))?;
+    let expected = Value::try_from_str(alloc, end.expected.as_str())?;
+    put(members, alloc, "expected", expected)?;
     Ok(())
 }
 
@@ -95,15 +116,46 @@ fn put_place(
     alloc: Global,
     members: &mut Map<String, Value>,
     place: &Place,
-) -> Result<(), AllocError> {
-    put(alloc, members, "path", text_value(alloc, &place.path)?)?;
-    put(alloc, members, "from", Value::from(place.start as u64))?;
-    put(alloc, members, "to", Value::from(place.end as u64))?;
+) -> Result<(), AllocError>
+    ensures { OnOk result (members_view members.new.entries
+        ≡ put_all (place_members place.now) (members_view members.old.entries)) }
+{
+    put(members, alloc, "path", text_value(alloc, &place.path)?)?;
+    put(members, alloc, "from", Value::from(place.start))?;
+    put(members, alloc, "to", Value::from(place.end))?;
     let wanted = Value::try_from_str(alloc, place.wanted.as_str())?;
-    put(alloc, members, "wanted", wanted)?;
+    put(members, alloc, "wanted", wanted)?;
     let found = Value::try_from_str(alloc, place.found.as_str())?;
-    put(alloc, members, "found", found)?;
-    put(alloc, members, "value", text_value(alloc, &place.value)?)
+    put(members, alloc, "found", found)?;
+    put(members, alloc, "value", text_value(alloc, &place.value)?)?;
+    Ok(())
+}
+
+// Sets the members of a cause.
+fn put_cause(
+    alloc: Global,
+    members: &mut Map<String, Value>,
+    cause: &Cause,
+) -> Result<(), AllocError>
+    ensures { OnOk result (members_view members.new.entries
+        ≡ put_all (cause_members cause.now) (members_view members.old.entries)) }
+{
+    match cause {
+        Cause::Whole => {}
+        Cause::Syntax(end) => put_break(alloc, members, end)?,
+        Cause::Place(place) => put_place(alloc, members, place)?,
+    }
+    Ok(())
+}
+
+// Returns the index of an item; null for the header line.
+fn index_value(item: Option<usize>) -> Value
+    ensures { view result ≡ index_tree item }
+{
+    match item {
+        Some(item) => Value::from(item),
+        None => Value::Null,
+    }
 }
 
 impl Fault {
@@ -114,27 +166,18 @@ impl Fault {
     /// # Errors
     ///
     /// `AllocError` if an allocation fails.
-    pub fn to_tree(&self, alloc: Global) -> Result<Value, AllocError> {
+    pub fn to_tree(&self, alloc: Global) -> Result<Value, AllocError>
+        ensures { IfOk result (λ t. (message : List ℕ) ×
+            (view t ≡ fault_tree message self.now)) }
+    {
         let mut members = Map::new(alloc);
-        let error = self.error.to_string(alloc)?;
-        put(alloc, &mut members, "error", Value::from(error))?;
-        let item = match self.item {
-            Some(item) => Value::from(item as u64),
-            None => Value::Null,
-        };
-        put(alloc, &mut members, "item", item)?;
-        put(alloc, &mut members, "type", text_value(alloc, &self.word)?)?;
-        put(alloc, &mut members, "start", Value::from(self.start as u64))?;
-        put(alloc, &mut members, "end", Value::from(self.end as u64))?;
-        match &self.cause {
-            Cause::Whole => {}
-            Cause::Syntax(end) => {
-                put(alloc, &mut members, "at", Value::from(end.at as u64))?;
-                let expected = Value::try_from_str(alloc, end.expected.as_str())?;
-                put(alloc, &mut members, "expected", expected)?;
-            }
-            Cause::Place(place) => put_place(alloc, &mut members, place)?,
-        }
-        Ok(Value::Object(members))
+        let message = self.error.to_string(alloc)?;
+        put(&mut members, alloc, "error", Value::from(message))?;
+        put(&mut members, alloc, "item", index_value(self.item))?;
+        put(&mut members, alloc, "type", text_value(alloc, &self.word)?)?;
+        put(&mut members, alloc, "start", Value::from(self.start))?;
+        put(&mut members, alloc, "end", Value::from(self.end))?;
+        put_cause(alloc, &mut members, &self.cause)?;
+        Ok(Value::from(members))
     }
 }

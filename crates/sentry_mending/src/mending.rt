@@ -1,6 +1,6 @@
 //! Reads an envelope of which some items don't fit.
 
-ghost use Rattle.std.specs.Prelude.{◌≡◌, ◌≢◌, ◌≤◌, [], None, Some, IfErr, IfOk, IfSome, IsSomeAnd, OnOk, List, ℕ, false, length, slice_range, take};
+ghost use Rattle.std.specs.Prelude.{◌≡◌, ◌≢◌, ◌≤◌, ◌↔◌, [], None, Some, IfErr, IfOk, IfSome, IsSomeAnd, IsTrue, OnOk, List, ℕ, false, length, slice_range, take};
 ghost use Rattle.std.specs.List.{All};
 ghost use Rattle.sentry_envelope.specs.Envelope.{Spells};
 ghost use Rattle.sentry_envelope.specs.EnvelopeView.{structured};
@@ -8,7 +8,7 @@ ghost use Rattle.sentry_envelope.specs.SentryProfile.{profile};
 ghost use Rattle.sentry_moments.specs.Moments.{moment_cell};
 ghost use Rattle.sentry_mending.specs.Alone.{Fails, RefusesPayload, alone};
 ghost use Rattle.sentry_mending.specs.HeaderIds.{StatesId};
-ghost use Rattle.sentry_mending.specs.MendedItems.{IsMended, LeavesOut, all_notes};
+ghost use Rattle.sentry_mending.specs.MendedItems.{IsLeftFirst, IsMended, LeavesOut, all_notes};
 ghost use Rattle.sentry_mending.specs.Times.{IsTimeOf};
 ghost use Rattle.sentry_mending.specs.declared.fault.Fault.{Fault as Faults};
 ghost use Rattle.sentry_places.specs.Honest.{IsHonest};
@@ -46,7 +46,12 @@ pub struct MendRules {
 impl MendRules {
     /// Repairs that lose nothing but form, at most 10,000 an item, and up to 32 tested; no ids of
     /// the header.
-    pub fn new() -> MendRules {
+    pub fn new() -> MendRules
+        ensures repairs { result.repairs ≡ Repairs.Form }
+        ensures max_notes { result.max_notes ≡ 10000 }
+        ensures max_tested { result.max_tested ≡ 32 }
+        ensures header_event_id { result.header_event_id ≡ false }
+    {
         MendRules {
             repairs: Repairs::Form,
             max_notes: 10_000,
@@ -77,7 +82,9 @@ pub struct MendedItem {
 
 impl MendedItem {
     /// Returns whether the item is left out of the envelope.
-    pub fn is_left(&self) -> bool {
+    pub fn is_left(&self) -> bool
+        ensures { IsTrue result ↔ IsLeftFirst self.now.frame.items }
+    {
         match self.frame.first() {
             Some(note) => note.repair == Repair::Left,
             None => false,
@@ -292,35 +299,6 @@ fn identify_item<R: Rng>(
     }))
 }
 
-// Repairs an item that is refused for this check, or leaves it out.
-fn mend_framed_item<R: Rng>(
-    alloc: Global,
-    bytes: &[u8],
-    spot: &Spot,
-    framed: Framed,
-    error: &EnvelopeError,
-    rules: MendRules,
-    id: Option<Uuid>,
-    stands: &Option<EnvelopeError>,
-    now: Moment,
-    ids: &mut R,
-) -> Result<MendedItem, AllocError>
-    requires stated { IfSome id (StatesId (moment_cell now) bytes.now) }
-    requires refused { stands.now ≢ None }
-    requires fails { Fails profile (alone (slice_range bytes.now spot.now.start spot.now.end))
-        error.now }
-    ensures { IfOk result (IsMended profile (moment_cell now) rules bytes.now stands.now) }
-{
-    let (made, stuck) = repair_item(
-        alloc, bytes, spot, framed, error, rules, id, stands, now, ids,
-    )?;
-    if let Some(item) = made {
-        return Ok(item);
-    }
-    let left = leave_item(alloc, bytes, spot, error, stuck, rules, stands, now, ids)?;
-    Ok(left)
-}
-
 // Repairs an item that is refused for this check, or leaves it out; always if its framing is at
 // fault.
 fn mend_refused_item<R: Rng>(
@@ -340,18 +318,18 @@ fn mend_refused_item<R: Rng>(
         error.now }
     ensures { IfOk result (IsMended profile (moment_cell now) rules bytes.now stands.now) }
 {
-    match spot.framed {
-        Some(framed) => {
-            let item = mend_framed_item(
-                alloc, bytes, spot, framed, error, rules, id, stands, now, ids,
-            )?;
-            Ok(item)
+    let mut stuck = None;
+    if let Some(framed) = spot.framed {
+        let (made, place) = repair_item(
+            alloc, bytes, spot, framed, error, rules, id, stands, now, ids,
+        )?;
+        if let Some(item) = made {
+            return Ok(item);
         }
-        None => {
-            let left = leave_item(alloc, bytes, spot, error, None, rules, stands, now, ids)?;
-            Ok(left)
-        }
+        stuck = place;
     }
+    let left = leave_item(alloc, bytes, spot, error, stuck, rules, stands, now, ids)?;
+    Ok(left)
 }
 
 // Repairs an item that is refused, or leaves it out, and gives one that reads the header's id;

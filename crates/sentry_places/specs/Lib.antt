@@ -1,3 +1,4 @@
 pub mod Honest
 pub mod Needed
 pub mod Spliced
+pub mod Words

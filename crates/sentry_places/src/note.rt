@@ -1,5 +1,8 @@
 //! Places of an item that don't fit, and the repairs of them.
 
+ghost use Rattle.std.specs.Prelude.{◌≡◌};
+ghost use Rattle.sentry_places.specs.Words.{found_word, repair_word, wanted_word};
+
 /// What stands at a place.
 #[derive(Clone, Copy, Debug, PartialEq, Eq)]
 pub enum Found {
@@ -23,7 +26,9 @@ pub enum Found {
 
 impl Found {
     /// Returns the name of the JSON type, or `absent`.
-    pub fn as_str(&self) -> &'static str {
+    pub fn as_str(&self) -> &'static str
+        ensures { result.now ≡ found_word self.now }
+    {
         match self {
             Found::Absent => "absent",
             Found::Null => "null",
@@ -74,7 +79,9 @@ pub enum Wanted {
 
 impl Wanted {
     /// Returns what is wanted, in words.
-    pub fn as_str(&self) -> &'static str {
+    pub fn as_str(&self) -> &'static str
+        ensures { result.now ≡ wanted_word self.now }
+    {
         match self {
             Wanted::Any => "any value without floats",
             Wanted::Text => "a string",
@@ -118,7 +125,9 @@ pub enum Repair {
 
 impl Repair {
     /// Returns what was done, in words.
-    pub fn as_str(&self) -> &'static str {
+    pub fn as_str(&self) -> &'static str
+        ensures { result.now ≡ repair_word self.now }
+    {
         match self {
             Repair::AsMoment => "as an RFC 3339 string",
             Repair::AsText => "as a string",

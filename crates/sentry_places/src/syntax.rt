@@ -1,5 +1,8 @@
 //! Where a text stops being JSON.
 
+ghost use Rattle.std.specs.Prelude.{◌≡◌};
+ghost use Rattle.sentry_places.specs.Words.{expected_word};
+
 use crate::scan::{byte_at, space_end};
 use std::alloc::{AllocError, Global};
 use std::str;
@@ -37,7 +40,9 @@ pub enum Expected {
 
 impl Expected {
     /// Returns what is expected, in words.
-    pub fn as_str(&self) -> &'static str {
+    pub fn as_str(&self) -> &'static str
+        ensures { result.now ≡ expected_word self.now }
+    {
         match self {
             Expected::Value => "a value",
             Expected::Key => "a key in quotes",
