@@ -33,15 +33,15 @@ one_more done ms k first inside key named closed are ts =
 -- what was read behind the brace: these tokens, which are these members
 pub record ReadSoFar (brace left : List ℕ) (ms : Members) (most : ℕ) : Type 0 where
   pub done : List Token
-  pub before : Before true true brace left done most
+  pub before : Before false true true brace left done most
   pub are : AreMembers done ms
 
 -- a key, its colon and a value
 module _ (brace left behind colon_at colon value rest : List ℕ) (ms : Members) (most : ℕ) (k : Token) (key : List ℕ) (first : Token) (inside : List Token)
     (so : ReadSoFar brace left ms most) (name : SpellsString left behind k) (named : text_of k ≡ Some key)
-    (at_colon : IsSpaced behind colon_at) (is_colon : colon_at ≡ 58 ∷ colon) (at_value : IsSpaced colon value) (spelled : Spells value rest first inside most) where
-  due : Before true false brace value (so.done ++ k ∷ []) most
-  due = skipped true false brace colon value (so.done ++ k ∷ []) most at_value (next_key true true brace left colon_at colon so.done k most refl so.before (string_before left behind colon_at k name at_colon) is_colon)
+    (at_colon : IsSpaced behind colon_at) (is_colon : colon_at ≡ 58 ∷ colon) (at_value : IsSpaced colon value) (spelled : Spells false value rest first inside most) where
+  due : Before false true false brace value (so.done ++ k ∷ []) most
+  due = skipped false true false brace colon value (so.done ++ k ∷ []) most at_value (next_key false true true brace left colon_at colon so.done k most refl so.before (string_before left behind colon_at k name at_colon) is_colon)
 
   are_more : AreMembers ((so.done ++ k ∷ []) ++ (first ∷ inside)) (put key (value_of first inside) ms)
   are_more = rw (append_assoc so.done (k ∷ []) (first ∷ inside)) (one_more so.done ms k first inside key named spelled.closed so.are)
@@ -51,14 +51,14 @@ module _ (brace left behind colon_at colon value rest : List ℕ) (ms : Members)
   comma_next comma_at comma next at_comma is_comma at_next =
       record {
         done = (so.done ++ k ∷ []) ++ (first ∷ inside);
-        before = skipped true true brace comma next ((so.done ++ k ∷ []) ++ (first ∷ inside)) most at_next
+        before = skipped false true true brace comma next ((so.done ++ k ∷ []) ++ (first ∷ inside)) most at_next
             (next_value true false brace value comma_at comma (so.done ++ k ∷ []) first inside most refl due (value_before value rest comma_at first inside most spelled at_comma) is_comma);
         are = are_more;
       }
 
   -- or the end of the object
   pub object_ends : (close end : List ℕ) (deep : ℕ) → IsSpaced rest close → close ≡ 125 ∷ end → most < deep
-      → (all : List Token) × Spells (123 ∷ brace) end (token.Object (length all)) all deep × (members_of all no_members ≡ put key (value_of first inside) ms)
+      → (all : List Token) × Spells false (123 ∷ brace) end (token.Object (length all)) all deep × (members_of all no_members ≡ put key (value_of first inside) ms)
   object_ends close end deep at_close closes room =
       let all = (so.done ++ k ∷ []) ++ (first ∷ inside) in (
         all,
@@ -67,12 +67,12 @@ module _ (brace left behind colon_at colon value rest : List ℕ) (ms : Members)
       )
 
 -- a line that is such an object
-pub object_line : (line text inside rest : List ℕ) (all : List Token) → text ≡ line → IsUtf8 line → text ≡ 123 ∷ inside → rest ≡ [] → Spells (123 ∷ inside) rest (token.Object (length all)) all 127
+pub object_line : (line text inside rest : List ℕ) (all : List Token) → text ≡ line → IsUtf8 line → text ≡ 123 ∷ inside → rest ≡ [] → Spells false (123 ∷ inside) rest (token.Object (length all)) all 127
     → tree_of line ≡ Some (object (members_of all no_members))
 object_line line text inside rest all same utf8 opens none whole =
-    let opened = subst (λ t. Spells t rest (token.Object (length all)) all 127) (sym opens) whole in
+    let opened = subst (λ t. Spells false t rest (token.Object (length all)) all 127) (sym opens) whole in
     parsed line text rest (token.Object (length all) ∷ all) (token.Object (length all)) all same utf8 none refl opened ∙ ap Some (value_object (length all) all)
 
 -- nothing was read yet
 pub begun : (brace left : List ℕ) (most : ℕ) → IsSpaced brace left → ReadSoFar brace left no_members most
-begun brace left most space = record { done = []; before = skipped true true brace brace left [] most space (begins true brace most); are = λ ts. refl }
+begun brace left most space = record { done = []; before = skipped false true true brace brace left [] most space (begins false true brace most); are = λ ts. refl }

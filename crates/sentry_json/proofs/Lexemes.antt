@@ -1,5 +1,5 @@
 -- The lexemes of a value are read as that value.
-use Rattle.std.proofs.Common.{◌≡◌, ◌≤◌, ℕ, List, [], ◌∷◌, ◌++◌, ◌==◌, length, true, false, Some, arith, option_and_then, IsUtf8, refl, sym, ap, ◌∙◌, append_assoc, append-nil}
+use Rattle.std.proofs.Common.{◌≡◌, ◌≤◌, ℕ, List, [], ◌∷◌, ◌++◌, ◌==◌, length, true, false, Bool, Some, arith, option_and_then, IsUtf8, refl, sym, ap, subst, ◌∙◌, append_assoc, append-nil}
 use Rattle.std.proofs.lemmas.Bool.{eqb-true}
 use Rattle.json.specs.Token as json_token
 use Rattle.json.specs.Json as json
@@ -9,12 +9,13 @@ use Rattle.json.specs.Word.{ends_word}
 use Rattle.json.specs.Tree.{json_tokens, items_tokens, members_tokens, depth}
 use Rattle.json.proofs.Printed.Trees.{value-json_tokens}
 use Rattle.serde_json.specs.Data.{Data}
-use Rattle.serde_json.specs.Read.{of_json, max_depth}
+use Rattle.serde_json.specs.Read.{of_json, max_depth, read}
 use Rattle.serde_json.specs.Written.{has_float}
 use Rattle.sentry_json.specs.Line.{tree_of}
 use Rattle.sentry_json.proofs.Lines.{tree_of_from}
 use Rattle.sentry_json.specs.Spelled.{lexemes, items_lexemes, members_lexemes, Spells}
-use Rattle.sentry_json.specs.Tokens.{tokens_value}
+use Rattle.sentry_json.specs.Taken.{TakesLine}
+use Rattle.sentry_json.specs.Tokens.{AreTaken, tokens_value}
 use Rattle.sentry_json.specs.declared.tape.token.Token.{Token}
 use Rattle.sentry_json.proofs.TokenLists.{no_float}
 
@@ -70,20 +71,31 @@ line_tokens : (line : List ℕ) (j : Json) → lex between line ≡ lexemes j �
 unfolding punctuate
 line_tokens line j is = ap (punctuate fresh) (is ∙ sym (append-nil (lexemes j))) ∙ value_tokens j fresh [] refl refl
 
--- a line that is spelled so has this tree
-pub line_tree : (line : List ℕ) (j : Json) (d : Data) → IsUtf8 line → lex between line ≡ lexemes j → depth j ≤ max_depth → of_json j ≡ Some d → has_float d ≡ false → tree_of line ≡ Some d
-line_tree line j d text is shallow means whole =
+-- a line that is spelled so is read so
+pub line_read : (line : List ℕ) (j : Json) (d : Data) → lex between line ≡ lexemes j → depth j ≤ max_depth → of_json j ≡ Some d → read line ≡ Some d
+line_read line j d is shallow means =
     let parsed = ap (json.value max_depth) (line_tokens line j is) ∙ value-json_tokens j max_depth [] shallow in
-    tree_of_from line d text (ap (λ o. option_and_then of_json (option_and_then (λ p. json.if_last p.0 p.1) o)) parsed ∙ means) whole
+    ap (λ o. option_and_then of_json (option_and_then (λ p. json.if_last p.0 p.1) o)) parsed ∙ means
 
 pub no_bytes : (xs : List ℕ) → true ≡ (length xs == 0) → xs ≡ []
 no_bytes [] e = refl
 no_bytes (x ∷ xs) e = absurd (omega (arith, eqb-true (length (x ∷ xs)) 0 (sym e)))
 
 -- the tokens of a value behind which the text ends
-pub parsed : (line text rest : List ℕ) (all : List Token) (first : Token) (inside : List Token) → text ≡ line → IsUtf8 line → rest ≡ [] → all ≡ first ∷ inside → Spells text rest first inside max_depth → tree_of line ≡ Some (tokens_value all)
+pub line_taken : {fl : Bool} (line text rest : List ℕ) (all : List Token) (first : Token) (inside : List Token) → text ≡ line → IsUtf8 line → rest ≡ [] → all ≡ first ∷ inside → Spells fl text rest first inside max_depth → TakesLine fl line all
 unfolding lex
-parsed line text rest all first inside same utf8 none is s =
+line_taken line text rest all first inside same utf8 none is s =
     let lexed : lex between line ≡ lexemes s.json =
     ap (lex between) (sym same) ∙ s.lexed (ap ends_word none) ∙ ap (λ r. lexemes s.json ++ lex between r) none ∙ append-nil (lexemes s.json) in
-    line_tree line s.json (tokens_value (first ∷ inside)) utf8 lexed s.shallow s.meant (no_float first inside) ∙ ap (λ ts. Some (tokens_value ts)) (sym is)
+    record {
+      utf8 = utf8;
+      read = line_read line s.json (tokens_value (first ∷ inside)) lexed s.shallow s.meant ∙ ap (λ ts. Some (tokens_value ts)) (sym is);
+      whole = λ without. ap (λ ts. has_float (tokens_value ts)) is ∙ no_float first inside (subst (λ b. AreTaken b (first ∷ inside)) without s.taken);
+    }
+
+-- without floats, they are its tree
+pub line_tree : (line : List ℕ) (all : List Token) → TakesLine false line all → tree_of line ≡ Some (tokens_value all)
+line_tree line all t = tree_of_from line (tokens_value all) t.utf8 t.read (t.whole refl)
+
+pub parsed : (line text rest : List ℕ) (all : List Token) (first : Token) (inside : List Token) → text ≡ line → IsUtf8 line → rest ≡ [] → all ≡ first ∷ inside → Spells false text rest first inside max_depth → tree_of line ≡ Some (tokens_value all)
+parsed line text rest all first inside same utf8 none is s = line_tree line all (line_taken line text rest all first inside same utf8 none is s)

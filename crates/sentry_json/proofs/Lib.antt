@@ -13,6 +13,7 @@ pub mod Latest
 pub mod Beside
 pub mod Each
 pub mod TokenLists
+pub mod Replaced
 pub mod PlainTexts
 pub mod CharacterEnds
 pub mod Integers

@@ -1,5 +1,5 @@
 -- What a line is read as, and that a written line is read.
-use Rattle.std.proofs.Common.{◌≡◌, ◌≤◌, ◌↔◌, ℕ, List, Bool, true, false, cond, Option, Some, None, option_and_then, IsUtf8, refl, subst}
+use Rattle.std.proofs.Common.{◌≡◌, ◌≤◌, ◌↔◌, ℕ, List, Bool, true, false, cond, Option, Some, None, option_and_then, IsUtf8, true≢false, refl, sym, ap, ◌∙◌, subst}
 use Rattle.std.proofs.lemmas.Option.{none-some, same_Some}
 use Rattle.std.proofs.lemmas.Str.{IsUtf8-from_is_utf8, is_utf8-from_IsUtf8}
 use Rattle.std.specs.Str.{is_utf8}
@@ -39,6 +39,19 @@ tree_of_parts line d e = if_text (is_utf8 line) line d refl e
 pub tree_of_from : (line : List ℕ) (d : Data) → IsUtf8 line → read line ≡ Some d → has_float d ≡ false → tree_of line ≡ Some d
 unfolding tree_of
 tree_of_from line d u e whole = rw (is_utf8-from_IsUtf8 line u, e, whole) refl
+
+-- a line whose tree would have a float has none
+pub tree_of_none : (line : List ℕ) (d : Data) → read line ≡ Some d → has_float d ≡ true → tree_of line ≡ None
+unfolding tree_of
+tree_of_none line d e float = never (is_utf8 line) (option_and_then unless_float (read line)) (ap (option_and_then unless_float) e ∙ refused (has_float d) float)
+  where
+    refused : (b : Bool) → b ≡ true → cond b None (Some d) ≡ None
+    refused true is = refl
+    refused false is = absurd (true≢false (sym is))
+
+    never : (b : Bool) (o : Option Data) → o ≡ None → cond b o None ≡ None
+    never true o is = is
+    never false o is = refl
 
 pub tree_of_sound : (line : List ℕ) (d : Data) → tree_of line ≡ Some d → IsSound d
 tree_of_sound line d e = let p = tree_of_parts line d e in regular_sound d (read_regular line d p.1) p.2 (read_texts line d p.0 p.1)

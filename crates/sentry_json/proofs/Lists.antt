@@ -67,15 +67,15 @@ one_member key k all items named are =
 pub list_line : (line text front brace first behind colon_at colon value inside list close rest end : List ℕ) (k : Token) (key : List ℕ) (all : List Token) (items : List Data)
     → text ≡ line → IsUtf8 line → IsSpaced text front → front ≡ 123 ∷ brace → IsSpaced brace first → SpellsString first behind k → text_of k ≡ Some key
     → IsSpaced behind colon_at → colon_at ≡ 58 ∷ colon → IsSpaced colon value → value ≡ 91 ∷ inside
-    → Spells (91 ∷ inside) list (token.Array (length all)) all 126 → items_of all ≡ items_data (λ d. d) items
+    → Spells false (91 ∷ inside) list (token.Array (length all)) all 126 → items_of all ≡ items_data (λ d. d) items
     → IsSpaced list close → close ≡ 125 ∷ rest → IsSpaced rest end → end ≡ [] → tree_of line ≡ Some (list_at key items)
 list_line line text front brace first behind colon_at colon value inside list close rest end k key all items same utf8 at_front opens at_key name named at_colon is_colon at_value is_list spelled are at_close closes at_end none =
-    let before_key = skipped true true brace brace first [] 126 at_key (begins true brace 126) in
-    let before_colon = next_key true true brace first colon_at colon [] k 126 refl before_key (string_before first behind colon_at k name at_colon) is_colon in
-    let before_list = skipped true false brace colon value ([] ++ k ∷ []) 126 at_value before_colon in
-    let the_list : Spells value list (token.Array (length all)) all 126 = subst (λ t. Spells t list (token.Array (length all)) all 126) (sym is_list) spelled in
+    let before_key = skipped false true true brace brace first [] 126 at_key (begins false true brace 126) in
+    let before_colon = next_key false true true brace first colon_at colon [] k 126 refl before_key (string_before first behind colon_at k name at_colon) is_colon in
+    let before_list = skipped false true false brace colon value ([] ++ k ∷ []) 126 at_value before_colon in
+    let the_list : Spells false value list (token.Array (length all)) all 126 = subst (λ t. Spells false t list (token.Array (length all)) all 126) (sym is_list) spelled in
     let whole = ends true false brace value close rest ([] ++ k ∷ []) (token.Array (length all)) all 126 127 refl before_list (value_before value list close (token.Array (length all)) all 126 the_list at_close) closes (omega arith) in
-    let opened = subst (λ t. Spells t rest (token.Object (length (k ∷ token.Array (length all) ∷ all))) (k ∷ token.Array (length all) ∷ all) 127) (sym opens) whole in
+    let opened = subst (λ t. Spells false t rest (token.Object (length (k ∷ token.Array (length all) ∷ all))) (k ∷ token.Array (length all) ∷ all) 127) (sym opens) whole in
     parsed line text end (token.Object (length (k ∷ token.Array (length all) ∷ all)) ∷ k ∷ token.Array (length all) ∷ all) (token.Object (length (k ∷ token.Array (length all) ∷ all))) (k ∷ token.Array (length all) ∷ all) same utf8 none refl
     (value_behind text front end _ _ 127 at_front (value_before front rest end _ _ 127 opened at_end))
     ∙ ap Some (one_member key k all items named are)

@@ -1,14 +1,14 @@
 -- What lists of tokens mean, one token after the other: any number that is at least the count of
 -- the tokens gives the same.
-use Rattle.std.proofs.Common.{Ordering, Less, Equal, Greater, ◌+◌, ◌-◌, min, take_all, ◌≡◌, ℕ, zero, suc, pos, negsuc, ◌<◌, ◌≤◌, List, [], ◌∷◌, length, take, drop, length-take, length-drop, Option, Some, None, refl, sym, ap, ◌∙◌, slice_get, is_some, true, false, arith}
+use Rattle.std.proofs.Common.{Ordering, Less, Equal, Greater, ◌+◌, ◌-◌, min, take_all, ◌≡◌, ℕ, zero, suc, ℤ, pos, negsuc, ◌<◌, ◌≤◌, List, [], ◌∷◌, length, take, drop, length-take, length-drop, Option, Some, None, refl, sym, ap, ◌∙◌, slice_get, is_some, Bool, true, false, true≢false, ◌++◌, arith}
 use Rattle.std.proofs.lemmas.Bool.{or_parts, or_from}
 use Rattle.std.proofs.lemmas.List.{take_min, drop_min}
 use Rattle.std.proofs.lemmas.Option.{same_Some}
 use Rattle.std.specs.Ordering.{match_ordering}
 use Rattle.serde_json.specs.Data.{Data, array, object, Items, no_items, item, Members, no_members, member, put}
-use Rattle.serde_json.specs.Find.{as_array, as_object}
+use Rattle.serde_json.specs.Find.{as_array, as_object, is_float}
 use Rattle.serde_json.specs.Written.{has_float, items_have_float, members_have_float}
-use Rattle.sentry_json.specs.Tokens.{Meaning, width, text_of, value_with, items_by, member_step, members_by, value_at, value_of, items_of, members_of, tokens_value}
+use Rattle.sentry_json.specs.Tokens.{IsTaken, AreTaken, integer, Meaning, width, text_of, value_with, items_by, member_step, members_by, value_at, value_of, items_of, members_of, tokens_value}
 use Rattle.sentry_json.specs.declared.tape.token.Token.{Token}
 use Rattle.sentry_json.specs.declared.tape.token.Token.TheVariants as token
 
@@ -70,6 +70,7 @@ with_same i j p q token.Null ts a b = refl
 with_same i j p q (token.Bool x) ts a b = refl
 with_same i j p q (token.Whole n) ts a b = refl
 with_same i j p q (token.Negative z) ts a b = refl
+with_same i j p q (token.Float f) ts a b = refl
 with_same i j p q (token.Text s) ts a b = refl
 with_same i j p q (token.Array n) ts a b = ap array a
 with_same i j p q (token.Object n) ts a b = ap object b
@@ -117,6 +118,7 @@ with_array i p token.Null ts h = absurd cc
 with_array i p (token.Bool x) ts h = absurd cc
 with_array i p (token.Whole n) ts h = absurd cc
 with_array i p (token.Negative z) ts h = absurd cc
+with_array i p (token.Float f) ts h = absurd cc
 with_array i p (token.Text s) ts h = absurd cc
 with_array i p (token.Array n) ts h = refl
 with_array i p (token.Object n) ts h = absurd cc
@@ -126,6 +128,7 @@ with_object i p token.Null ts h = absurd cc
 with_object i p (token.Bool x) ts h = absurd cc
 with_object i p (token.Whole n) ts h = absurd cc
 with_object i p (token.Negative z) ts h = absurd cc
+with_object i p (token.Float f) ts h = absurd cc
 with_object i p (token.Text s) ts h = absurd cc
 with_object i p (token.Array n) ts h = absurd cc
 with_object i p (token.Object n) ts h = refl
@@ -189,11 +192,29 @@ members_next k t ts s before named =
 
 -- ---- no number is held as a float
 
-items_no_float : (f : Meaning) (n : ℕ) (ts : List Token) → ((t : Token) (us : List Token) → has_float (f t us) ≡ false) → items_have_float (items_by f n ts) ≡ false
+pub taken_append : (fl : Bool) (ts us : List Token) → AreTaken fl ts → AreTaken fl us → AreTaken fl (ts ++ us)
+taken_append fl [] us h k = k
+taken_append fl (t ∷ ts) us h k = (h.0, taken_append fl ts us h.1 k)
+
+some_whole : (k : ℕ) (ts : List Token) → AreTaken false ts → AreTaken false (take k ts)
+some_whole zero ts h = tt
+some_whole (suc k) [] h = tt
+some_whole (suc k) (t ∷ ts) h = (h.0, some_whole k ts h.1)
+
+left_whole : (k : ℕ) (ts : List Token) → AreTaken false ts → AreTaken false (drop k ts)
+left_whole zero ts h = h
+left_whole (suc k) [] h = tt
+left_whole (suc k) (t ∷ ts) h = left_whole k ts h.1
+
+-- what the tokens mean has no float, where they are such
+abbrev HasNone : Meaning → Type 0
+HasNone f = (t : Token) (us : List Token) → AreTaken false (t ∷ us) → has_float (f t us) ≡ false
+
+items_no_float : (f : Meaning) (n : ℕ) (ts : List Token) → HasNone f → AreTaken false ts → items_have_float (items_by f n ts) ≡ false
 unfolding items_by
-items_no_float f zero ts h = refl
-items_no_float f (suc n) [] h = refl
-items_no_float f (suc n) (t ∷ ts) h = or_from _ _ (h t (take (width t) ts)) (items_no_float f n (drop (width t) ts) h)
+items_no_float f zero ts h w = refl
+items_no_float f (suc n) [] h w = refl
+items_no_float f (suc n) (t ∷ ts) h w = or_from _ _ (h t (take (width t) ts) (w.0, some_whole (width t) ts w.1)) (items_no_float f n (drop (width t) ts) h (left_whole (width t) ts w.1))
 
 -- a member without a float put among members without any
 by_ordering : (o : Ordering) (a b c : Members) → members_have_float a ≡ false → members_have_float b ≡ false → members_have_float c ≡ false → members_have_float (match_ordering o a b c) ≡ false
@@ -211,31 +232,35 @@ step_no_float : (o : Option (List ℕ)) (d : Data) (more : Members → Members) 
 step_no_float None d more before x b h = b
 step_no_float (Some k) d more before x b h = h (put k d before) (put_no_float k d before x b)
 
-members_no_float : (f : Meaning) (n : ℕ) (ts : List Token) (before : Members) → ((t : Token) (us : List Token) → has_float (f t us) ≡ false) → members_have_float before ≡ false → members_have_float (members_by f n ts before) ≡ false
+members_no_float : (f : Meaning) (n : ℕ) (ts : List Token) (before : Members) → HasNone f → AreTaken false ts → members_have_float before ≡ false → members_have_float (members_by f n ts before) ≡ false
 unfolding members_by
-members_no_float f zero ts before h b = b
-members_no_float f (suc n) [] before h b = b
-members_no_float f (suc n) (k ∷ []) before h b = b
-members_no_float f (suc n) (k ∷ t ∷ ts) before h b =
-    step_no_float (text_of k) _ _ before (h t (take (width t) ts)) b (λ ms. members_no_float f n (drop (width t) ts) ms h)
+members_no_float f zero ts before h w b = b
+members_no_float f (suc n) [] before h w b = b
+members_no_float f (suc n) (k ∷ []) before h w b = b
+members_no_float f (suc n) (k ∷ t ∷ ts) before h w b =
+    step_no_float (text_of k) _ _ before (h t (take (width t) ts) (w.1.0, some_whole (width t) ts w.1.1)) b (λ ms. members_no_float f n (drop (width t) ts) ms h (left_whole (width t) ts w.1.1))
 
-with_no_float : (i : List Token → Items) (p : List Token → Members) (t : Token) (ts : List Token) → items_have_float (i ts) ≡ false → members_have_float (p ts) ≡ false → has_float (value_with i p t ts) ≡ false
-with_no_float i p token.Null ts a b = refl
-with_no_float i p (token.Bool x) ts a b = refl
-with_no_float i p (token.Whole n) ts a b = refl
-with_no_float i p (token.Negative (pos n)) ts a b = refl
-with_no_float i p (token.Negative (negsuc n)) ts a b = refl
-with_no_float i p (token.Text s) ts a b = refl
-with_no_float i p (token.Array n) ts a b = a
-with_no_float i p (token.Object n) ts a b = b
+pub integer_no_float : (z : ℤ) → is_float (integer z) ≡ false
+integer_no_float (pos n) = refl
+integer_no_float (negsuc n) = refl
 
-no_float_at : (d : ℕ) (t : Token) (ts : List Token) → has_float (value_at d t ts) ≡ false
+with_no_float : (i : List Token → Items) (p : List Token → Members) (t : Token) (ts : List Token) → IsTaken false t → items_have_float (i ts) ≡ false → members_have_float (p ts) ≡ false → has_float (value_with i p t ts) ≡ false
+with_no_float i p token.Null ts w a b = refl
+with_no_float i p (token.Bool x) ts w a b = refl
+with_no_float i p (token.Whole n) ts w a b = refl
+with_no_float i p (token.Negative z) ts w a b = integer_no_float z
+with_no_float i p (token.Float f) ts w a b = absurd (true≢false (sym w))
+with_no_float i p (token.Text s) ts w a b = refl
+with_no_float i p (token.Array n) ts w a b = a
+with_no_float i p (token.Object n) ts w a b = b
+
+no_float_at : (d : ℕ) → HasNone (value_at d)
 unfolding value_at
-no_float_at zero t ts = with_no_float _ _ t ts refl refl
-no_float_at (suc d) t ts = with_no_float _ _ t ts (items_no_float (value_at d) (length ts) ts (no_float_at d)) (members_no_float (value_at d) (length ts) ts no_members (no_float_at d) refl)
+no_float_at zero t ts w = with_no_float _ _ t ts w.0 refl refl
+no_float_at (suc d) t ts w = with_no_float _ _ t ts w.0 (items_no_float (value_at d) (length ts) ts (no_float_at d) w.1) (members_no_float (value_at d) (length ts) ts no_members (no_float_at d) w.1 refl)
 
-pub no_float : (t : Token) (ts : List Token) → has_float (value_of t ts) ≡ false
-no_float t ts = no_float_at (length ts) t ts
+pub no_float : (t : Token) (ts : List Token) → AreTaken false (t ∷ ts) → has_float (value_of t ts) ≡ false
+no_float t ts w = no_float_at (length ts) t ts w
 
 -- ---- the tokens of the first value
 

@@ -9,7 +9,7 @@ use Rattle.json.specs.Word.{ends_word}
 use Rattle.serde_json.specs.Data.{Data}
 use Rattle.serde_json.specs.Read.{of_json}
 use Rattle.sentry_json.specs.declared.tape.token.Token.{Token}
-use Rattle.sentry_json.specs.Tokens.{width, value_of, text_of}
+use Rattle.sentry_json.specs.Tokens.{AreTaken, width, value_of, text_of}
 
 -- a comma, where a value stands before
 abbrev pub comma_if : Bool → List Lexeme
@@ -49,19 +49,20 @@ pub record IsQuoted (inside content_bytes rest : List ℕ) : Type 0 where
   pub lexed : lex in_string inside ≡ lex between rest
 
 -- The text begins with a value, and `rest` follows. The first token, and those inside it, are for
--- that value.
-pub record Spells (text rest : List ℕ) (first : Token) (inside : List Token) (most : ℕ) : Type 0 where
+-- that value; whether floats are taken is told first.
+pub record Spells (floats : Bool) (text rest : List ℕ) (first : Token) (inside : List Token) (most : ℕ) : Type 0 where
   pub json : Json
   -- a word, as a number, ends where a comma, a bracket or the end stands
   pub lexed : ends_word rest ≡ true → lex between text ≡ lexemes json ++ lex between rest
   pub meant : of_json json ≡ Some (value_of first inside)
   pub closed : width first ≡ length inside
   pub shallow : depth json ≤ most
+  pub taken : AreTaken floats (first ∷ inside)
 
 -- The text begins with a value, which is this tree, and `rest` follows: there are tokens for that
--- value, kept or not, and they are the tree.
+-- value, kept or not, and they are the tree, which has no float.
 abbrev pub SpellsTree : (text rest : List ℕ) (d : Data) (most : ℕ) → Type 0
-SpellsTree text rest d most = (first : Token) × (inside : List Token) × Spells text rest first inside most × (value_of first inside ≡ d)
+SpellsTree text rest d most = (first : Token) × (inside : List Token) × Spells false text rest first inside most × (value_of first inside ≡ d)
 
 -- The text begins with a string of this content, and `rest` follows.
 abbrev pub BeginsString : (text rest content_bytes : List ℕ) → Type 0

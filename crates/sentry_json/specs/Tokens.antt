@@ -1,7 +1,7 @@
 -- What a list of tokens means: each token is a value, and what is inside an array or an object
 -- comes behind it.
-use Rattle.std.specs.Prelude.{ℕ, zero, suc, ℤ, pos, negsuc, List, [], ◌∷◌, length, take, drop, Option, Some, None, Bool, if◌then◌else◌}
-use Rattle.serde_json.specs.Data.{Num, unsigned, negative, Data, null, boolean, number, string, array, object, Items, no_items, item, Members, no_members, put}
+use Rattle.std.specs.Prelude.{◌≡◌, ℕ, zero, suc, ℤ, pos, negsuc, List, [], ◌∷◌, length, take, drop, Option, Some, None, Bool, true, if◌then◌else◌, ⊤}
+use Rattle.serde_json.specs.Data.{Num, unsigned, negative, float, Data, null, boolean, number, string, array, object, Items, no_items, item, Members, no_members, put}
 use Rattle.sentry_json.specs.declared.tape.token.Token.{Token}
 use Rattle.sentry_json.specs.declared.tape.token.Token.TheVariants as token
 
@@ -11,6 +11,7 @@ width token.Null = 0
 width (token.Bool b) = 0
 width (token.Whole n) = 0
 width (token.Negative z) = 0
+width (token.Float f) = 0
 width (token.Text s) = 0
 width (token.Array n) = n
 width (token.Object n) = n
@@ -21,9 +22,25 @@ text_of token.Null = None
 text_of (token.Bool b) = None
 text_of (token.Whole n) = None
 text_of (token.Negative z) = None
+text_of (token.Float f) = None
 text_of (token.Text s) = Some s.now
 text_of (token.Array n) = None
 text_of (token.Object n) = None
+
+-- the token is no float, unless floats are taken
+abbrev pub IsTaken : Bool → Token → Type 0
+IsTaken floats token.Null = ⊤
+IsTaken floats (token.Bool b) = ⊤
+IsTaken floats (token.Whole n) = ⊤
+IsTaken floats (token.Negative z) = ⊤
+IsTaken floats (token.Float f) = floats ≡ true
+IsTaken floats (token.Text s) = ⊤
+IsTaken floats (token.Array n) = ⊤
+IsTaken floats (token.Object n) = ⊤
+
+abbrev pub AreTaken : Bool → List Token → Type 0
+AreTaken floats [] = ⊤
+AreTaken floats (t ∷ ts) = IsTaken floats t × AreTaken floats ts
 
 -- these tokens, if they are kept
 abbrev pub kept : Bool → List Token → List Token
@@ -40,6 +57,7 @@ value_with items members token.Null ts = null
 value_with items members (token.Bool b) ts = boolean b
 value_with items members (token.Whole n) ts = number (unsigned n)
 value_with items members (token.Negative z) ts = number (integer z)
+value_with items members (token.Float f) ts = number (float f.value)
 value_with items members (token.Text s) ts = string s.now
 value_with items members (token.Array n) ts = array (items ts)
 value_with items members (token.Object n) ts = object (members ts)

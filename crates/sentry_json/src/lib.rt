@@ -16,5 +16,5 @@ pub use escape::{long_escape, short_escape};
 pub use keys::is_among;
 pub use node::Node;
 pub use object::{Named, Object};
-pub use tape::{Scalar, Tape, TapeNode, Visitor, leading_integer, look_up, run_len};
+pub use tape::{Parsed, Scalar, Tape, TapeNode, Visitor, leading_integer, look_up, run_len};
 pub use writer::Writer;

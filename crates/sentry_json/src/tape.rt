@@ -2,6 +2,8 @@
 
 mod escape;
 mod flat;
+mod float;
+mod judge;
 mod list;
 mod members;
 mod node;
@@ -13,17 +15,18 @@ mod scalar;
 mod token;
 mod tree;
 
-ghost use Rattle.std.specs.Prelude.{◌≡◌, ◌++◌, ◌∷◌, ◌<◌, [], ℕ, IfOk, IfSome, IsUtf8, List, Some, if◌then◌else◌, length, true};
+ghost use Rattle.std.specs.Prelude.{◌≡◌, ◌++◌, ◌∷◌, ◌<◌, [], ℕ, IfOk, IfSome, IsUtf8, List, None, Some, false, if◌then◌else◌, length, true};
 ghost use Rattle.sentry_json.specs.Line.{tree_of};
 ghost use Rattle.sentry_json.specs.Spelled.{IsBehind, IsQuoted};
-ghost use Rattle.sentry_json.specs.Taken.{TakesLeaf, TakesString, TakesValue};
+ghost use Rattle.sentry_json.specs.Taken.{TakesLeaf, TakesLine, TakesString, TakesValue};
 ghost use Rattle.sentry_json.specs.Tokens.{kept, text_of, tokens_value};
-ghost use Rattle.sentry_json.specs.TapeView.{node_data};
+ghost use Rattle.sentry_json.specs.TapeView.{IsParsed};
 ghost use Rattle.sentry_json.specs.declared.tape.token.Token.{Token};
 ghost use Rattle.sentry_json.specs.declared.tape.token.Token.TheVariants as token;
 
 use crate::tape::escape::split_escaped;
-use crate::tape::number::split_whole;
+use crate::tape::judge::has_float;
+use crate::tape::number::{split_float, split_whole};
 use crate::tape::requests::Requests;
 use crate::tape::rest::Rest;
 use crate::tape::scalar::split_rare_scalar;
@@ -44,6 +47,21 @@ const BYTES: usize = 8;
 
 // The least room: a tape serves line after line, and the lines of a small envelope fit at once.
 const LEAST: usize = 40;
+
+// As many members are looked at, for each token, to see which members with a float are replaced.
+const STEPS: usize = 16;
+
+/// What a [`Tape`] answers of a line.
+#[derive(Clone, Copy)]
+pub enum Parsed<'t, 'a> {
+    /// The root node of the line's tree: the line is JSON by RFC 8259, nested at most 127 deep, and
+    /// its tree has no float.
+    Root(TapeNode<'t, 'a>),
+    /// The line is such JSON, but its tree has a float.
+    Float,
+    /// Another line, or one of which many members with floats are replaced by later ones.
+    Other,
+}
 
 /// The tokens of a line of JSON, in the order of the line; its memory serves line after line.
 ///
@@ -87,13 +105,12 @@ impl<'a> Tape<'a> {
 
     // Takes the tokens of a line, in place of those of the line before.
     #[inline(always)]
-    fn take_line(&mut self, line: &'a [u8]) -> Option<()>
-        ensures { IfSome result (λ _.
-            tree_of line.now ≡ Some (tokens_value self.new.tokens.items)) }
+    fn take_line<const FLOATS: bool>(&mut self, line: &'a [u8]) -> Option<()>
+        ensures { IfSome result (λ _. TakesLine FLOATS line.now self.new.tokens.items) }
     {
         let text = self.start(line)?;
         let front = text.skip_space();
-        let rest = self.take_value::<true>(front, false, DEEPEST)?;
+        let rest = self.take_value::<true, FLOATS>(front, false, DEEPEST)?;
         let end = rest.skip_space();
         if !end.text.is_empty() {
             return None;
@@ -101,24 +118,40 @@ impl<'a> Tape<'a> {
         Some(())
     }
 
-    /// Reads a line, in place of the one before, and returns its root node.
-    ///
-    /// The line is JSON by RFC 8259, nested at most 127 deep. Its numbers are integers of 64 bits,
-    /// in digits alone and other than `-0`. `None` if it isn't such a line, never because an
-    /// allocation fails.
+    // Takes the tokens of a line that may have floats, and returns whether its tree has one. Few lines
+    // come here: those that aren't taken without floats.
+    #[cold]
+    #[inline(never)]
+    fn take_floats(&mut self, line: &'a [u8]) -> Option<bool>
+        ensures none { IfSome result (λ float. float ≡ true → tree_of line.now ≡ None) }
+        ensures some { IfSome result (λ float. float ≡ false
+            → tree_of line.now ≡ Some (tokens_value self.new.tokens.items)) }
+    {
+        self.take_line::<true>(line)?;
+        let mut steps = self.tokens.len().saturating_mul(STEPS);
+        has_float(TapeNode::new(&self.tokens), &mut steps)
+    }
+
+    /// Reads a line, in place of the one before.
     ///
     /// # Errors
     ///
     /// `AllocError` if an allocation fails.
-    pub fn parse(&mut self, line: &'a [u8]) -> Result<Option<TapeNode<'_, 'a>>, AllocError>
-        ensures { IfOk result (λ read. IfSome read (λ root.
-            tree_of line.now ≡ Some (node_data root))) }
+    pub fn parse(&mut self, line: &'a [u8]) -> Result<Parsed<'_, 'a>, AllocError>
+        ensures { IfOk result (λ read. IsParsed read line.now) }
     {
-        let Some(()) = self.take_line(line) else {
-            self.requests.granted()?;
-            return Ok(None);
-        };
-        Ok(Some(TapeNode::new(&self.tokens)))
+        if let Some(()) = self.take_line::<false>(line) {
+            return Ok(Parsed::Root(TapeNode::new(&self.tokens)));
+        }
+        self.requests.granted()?;
+        match self.take_floats(line) {
+            Some(true) => Ok(Parsed::Float),
+            Some(false) => Ok(Parsed::Root(TapeNode::new(&self.tokens))),
+            None => {
+                self.requests.granted()?;
+                Ok(Parsed::Other)
+            }
+        }
     }
 
     // Appends a token, if the tokens of a value are kept.
@@ -160,7 +193,7 @@ impl<'a> Tape<'a> {
     #[inline(always)]
     fn take_scalar<const KEPT: bool>(&mut self, text: Rest<'a>) -> Option<Rest<'a>>
         ensures spelled { IfSome result (λ rest.
-            TakesLeaf KEPT self.old.tokens.items self.new.tokens.items
+            TakesLeaf KEPT false self.old.tokens.items self.new.tokens.items
             text.entry.text.now rest.text.now) }
         ensures shorter { IfSome result (λ rest. length rest.text.now < length text.entry.text.now) }
     {
@@ -172,9 +205,13 @@ impl<'a> Tape<'a> {
     // Appends the token of a string, a word or a number at the front, and returns what follows it; a
     // key is a string. Not inlined: most are strings without escapes, which `take_value` takes itself.
     #[inline(never)]
-    fn take_leaf<const KEPT: bool>(&mut self, text: Rest<'a>, key: bool) -> Option<Rest<'a>>
+    fn take_leaf<const KEPT: bool, const FLOATS: bool>(
+        &mut self,
+        text: Rest<'a>,
+        key: bool,
+    ) -> Option<Rest<'a>>
         ensures spelled { IfSome result (λ rest.
-            TakesLeaf KEPT self.old.tokens.items self.new.tokens.items
+            TakesLeaf KEPT FLOATS self.old.tokens.items self.new.tokens.items
             text.entry.text.now rest.text.now) }
         ensures string { IfSome result (λ rest. key ≡ true
             → TakesString KEPT self.old.tokens.items self.new.tokens.items
@@ -187,6 +224,12 @@ impl<'a> Tape<'a> {
         if key {
             return None;
         }
+        if FLOATS {
+            if let Some((float, rest)) = split_float(text) {
+                self.keep::<KEPT>(Token::Float(float))?;
+                return Some(rest);
+            }
+        }
         if let Some((number, rest)) = split_whole(text) {
             self.keep::<KEPT>(Token::Whole(number))?;
             return Some(rest);
@@ -197,30 +240,34 @@ impl<'a> Tape<'a> {
     // As `take_leaf`, inlined, so that the call's answer is cleared on this way alone: a place is
     // cleared where the function begins that has it.
     #[inline(always)]
-    fn take_rare<const KEPT: bool>(&mut self, text: Rest<'a>, key: bool) -> Option<Rest<'a>>
+    fn take_rare<const KEPT: bool, const FLOATS: bool>(
+        &mut self,
+        text: Rest<'a>,
+        key: bool,
+    ) -> Option<Rest<'a>>
         ensures spelled { IfSome result (λ rest.
-            TakesLeaf KEPT self.old.tokens.items self.new.tokens.items
+            TakesLeaf KEPT FLOATS self.old.tokens.items self.new.tokens.items
             text.entry.text.now rest.text.now) }
         ensures string { IfSome result (λ rest. key ≡ true
             → TakesString KEPT self.old.tokens.items self.new.tokens.items
             text.entry.text.now rest.text.now) }
         ensures shorter { IfSome result (λ rest. length rest.text.now < length text.entry.text.now) }
     {
-        let rest = self.take_leaf::<KEPT>(text, key)?;
+        let rest = self.take_leaf::<KEPT, FLOATS>(text, key)?;
         Some(rest)
     }
 
     // Appends the tokens of the value at the front, and returns what follows it; a key is a string.
     #[cycle(take)]
     #[inline(always)]
-    fn take_value<const KEPT: bool>(
+    fn take_value<const KEPT: bool, const FLOATS: bool>(
         &mut self,
         text: Rest<'a>,
         key: bool,
         depth: u8,
     ) -> Option<Rest<'a>>
         ensures spelled { IfSome result (λ rest.
-            TakesValue KEPT self.old.tokens.items self.new.tokens.items
+            TakesValue KEPT FLOATS self.old.tokens.items self.new.tokens.items
             text.entry.text.now rest.text.now depth) }
         ensures string { IfSome result (λ rest. key ≡ true
             → TakesString KEPT self.old.tokens.items self.new.tokens.items
@@ -235,26 +282,26 @@ impl<'a> Tape<'a> {
         }
         let byte = *text.bytes().first()?;
         if !key && (byte == b'{' || byte == b'[') {
-            return self.take_nested::<KEPT>(text.after(byte)?, byte == b'{', depth);
+            return self.take_nested::<KEPT, FLOATS>(text.after(byte)?, byte == b'{', depth);
         }
-        self.take_rare::<KEPT>(text, key)
+        self.take_rare::<KEPT, FLOATS>(text, key)
     }
 
     // As `take_value`, of an object or an array, behind its opening bracket; inlined as `take_rare`.
     #[cycle(take)]
     #[inline(always)]
-    fn take_nested<const KEPT: bool>(
+    fn take_nested<const KEPT: bool, const FLOATS: bool>(
         &mut self,
         text: Rest<'a>,
         object: bool,
         depth: u8,
     ) -> Option<Rest<'a>>
         ensures spelled { IfSome result (λ rest.
-            TakesValue KEPT self.old.tokens.items self.new.tokens.items
+            TakesValue KEPT FLOATS self.old.tokens.items self.new.tokens.items
             ((if object then 123 else 91) ∷ text.entry.text.now) rest.text.now depth) }
         ensures shorter { IfSome result (λ rest. length rest.text.now < length text.entry.text.now) }
     {
-        let rest = self.take_inside::<KEPT>(text, object, depth)?;
+        let rest = self.take_inside::<KEPT, FLOATS>(text, object, depth)?;
         Some(rest)
     }
 
@@ -262,14 +309,14 @@ impl<'a> Tape<'a> {
     // takes a string stands in it once.
     #[cycle(take)]
     #[inline(never)]
-    fn take_inside<const KEPT: bool>(
+    fn take_inside<const KEPT: bool, const FLOATS: bool>(
         &mut self,
         text: Rest<'a>,
         object: bool,
         depth: u8,
     ) -> Option<Rest<'a>>
         ensures spelled { IfSome result (λ rest.
-            TakesValue KEPT self.old.tokens.items self.new.tokens.items
+            TakesValue KEPT FLOATS self.old.tokens.items self.new.tokens.items
             ((if object then 123 else 91) ∷ text.entry.text.now) rest.text.now depth) }
         ensures shorter { IfSome result (λ rest. length rest.text.now < length text.entry.text.now) }
     {
@@ -287,7 +334,7 @@ impl<'a> Tape<'a> {
                 left = next.skip_space();
                 continue;
             }
-            let rest = self.take_value::<KEPT>(left, key, depth)?;
+            let rest = self.take_value::<KEPT, FLOATS>(left, key, depth)?;
             if key {
                 left = rest.after_spaced(b':')?;
                 key = false;

@@ -3,6 +3,8 @@ pub mod CaseMaps
 pub mod CasesGiven
 pub mod CasesRead
 pub mod Copying
+pub mod PassedRows
+pub mod Passing
 pub mod Reading
 pub mod RowLemmas
 pub mod TagsShown

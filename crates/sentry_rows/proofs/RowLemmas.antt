@@ -11,11 +11,11 @@ use Rattle.sentry_tables.specs.Reading.{Shown, Refused, RowShown, RowRefused, Re
 use Rattle.sentry_tables.specs.declared.error.TreeError.{TreeError}
 use Rattle.sentry_tables.specs.declared.error.TreeError.TheVariants.{Misfit, Memory}
 
-is_null : (e : Data) → is_some (as_null e) ≡ true → unless_null_at e ≡ None
+pub is_null : (e : Data) → is_some (as_null e) ≡ true → unless_null_at e ≡ None
 is_null null h = refl
 is_null _ h = absurd (true≢false (sym h))
 
-not_null : (e : Data) → is_some (as_null e) ≡ false → unless_null_at e ≡ Some e
+pub not_null : (e : Data) → is_some (as_null e) ≡ false → unless_null_at e ≡ Some e
 not_null null h = absurd (true≢false h)
 not_null _ h = refl
 

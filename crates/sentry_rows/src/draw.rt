@@ -11,7 +11,7 @@ use std::alloc::Global;
 
 // Reads a member with the codec `F`; drawn from `ids` if absent.
 #[tactic(auto, using(crate::proofs::RowLemmas::draw_absent, crate::proofs::RowLemmas::draw_read))]
-pub(crate) fn or_drawn_as<F: Drawn<T>, T, R: Rng, N: Node>(
+pub(crate) fn or_drawn_as<F: Drawn<T>, T: Drop, R: Rng, N: Node>(
     alloc: Global,
     object: &Object<'_, N>,
     key: &str,

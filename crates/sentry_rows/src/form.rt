@@ -7,6 +7,7 @@ ghost use Rattle.sentry_tables.specs.Kind.{table, kept};
 ghost use Rattle.sentry_tables.specs.Norm.{norm};
 
 use crate::copier::{Copier, CopyTable};
+use crate::pass::{pass_table, pass_table_at};
 use crate::read::{KeptTable, ReadTable, ReadTableAt};
 use crate::reader::Reader;
 use crate::timed::ReadCodecAt;
@@ -62,6 +63,10 @@ impl<T: ReadTable + CopyTable> ReadCodec<T> for AsTable {
         let value = T::read(&mut from);
         from.end(value)
     }
+
+    fn pass<N: Node>(alloc: Global, node: &N, out: &mut Writer) -> Result<(), TreeError> {
+        pass_table::<T, N>(alloc, node, out)
+    }
 }
 
 impl<T: ReadTableAt + CopyTable> ReadCodecAt<T> for AsTable {
@@ -79,6 +84,16 @@ impl<T: ReadTableAt + CopyTable> ReadCodecAt<T> for AsTable {
             None => Ok(value),
             Some(error) => Err(error),
         }
+    }
+
+    fn pass<N: Node, R: Rng>(
+        alloc: Global,
+        node: &N,
+        now: Moment,
+        ids: &mut R,
+        out: &mut Writer,
+    ) -> Result<(), TreeError> {
+        pass_table_at::<T, N, R>(alloc, node, now, ids, out)
     }
 }
 

@@ -21,7 +21,7 @@ use std::alloc::{AllocError, Global};
 // Reads a required member; `Misfit` if absent.
 #[tactic(auto, using(crate::proofs::RowLemmas::must_missing, crate::proofs::RowLemmas::must_read))]
 #[inline(always)]
-pub(crate) fn required_as<F: ReadCodec<T>, T, N: Node>(
+pub(crate) fn required_as<F: ReadCodec<T>, T: Drop, N: Node>(
     alloc: Global,
     object: &Object<'_, N>,
     key: &str,
@@ -34,7 +34,7 @@ pub(crate) fn required_as<F: ReadCodec<T>, T, N: Node>(
 // Reads an optional member that rejects null; `None` if absent.
 #[tactic(auto, using(crate::proofs::RowLemmas::may_strict_absent, crate::proofs::RowLemmas::may_strict_shown, crate::proofs::RowLemmas::may_strict_fails))]
 #[inline(always)]
-pub(crate) fn optional_strict_as<F: ReadCodec<T>, T, N: Node>(
+pub(crate) fn optional_strict_as<F: ReadCodec<T>, T: Drop, N: Node>(
     alloc: Global,
     object: &Object<'_, N>,
     key: &str,
@@ -67,7 +67,7 @@ pub(crate) fn text_or<N: Node>(
 }
 
 /// A codec whose default value takes an allocation.
-pub trait MadeCodec<T>: ReadCodec<T> + DefaultedCodec<T> {
+pub trait MadeCodec<T: Drop>: ReadCodec<T> + DefaultedCodec<T> {
     /// Returns the default value.
     ///
     /// # Errors
@@ -80,7 +80,7 @@ pub trait MadeCodec<T>: ReadCodec<T> + DefaultedCodec<T> {
 // Reads a member; the default of the codec `F` if absent.
 #[tactic(auto, using(crate::proofs::RowLemmas::default_absent, crate::proofs::RowLemmas::default_read))]
 #[inline(always)]
-pub(crate) fn made_as<F: MadeCodec<T>, T, N: Node>(
+pub(crate) fn made_as<F: MadeCodec<T>, T: Drop, N: Node>(
     alloc: Global,
     object: &Object<'_, N>,
     key: &str,

@@ -5,11 +5,12 @@ ghost use Rattle.serde_json.specs.View.{view};
 ghost use Rattle.sentry_tables.specs.Kind.{at_once, list as list_kind, values as values_kind};
 ghost use Rattle.sentry_tables.specs.Cells.{list_cell};
 ghost use Rattle.sentry_tables.specs.Reading.{ReadsAt, ReadsRowAt};
+ghost use Rattle.sentry_tables.specs.Passed.{PassesAt};
 ghost use Rattle.sentry_moments.specs.Moments.{moment_cell};
 ghost use Rattle.sentry_json.specs.Nodes.{object_data};
 
 use rand_core::Rng;
-use sentry_json::{Node, Object};
+use sentry_json::{Node, Object, Writer};
 use sentry_moments::Moment;
 use sentry_tables::{AsBoxed, Codec, Formed, Member, Own, ReadCodec, TreeError};
 use sentry_writing::values::{AsValues, Values};
@@ -32,6 +33,29 @@ pub trait FromTreeAt: Member {
     ) -> Result<Self, TreeError>
         ensures { ReadsAt (moment_cell now) Self.kind Self.cell_of (N.data_of node.now) result };
 
+    /// Writes the value that the tree at a node shows as JSON text; what can be is written as it is
+    /// read, and no value made of it.
+    ///
+    /// The contract covers values whose tree has no float.
+    ///
+    /// # Errors
+    ///
+    /// Those of [`from_node`](FromTreeAt::from_node); part of the text may have been written.
+    #[tactic(auto, using(sentry_tables::proofs::Passing::value_passed_at))]
+    fn pass<N: Node, R: Rng>(
+        alloc: Global,
+        node: &N,
+        now: Moment,
+        ids: &mut R,
+        out: &mut Writer,
+    ) -> Result<(), TreeError>
+        ensures { PassesAt (moment_cell now) Self.kind (N.data_of node.now) result out.old out.new }
+    {
+        let value = Self::from_node(alloc, node, now, ids)?;
+        value.write(out)?;
+        Ok(())
+    }
+
     /// Reads a value from a JSON tree; `now` fills absent timestamps, `ids` absent ids.
     ///
     /// # Errors
@@ -51,7 +75,7 @@ pub trait FromTreeAt: Member {
 }
 
 /// A codec that reads at a moment, with a generator of ids.
-pub trait ReadCodecAt<T>: Codec<T> {
+pub trait ReadCodecAt<T: Drop>: Codec<T> {
     /// Reads a value from a node of a JSON tree; `now` fills absent timestamps, `ids` absent ids.
     ///
     /// # Errors
@@ -65,6 +89,29 @@ pub trait ReadCodecAt<T>: Codec<T> {
         ids: &mut R,
     ) -> Result<T, TreeError>
         ensures { ReadsAt (moment_cell now) Self.kind Self.cell_of (N.data_of node.now) result };
+
+    /// Writes the value that the tree at a node shows as JSON text; what can be is written as it is
+    /// read, and no value made of it.
+    ///
+    /// The contract covers values whose tree has no float.
+    ///
+    /// # Errors
+    ///
+    /// Those of [`from_node`](ReadCodecAt::from_node); part of the text may have been written.
+    #[tactic(auto, using(sentry_tables::proofs::Passing::value_passed_at))]
+    fn pass<N: Node, R: Rng>(
+        alloc: Global,
+        node: &N,
+        now: Moment,
+        ids: &mut R,
+        out: &mut Writer,
+    ) -> Result<(), TreeError>
+        ensures { PassesAt (moment_cell now) Self.kind (N.data_of node.now) result out.old out.new }
+    {
+        let value = Self::from_node(alloc, node, now, ids)?;
+        Self::write(&value, out)?;
+        Ok(())
+    }
 }
 
 impl<T: FromTreeAt> ReadCodecAt<T> for Own {
@@ -75,6 +122,16 @@ impl<T: FromTreeAt> ReadCodecAt<T> for Own {
         ids: &mut R,
     ) -> Result<T, TreeError> {
         T::from_node(alloc, node, now, ids)
+    }
+
+    fn pass<N: Node, R: Rng>(
+        alloc: Global,
+        node: &N,
+        now: Moment,
+        ids: &mut R,
+        out: &mut Writer,
+    ) -> Result<(), TreeError> {
+        T::pass(alloc, node, now, ids, out)
     }
 }
 
@@ -87,6 +144,16 @@ impl<T: FromTreeAt> ReadCodecAt<Box<T>> for AsBoxed {
         ids: &mut R,
     ) -> Result<Box<T>, TreeError> {
         Ok(Box::new(alloc, T::from_node(alloc, node, now, ids)?)?)
+    }
+
+    fn pass<N: Node, R: Rng>(
+        alloc: Global,
+        node: &N,
+        now: Moment,
+        ids: &mut R,
+        out: &mut Writer,
+    ) -> Result<(), TreeError> {
+        T::pass(alloc, node, now, ids, out)
     }
 }
 
@@ -101,6 +168,16 @@ where
         ids: &mut R,
     ) -> Result<T, TreeError> {
         <T::Form as ReadCodecAt<T>>::from_node(alloc, node, now, ids)
+    }
+
+    fn pass<N: Node, R: Rng>(
+        alloc: Global,
+        node: &N,
+        now: Moment,
+        ids: &mut R,
+        out: &mut Writer,
+    ) -> Result<(), TreeError> {
+        <T::Form as ReadCodecAt<T>>::pass(alloc, node, now, ids, out)
     }
 }
 

@@ -3,6 +3,7 @@ pub mod Proper
 pub mod Basic
 pub mod Nulls
 pub mod Normal
+pub mod Passing
 pub mod Back
 pub mod Shown
 pub mod Sound

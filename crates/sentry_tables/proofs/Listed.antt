@@ -22,7 +22,7 @@ visited values K f first (d ∷ ds) last (next, (v, added, shown), more) =
     (v ∷ rest.0, rest.1 ∙ ap (λ xs. xs ++ rest.0) added ∙ append_assoc (values first) (v ∷ []) rest.0, λ now. (shown_when now K d (f v) shown, rest.2 now))
 
 -- an object of one member has it
-one_member : (key : List _) (d : Data) → get key (object (member key d no_members)) ≡ Some d
+pub one_member : (key : List _) (d : Data) → get key (object (member key d no_members)) ≡ Some d
 one_member key d = get_member-put key d no_members
 
 pub list_shown : {S A : Type 0} (values : S → List A) (K : Kind) (f : A → Cell) (key line : List _) (first last : S) → values first ≡ []

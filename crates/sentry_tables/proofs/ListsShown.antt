@@ -39,7 +39,7 @@ each_refuses w P (u ∷ us) i v no_cells lt refused h = h
 each_refuses w P (u ∷ us) zero v (cell c cs) lt refused h = refused c h.0
 each_refuses w P (u ∷ us) (suc i) v (cell c cs) lt refused h = each_refuses w P us i v cs (omega arith) refused h.1
 
-sequence_refused : (Q : Cells → Type 0) (c : Cell) → ((cs : Cells) → Q cs → ⊥) → IsSequence Q c → ⊥
+pub sequence_refused : (Q : Cells → Type 0) (c : Cell) → ((cs : Cells) → Q cs → ⊥) → IsSequence Q c → ⊥
 sequence_refused Q (sequence cs) f h = f cs h
 sequence_refused Q _ f h = h
 

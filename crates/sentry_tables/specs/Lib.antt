@@ -15,6 +15,7 @@ pub mod Cells
 pub mod Continued
 pub mod Kinds
 pub mod Made
+pub mod Passed
 pub mod Reading
 pub mod Spelling
 pub mod Writes

@@ -42,6 +42,10 @@ impl<T: FromTree> ReadCodec<Box<T>> for AsBoxed {
     fn from_node<N: Node>(alloc: Global, node: &N) -> Result<Box<T>, TreeError> {
         Ok(Box::new(alloc, T::from_node(alloc, node)?)?)
     }
+
+    fn pass<N: Node>(alloc: Global, node: &N, out: &mut Writer) -> Result<(), TreeError> {
+        T::pass(alloc, node, out)
+    }
 }
 
 impl<T: Member> Formed for Box<T> {

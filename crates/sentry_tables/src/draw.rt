@@ -6,7 +6,7 @@ use crate::read::ReadCodec;
 use rand_core::Rng;
 
 /// A codec of values that are drawn from a generator if absent.
-pub trait Drawn<T>: ReadCodec<T> {
+pub trait Drawn<T: Drop>: ReadCodec<T> {
     // the value may be drawn
     ghost IsDrawn: { Cell → Type 0 };
 

@@ -21,6 +21,7 @@ pub mod leaves;
 pub mod line;
 pub mod lists;
 pub mod member;
+pub mod pass;
 pub mod read;
 pub mod spelled;
 pub mod text;

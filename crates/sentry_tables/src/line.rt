@@ -1,6 +1,6 @@
 //! Reading of values from lines of JSON.
 
-ghost use Rattle.std.specs.Prelude.{◌≡◌, ◌↔◌, ◌++◌, ◌∷◌, [], IsTrue, IfOk, IfErr, IfSome, Some, None, false, map, option_map};
+ghost use Rattle.std.specs.Prelude.{◌≡◌, ◌↔◌, ◌++◌, ◌∷◌, ◌+◌, [], IsTrue, IfOk, IfErr, IfSome, Some, None, false, map, option_map};
 ghost use Rattle.serde_json.specs.Data.{Data, no_members, object};
 ghost use Rattle.serde_json.specs.Find.{get};
 ghost use Rattle.serde_json.specs.View.{members_view, view};
@@ -8,19 +8,22 @@ ghost use Rattle.serde_json.specs.Written.{has_float};
 ghost use Rattle.sentry_json.specs.Keys.{at_keys, is_among};
 ghost use Rattle.sentry_json.specs.Line.{tree_of};
 ghost use Rattle.sentry_json.specs.Sound.{IsSound};
-ghost use Rattle.sentry_json.specs.TapeView.{node_data};
+ghost use Rattle.sentry_json.specs.TapeView.{IsParsed, node_data};
 ghost use Rattle.sentry_tables.specs.Cell.{fields, no_cells, cell};
 ghost use Rattle.sentry_tables.specs.Cells.{list_cell};
 ghost use Rattle.sentry_tables.specs.Kind.{list, must, ignored, table, no_rows, row};
+ghost use Rattle.sentry_tables.specs.Passed.{ListPassed, Passed, PassesText};
 ghost use Rattle.sentry_tables.specs.Reading.{Only, LineShows, LineRefused, ReadsText, Shown, Refused, TextShown};
 
 use crate::error::TreeError;
+use crate::pass::leave;
 use crate::read::FromTree;
 use crate::tree::has_float;
 use bumpalo::Bump;
-use sentry_json::{Node, Tape, TapeNode, Visitor};
+use sentry_json::{Node, Parsed, Tape, TapeNode, Visitor, Writer};
 use serde_json::{Map, Value};
 use std::alloc::{AllocError, Global};
+use std::marker::PhantomData;
 
 /// Returns whether no number in a tree, at any depth, is a float.
 pub fn whole(tree: &Value) -> bool
@@ -99,6 +102,18 @@ impl<'a> LineReader<'a> {
         self.alloc
     }
 
+    /// Reads a line onto the tape, in place of the one before, as [`Tape::parse`] does.
+    ///
+    /// # Errors
+    ///
+    /// `AllocError` if an allocation fails.
+    #[inline]
+    pub fn parse(&mut self, line: &'a [u8]) -> Result<Parsed<'_, 'a>, AllocError>
+        ensures { IfOk result (λ read. IsParsed read line.now) }
+    {
+        self.tape.parse(line)
+    }
+
     /// Returns the root node of a line; `None` if it has to be read as a tree, never because an
     /// allocation fails.
     ///
@@ -110,7 +125,10 @@ impl<'a> LineReader<'a> {
         ensures { IfOk result (λ read. IfSome read (λ root.
             tree_of line.now ≡ Some (node_data root))) }
     {
-        self.tape.parse(line)
+        match self.tape.parse(line)? {
+            Parsed::Root(root) => Ok(Some(root)),
+            Parsed::Float | Parsed::Other => Ok(None),
+        }
     }
 
     /// Reads a value from a line with `reader`.
@@ -119,14 +137,15 @@ impl<'a> LineReader<'a> {
     ///
     /// - `Misfit` if [`read_tree`] rejects the line, or the tree is not a value of the type.
     /// - `Memory` if an allocation fails.
-    #[tactic(auto, using(crate::proofs::Texts::line_shows, crate::proofs::Texts::line_refused))]
+    #[tactic(auto, using(crate::proofs::Texts::line_shows, crate::proofs::Texts::line_refused, crate::proofs::Texts::no_line))]
     pub fn read_by<T, R: ReadsNode<T>>(&mut self, line: &'a [u8], reader: R) -> Result<T, TreeError>
         ensures ok { IfOk result (λ value. LineShows (λ d. R.shown reader d value) line.now) }
         ensures err { IfErr result (λ e. Only e (LineRefused (λ d. R.refused reader d) line.now)) }
     {
         match self.tape.parse(line)? {
-            Some(root) => reader.read(self.alloc, &root),
-            None => read_as_tree(self.alloc, line, reader),
+            Parsed::Root(root) => reader.read(self.alloc, &root),
+            Parsed::Float => Err(TreeError::Misfit),
+            Parsed::Other => read_as_tree(self.alloc, line, reader),
         }
     }
 
@@ -204,6 +223,98 @@ impl<'a> LineReader<'a> {
             return Ok(None);
         };
         Ok(Some(visitor.values))
+    }
+}
+
+impl<'a> LineReader<'a> {
+    /// Writes the value that a line shows as JSON text; what can be is written as it is read, and no
+    /// value made of it.
+    ///
+    /// # Errors
+    ///
+    /// As of [`LineReader::read`]; part of the text may have been written.
+    #[tactic(auto, using(crate::proofs::Passing::line_passed))]
+    pub fn pass<T: FromTree>(&mut self, line: &'a [u8], out: &mut Writer) -> Result<(), TreeError>
+        ensures { PassesText T.kind line.now result out.old out.new }
+    {
+        match self.tape.parse(line)? {
+            Parsed::Root(root) => T::pass(self.alloc, &root, out),
+            Parsed::Float => Err(TreeError::Misfit),
+            Parsed::Other => pass_as_tree::<T>(self.alloc, line, out),
+        }
+    }
+
+    /// Writes the values of a line that is an object of one member, an array at `key`, without the
+    /// brackets round them, and returns how many there are. The tape holds one value at a time.
+    ///
+    /// `None` if it isn't such a line, or if one of its items is not a value of the type, never
+    /// because an allocation fails: [`LineReader::pass`] decides then. Part of the text may have been
+    /// written.
+    ///
+    /// # Errors
+    ///
+    /// `AllocError` if an allocation fails.
+    pub fn pass_list<T: FromTree>(
+        &mut self,
+        key: &str,
+        line: &'a [u8],
+        out: &mut Writer,
+    ) -> Result<Option<usize>, AllocError>
+        ensures { IfOk result (λ read. IfSome read (λ count.
+            ListPassed T.kind key.now line.now count out.old out.new)) }
+    {
+        let mut visitor = PassingVisitor::<T> {
+            alloc: self.alloc,
+            out,
+            count: 0,
+            of: PhantomData,
+        };
+        let Some(()) = self.tape.parse_list(line, key, &mut visitor)? else {
+            return Ok(None);
+        };
+        let PassingVisitor { out, count, .. } = visitor;
+        leave(out);
+        Ok(Some(count))
+    }
+}
+
+// Writes the value of any line, which is read as a tree. Not inlined: few lines come here.
+#[cold]
+#[inline(never)]
+#[tactic(auto, using(crate::proofs::Passing::line_passed, crate::proofs::Passing::line_unread))]
+fn pass_as_tree<T: FromTree>(alloc: Global, line: &[u8], out: &mut Writer) -> Result<(), TreeError>
+    ensures { PassesText T.kind line.now result out.old out.new }
+{
+    let tree = read_tree(alloc, line)?;
+    T::pass(alloc, &&tree, out)
+}
+
+// A visitor that writes the values of a list, and counts them.
+#[derive(Drop)]
+struct PassingVisitor<'w, T> {
+    alloc: Global,
+    out: &'w mut Writer,
+    count: usize,
+    of: PhantomData<T>,
+}
+
+impl<'w, T: FromTree> Visitor for PassingVisitor<'w, T> {
+    ghost visits = { λ before d after. (after.count ≡ before.count + 1)
+        × (after.out.ghost_name ≡ before.out.ghost_name)
+        × Passed T.kind d before.out.now after.out.now };
+
+    fn visit<N: Node>(&mut self, node: &N) -> Result<bool, AllocError> {
+        let Some(count) = self.count.checked_add(1) else {
+            return Err(AllocError);
+        };
+        match T::pass(self.alloc, node, &mut *self.out) {
+            Ok(()) => {
+                self.count = count;
+                Ok(true)
+            }
+            Err(TreeError::Misfit) => Ok(false),
+            Err(TreeError::Memory) => Err(AllocError),
+        }
     }
 }
 

@@ -8,14 +8,17 @@ ghost use Rattle.sentry_json.specs.Nodes.{items_data, named_by};
 ghost use Rattle.sentry_tables.specs.Basic.{signed_at, pair_of};
 ghost use Rattle.sentry_tables.specs.Cell.{Cell, whole};
 ghost use Rattle.sentry_tables.specs.Kind.{map as map_kind, values as values_kind};
+ghost use Rattle.sentry_tables.specs.Kinds.{text_kind};
 ghost use Rattle.sentry_tables.specs.Cells.{pair_cell, list_cell, map_cell, entries};
+ghost use Rattle.sentry_tables.specs.Passed.{Passes};
 ghost use Rattle.sentry_tables.specs.Reading.{Only, Reads};
 ghost use Rattle.sentry_tables.specs.Shows.{Shows, MembersShow};
 
 use crate::codec::{Codec, Own};
 use crate::error::TreeError;
 use crate::member::{Formed, Member};
-use sentry_json::{Named, Node};
+use crate::pass::{pass_items, pass_members, pass_text};
+use sentry_json::{Named, Node, Writer};
 use serde_json::{Map, Value};
 use std::alloc::Global;
 use std::borrow::CowStr;
@@ -32,6 +35,23 @@ pub trait FromTree: Member {
     fn from_node<N: Node>(alloc: Global, node: &N) -> Result<Self, TreeError>
         ensures { Reads Self.kind Self.cell_of (N.data_of node.now) result };
 
+    /// Writes the value that the tree at a node shows as JSON text; what can be is written as it is
+    /// read, and no value made of it.
+    ///
+    /// The contract covers values whose tree has no float.
+    ///
+    /// # Errors
+    ///
+    /// Those of [`from_node`](FromTree::from_node); part of the text may have been written.
+    #[tactic(auto, using(crate::proofs::Passing::value_passed))]
+    fn pass<N: Node>(alloc: Global, node: &N, out: &mut Writer) -> Result<(), TreeError>
+        ensures { Passes Self.kind (N.data_of node.now) result out.old out.new }
+    {
+        let value = Self::from_node(alloc, node)?;
+        value.write(out)?;
+        Ok(())
+    }
+
     /// Reads a value from a JSON tree.
     ///
     /// # Errors
@@ -46,7 +66,7 @@ pub trait FromTree: Member {
 }
 
 /// A codec whose values are read from JSON trees, without the caller's `now` or a generator of ids.
-pub trait ReadCodec<T>: Codec<T> {
+pub trait ReadCodec<T: Drop>: Codec<T> {
     /// Reads a value from the tree at a node.
     ///
     /// # Errors
@@ -55,11 +75,32 @@ pub trait ReadCodec<T>: Codec<T> {
     /// - `Memory` if an allocation fails.
     fn from_node<N: Node>(alloc: Global, node: &N) -> Result<T, TreeError>
         ensures { Reads Self.kind Self.cell_of (N.data_of node.now) result };
+
+    /// Writes the value that the tree at a node shows as JSON text; what can be is written as it is
+    /// read, and no value made of it.
+    ///
+    /// The contract covers values whose tree has no float.
+    ///
+    /// # Errors
+    ///
+    /// Those of [`from_node`](ReadCodec::from_node); part of the text may have been written.
+    #[tactic(auto, using(crate::proofs::Passing::value_passed))]
+    fn pass<N: Node>(alloc: Global, node: &N, out: &mut Writer) -> Result<(), TreeError>
+        ensures { Passes Self.kind (N.data_of node.now) result out.old out.new }
+    {
+        let value = Self::from_node(alloc, node)?;
+        Self::write(&value, out)?;
+        Ok(())
+    }
 }
 
 impl<T: FromTree> ReadCodec<T> for Own {
     fn from_node<N: Node>(alloc: Global, node: &N) -> Result<T, TreeError> {
         T::from_node(alloc, node)
+    }
+
+    fn pass<N: Node>(alloc: Global, node: &N, out: &mut Writer) -> Result<(), TreeError> {
+        T::pass(alloc, node, out)
     }
 }
 
@@ -70,6 +111,10 @@ where
     fn from_node<N: Node>(alloc: Global, node: &N) -> Result<T, TreeError> {
         <T::Form as ReadCodec<T>>::from_node(alloc, node)
     }
+
+    fn pass<N: Node>(alloc: Global, node: &N, out: &mut Writer) -> Result<(), TreeError> {
+        <T::Form as ReadCodec<T>>::pass(alloc, node, out)
+    }
 }
 
 impl FromTree for String {
@@ -78,12 +123,22 @@ impl FromTree for String {
         let text = node.as_str().ok_or(TreeError::Misfit)?;
         Ok(String::from_str(alloc, text)?)
     }
+
+    fn pass<N: Node>(_alloc: Global, node: &N, out: &mut Writer) -> Result<(), TreeError> {
+        pass_text(node, out)
+    }
 }
 
 impl<'a> FromTree for CowStr<'a> {
     #[tactic(auto, using(crate::proofs::ScalarsShown::text_refused, crate::proofs::ScalarsShown::text_shown))]
     fn from_node<N: Node>(alloc: Global, node: &N) -> Result<CowStr<'a>, TreeError> {
         Ok(CowStr::Owned(String::from_node(alloc, node)?))
+    }
+
+    fn pass<N: Node>(_alloc: Global, node: &N, out: &mut Writer) -> Result<(), TreeError>
+        ensures { Passes text_kind (N.data_of node.now) result out.old out.new }
+    {
+        pass_text(node, out)
     }
 }
 
@@ -157,14 +212,28 @@ impl<T: FromTree> FromTree for Vec<T> {
         }
         Ok(list)
     }
+
+    #[tactic(auto, using(crate::proofs::ListsShown::not_array, crate::proofs::Passing::list_passed, crate::proofs::Passing::list_refused))]
+    fn pass<N: Node>(alloc: Global, node: &N, out: &mut Writer) -> Result<(), TreeError> {
+        let items = node.items(alloc)?.ok_or(TreeError::Misfit)?;
+        out.begin_array()?;
+        pass_items::<T, N>(alloc, &items, out)?;
+        out.end_array()?;
+        Ok(())
+    }
 }
 
 // So many members make a map at once: fewer are inserted one by one, which costs less then.
 const MANY: usize = 16;
 
-// Returns the members of an object.
+/// Returns the members of an object.
+///
+/// # Errors
+///
+/// - `Misfit` if the node is no object.
+/// - `Memory` if an allocation fails.
 #[inline(always)]
-fn members_of<'n, N: Node>(alloc: Global, node: &'n N) -> Result<Vec<Named<'n, N>>, TreeError>
+pub fn members_of<'n, N: Node>(alloc: Global, node: &'n N) -> Result<Vec<Named<'n, N>>, TreeError>
     ensures ok { IfOk result (λ members.
         as_object (N.data_of node.now) ≡ Some (named_by N.data_of members.items)) }
     ensures err { IfErr result (λ e. Only e (as_object (N.data_of node.now) ≡ None)) }
@@ -232,6 +301,15 @@ impl<T: FromTree> FromTree for Map<String, T> {
             Err(TreeError::Misfit) => read_each(alloc, &members_of(alloc, node)?),
             Err(TreeError::Memory) => Err(TreeError::Memory),
         }
+    }
+
+    #[tactic(auto, using(crate::proofs::ListsShown::no_map_fails, crate::proofs::Passing::map_passed, crate::proofs::Passing::map_refused))]
+    fn pass<N: Node>(alloc: Global, node: &N, out: &mut Writer) -> Result<(), TreeError> {
+        let members = members_of(alloc, node)?;
+        out.begin_object()?;
+        pass_members::<T, N>(alloc, &members, out)?;
+        out.end_object()?;
+        Ok(())
     }
 }
 

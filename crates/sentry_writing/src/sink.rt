@@ -150,7 +150,7 @@ pub trait Sink {
     /// Adds a member that is drawn if absent when read, and is always written, with the codec `F`.
     #[tactic(auto, unfolding(crate::specs::Given::row_given, crate::specs::Given::GivesRow))]
     #[inline(always)]
-    final fn drawn_as<F: Drawn<T>, T>(&mut self, key: &str, value: &T)
+    final fn drawn_as<F: Drawn<T>, T: Drop>(&mut self, key: &str, value: &T)
         ensures { GivesRow Adds Tests key.now (draw F.IsDrawn) F.kind
             (F.cell_of value.now) self.old self.new }
     {

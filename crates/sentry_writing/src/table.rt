@@ -15,6 +15,7 @@ use crate::sink::Sink;
 use crate::text::TextRows;
 use crate::tree::TreeRows;
 use sentry_json::Writer;
+pub use sentry_tables::pass::leave;
 use serde_json::Value;
 use std::alloc::{AllocError, Global};
 
@@ -36,11 +37,6 @@ pub trait Table: Sized + Drop {
 
     ghost ordered: { in_order (keys (rows_of lines)) ≡ true };
 }
-
-/// Ends a mutable borrow; the borrowed value is unchanged.
-pub fn leave<S>(_sink: &mut S)
-    ensures { _sink.new ≡ _sink.old }
-{}
 
 /// Returns the object of a value's rows and the members of `rows`.
 ///

@@ -1,6 +1,6 @@
 //! Lines that are a flat object, as most item headers are: keys are looked up without a tape.
 
-ghost use Rattle.std.specs.Prelude.{◌≡◌, ◌<◌, [], ◌∷◌, true, None, IfSome, List, Some, length, map, option_map};
+ghost use Rattle.std.specs.Prelude.{◌≡◌, ◌<◌, [], ◌∷◌, true, None, IfSome, List, Some, length, map, option_map, false};
 ghost use Rattle.serde_json.specs.Data.{Data, Members, no_members, put};
 ghost use Rattle.serde_json.specs.Find as find;
 ghost use Rattle.sentry_json.specs.Keys.{are_distinct};
@@ -102,7 +102,7 @@ const LONGEST: usize = 1024;
 #[inline(always)]
 fn split_scalar<'a>(text: Rest<'a>) -> Option<(Scalar<'a>, Rest<'a>)>
     ensures spelled { IfSome result (λ x.
-        Spells text.entry.text.now x.1.text.now (token_of x.0) [] 0) }
+        Spells false text.entry.text.now x.1.text.now (token_of x.0) [] 0) }
     ensures shorter { IfSome result (λ x. length x.1.text.now < length text.entry.text.now) }
 {
     if let Some((string, rest)) = text.split_plain() {
@@ -136,7 +136,7 @@ fn look_up_inside<'a>(
     requires distinct { are_distinct (map (λ key. key.now) keys.now) ≡ true }
     requires empty { map (option_map scalar_data) places.old ≡ map (λ key. None) keys.now }
     ensures { IfSome result (λ rest. (all : List Token)
-        × Spells (123 ∷ inside.entry.text.now) rest.text.now (token.Object (length all)) all 127
+        × Spells false (123 ∷ inside.entry.text.now) rest.text.now (token.Object (length all)) all 127
         × (map (option_map scalar_data) places.new
         ≡ map (λ key. find.get_member key.now (members_of all no_members)) keys.now)) }
 {

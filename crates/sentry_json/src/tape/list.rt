@@ -1,6 +1,6 @@
 //! Lines that are an object of one member, an array, whose items are read one by one.
 
-ghost use Rattle.std.specs.Prelude.{◌≡◌, ◌∷◌, IfOk, IfSome, IsTrue, List, length};
+ghost use Rattle.std.specs.Prelude.{◌≡◌, ◌∷◌, IfOk, IfSome, IsTrue, List, length, false};
 ghost use Rattle.serde_json.specs.Data.{Data};
 ghost use Rattle.sentry_json.specs.Lists.{VisitsAll, VisitsLine};
 ghost use Rattle.sentry_json.specs.Nodes.{items_data};
@@ -88,7 +88,7 @@ impl<'a> Tape<'a> {
     fn visit_items<T: Visitor>(&mut self, inside: Rest<'a>, visitor: &mut T) -> Option<Rest<'a>>
         ensures { IfSome result (λ rest. (all : List Token) × (items : List Data)
             × (items_of all ≡ items_data (λ d. d) items)
-            × Spells (91 ∷ inside.entry.text.now) rest.text.now (token.Array (length all)) all 126
+            × Spells false (91 ∷ inside.entry.text.now) rest.text.now (token.Array (length all)) all 126
             × VisitsAll T.visits visitor.old items visitor.new) }
     {
         if let Some(rest) = inside.after_spaced(b']') {
@@ -97,7 +97,7 @@ impl<'a> Tape<'a> {
         let mut left = inside.skip_space();
         loop {
             self.tokens.clear();
-            let rest = self.take_value::<true>(left, false, ITEM_DEEPEST)?;
+            let rest = self.take_value::<true, false>(left, false, ITEM_DEEPEST)?;
             let Ok(accepted) = visitor.visit(&TapeNode::new(&self.tokens)) else {
                 return self.requests.refuse();
             };

@@ -103,14 +103,14 @@ impl<'a> Tape<'a> {
         ensures spelled { IfSome result (λ rest. (first : Token) × (inside : List Token)
             × (self.new.tokens.items ≡ self.old.tokens.items ++ kept
             (is_one key.entry.now (map (λ k. k.now) keys.now)) (token.Text key.entry ∷ first ∷ inside))
-            × Spells value.entry.text.now rest.text.now first inside 126) }
+            × Spells false value.entry.text.now rest.text.now first inside 126) }
         ensures shorter { IfSome result (λ rest. length rest.text.now < length value.entry.text.now) }
     {
         if !is_among(keys, key) {
-            return self.take_value::<false>(value, false, MEMBER_DEEPEST);
+            return self.take_value::<false, false>(value, false, MEMBER_DEEPEST);
         }
         self.keep::<true>(Token::Text(key))?;
-        self.take_value::<true>(value, false, MEMBER_DEEPEST)
+        self.take_value::<true, false>(value, false, MEMBER_DEEPEST)
     }
 
     // As `take_member`, of a member that may stand at `apart`: there its value has to be an object,
@@ -129,7 +129,7 @@ impl<'a> Tape<'a> {
         ensures spelled { IfSome result (λ rest. (first : Token) × (inside : List Token)
             × (self.new.tokens.items ≡ self.old.tokens.items ++ kept
             (is_one key.entry.now (map (λ k. k.now) keys.now)) (token.Text key.entry ∷ first ∷ inside))
-            × Spells value.entry.text.now rest.text.now first inside 126
+            × Spells false value.entry.text.now rest.text.now first inside 126
             × (option_map (λ m. object (members_view m.entries)) found.new
             ≡ (if bytes_eq key.entry.now apart.now then Some (value_of first inside)
             else option_map (λ m. object (members_view m.entries)) found.old))) }
@@ -160,7 +160,7 @@ impl<'a> Tape<'a> {
         requires empty { self.old.tokens.items ≡ [] }
         requires beside { is_one apart.now (map (λ k. k.now) keys.now) ≡ false }
         ensures { IfSome result (λ x. (all : List Token) × (left : List Token)
-            × Spells (123 ∷ inside.entry.text.now) x.1.text.now (token.Object (length all)) all 127
+            × Spells false (123 ∷ inside.entry.text.now) x.1.text.now (token.Object (length all)) all 127
             × (self.new.tokens.items ≡ token.Object (length left) ∷ left)
             × (members_of left no_members
             ≡ among (map (λ k. k.now) keys.now) (members_of all no_members))

@@ -55,7 +55,9 @@ impl<'t, 'a> TapeNode<'t, 'a> {
 
 // Splits off the first value.
 #[inline]
-fn split_item<'t, 'a>(tokens: &'t [Token<'a>]) -> Option<(TapeNode<'t, 'a>, &'t [Token<'a>])>
+pub(crate) fn split_item<'t, 'a>(
+    tokens: &'t [Token<'a>],
+) -> Option<(TapeNode<'t, 'a>, &'t [Token<'a>])>
     ensures item { MatchOption result (items_of tokens.now ≡ no_items)
         (λ x. items_of tokens.now ≡ item (node_data x.0) (items_of x.1.now)) }
     ensures member { MatchOption result
@@ -77,7 +79,7 @@ fn split_item<'t, 'a>(tokens: &'t [Token<'a>]) -> Option<(TapeNode<'t, 'a>, &'t 
 
 // Splits off the first member.
 #[inline]
-fn split_member<'t, 'a>(
+pub(crate) fn split_member<'t, 'a>(
     tokens: &'t [Token<'a>],
 ) -> Option<(&'t str, TapeNode<'t, 'a>, &'t [Token<'a>])>
     ensures { MatchOption result ((before : Members) → members_of tokens.now before ≡ before)
@@ -198,6 +200,7 @@ fn grow(node: TapeNode<'_, '_>, alloc: Global) -> Result<Value, AllocError>
         Token::Bool(truth) => Ok(Value::from(*truth)),
         Token::Whole(number) => Ok(Value::from(*number)),
         Token::Negative(number) => Ok(Value::from(*number)),
+        Token::Float(float) => Ok(float.to_value()),
         Token::Text(text) => Value::try_from_str(alloc, text),
         Token::Array(_) => Ok(Value::Array(grow_items(node, alloc)?)),
         Token::Object(_) => Ok(Value::Object(grow_members(node, alloc)?)),

@@ -1,12 +1,14 @@
-//! Integers at the front of a text.
+//! Numbers at the front of a text.
 
-ghost use Rattle.std.specs.Prelude.{◌≡◌, ◌^◌, ◌<◌, ◌≤◌, [], IfSome, neg_ℤ, pos, length};
+ghost use Rattle.std.specs.Prelude.{◌≡◌, ◌^◌, ◌<◌, ◌≤◌, [], IfSome, neg_ℤ, pos, length, false, true};
 ghost use Rattle.sentry_json.specs.Digits.{AreFirst, AreInteger};
 ghost use Rattle.sentry_json.specs.Spelled.{Spells};
 ghost use Rattle.sentry_json.specs.declared.tape.token.Token.TheVariants as token;
 
+use crate::tape::float::{Float, parse_float};
 use crate::tape::rest::Rest;
 use crate::tape::token::Token;
+use json::is_number;
 
 // The number of so many digits always fits 64 bits.
 const ALWAYS: usize = 19;
@@ -63,7 +65,7 @@ fn many_digits(bytes: &[u8]) -> Option<(u64, usize)>
 fn split_digits<'a>(text: Rest<'a>, number: u64, len: usize) -> Option<(u64, Rest<'a>)>
     requires { AreInteger text.text.now number len }
     ensures spelled { IfSome result (λ x.
-        Spells text.entry.text.now x.1.text.now (token.Whole x.0) [] 0) }
+        Spells false text.entry.text.now x.1.text.now (token.Whole x.0) [] 0) }
     ensures shorter { IfSome result (λ x. length x.1.text.now < length text.entry.text.now) }
 {
     let (_, rest) = text.split(len)?;
@@ -74,7 +76,7 @@ fn split_digits<'a>(text: Rest<'a>, number: u64, len: usize) -> Option<(u64, Res
 #[inline(always)]
 pub(crate) fn split_whole<'a>(text: Rest<'a>) -> Option<(u64, Rest<'a>)>
     ensures spelled { IfSome result (λ x.
-        Spells text.entry.text.now x.1.text.now (token.Whole x.0) [] 0) }
+        Spells false text.entry.text.now x.1.text.now (token.Whole x.0) [] 0) }
     ensures shorter { IfSome result (λ x. length x.1.text.now < length text.entry.text.now) }
 {
     let (number, len) = leading_integer(text.bytes())?;
@@ -86,7 +88,7 @@ pub(crate) fn split_whole<'a>(text: Rest<'a>) -> Option<(u64, Rest<'a>)>
 #[inline(never)]
 pub(crate) fn split_many<'a>(text: Rest<'a>) -> Option<(u64, Rest<'a>)>
     ensures spelled { IfSome result (λ x.
-        Spells text.entry.text.now x.1.text.now (token.Whole x.0) [] 0) }
+        Spells false text.entry.text.now x.1.text.now (token.Whole x.0) [] 0) }
     ensures shorter { IfSome result (λ x. length x.1.text.now < length text.entry.text.now) }
 {
     let (number, len) = many_digits(text.bytes())?;
@@ -111,7 +113,7 @@ fn negative(size: u64) -> Option<i64>
 #[cold]
 #[inline(never)]
 pub(crate) fn split_negative<'a>(text: Rest<'a>) -> Option<(Token<'a>, Rest<'a>)>
-    ensures spelled { IfSome result (λ x. Spells text.entry.text.now x.1.text.now x.0 [] 0) }
+    ensures spelled { IfSome result (λ x. Spells false text.entry.text.now x.1.text.now x.0 [] 0) }
     ensures shorter { IfSome result (λ x. length x.1.text.now < length text.entry.text.now) }
 {
     let behind = text.after(b'-')?;
@@ -119,4 +121,40 @@ pub(crate) fn split_negative<'a>(text: Rest<'a>) -> Option<(Token<'a>, Rest<'a>)
     let number = negative(size)?;
     let (_, rest) = behind.split(len)?;
     Some((Token::Negative(number), rest))
+}
+
+// Returns how many bytes that numbers may have stand at the front; `None` if they are few digits alone,
+// or none. Whether they are a number is for the JSON crate to say.
+#[inline(always)]
+fn float_len(bytes: &[u8]) -> Option<usize>
+    ensures { IfSome result (λ len. 0 < len) }
+{
+    let mut len = 0;
+    let mut whole = true;
+    while len < bytes.len()
+        && matches!(bytes[len], b'0'..=b'9' | b'-' | b'+' | b'.' | b'e' | b'E')
+    {
+        whole = whole && bytes[len].is_ascii_digit();
+        len += 1;
+    }
+    if len == 0 || (whole && len <= ALWAYS) {
+        return None;
+    }
+    Some(len)
+}
+
+// Splits off a float.
+#[cold]
+#[inline(never)]
+pub(crate) fn split_float<'a>(text: Rest<'a>) -> Option<(Float, Rest<'a>)>
+    ensures spelled { IfSome result (λ x.
+        Spells true text.entry.text.now x.1.text.now (token.Float x.0) [] 0) }
+    ensures shorter { IfSome result (λ x. length x.1.text.now < length text.entry.text.now) }
+{
+    let len = float_len(text.bytes())?;
+    let (front, rest) = text.split(len)?;
+    if !is_number(front) {
+        return None;
+    }
+    Some((parse_float(front)?, rest))
 }

@@ -1,6 +1,6 @@
 //! Words and rarer integers, at the front of a text.
 
-ghost use Rattle.std.specs.Prelude.{◌<◌, [], IfSome, length};
+ghost use Rattle.std.specs.Prelude.{◌<◌, [], IfSome, length, false};
 ghost use Rattle.sentry_json.specs.Spelled.{Spells};
 
 use crate::tape::number::{split_many, split_negative};
@@ -10,7 +10,7 @@ use crate::tape::token::Token;
 // Splits off a word, an integer with a minus or one of many digits.
 #[inline(always)]
 pub(crate) fn split_rare_scalar<'a>(text: Rest<'a>) -> Option<(Token<'a>, Rest<'a>)>
-    ensures spelled { IfSome result (λ x. Spells text.entry.text.now x.1.text.now x.0 [] 0) }
+    ensures spelled { IfSome result (λ x. Spells false text.entry.text.now x.1.text.now x.0 [] 0) }
     ensures shorter { IfSome result (λ x. length x.1.text.now < length text.entry.text.now) }
 {
     match text.bytes().first()? {

@@ -5,6 +5,8 @@ ghost use Rattle.serde_json.specs.Find as find;
 ghost use Rattle.sentry_json.specs.Sound.{IsRanged};
 ghost use Rattle.sentry_json.specs.Tokens.{text_of, value_of, width};
 
+use crate::tape::float::Float;
+
 /// A token: a value, or the key of a member.
 ///
 /// What is inside an array or an object comes behind it; its number tells how many tokens that are.
@@ -18,6 +20,8 @@ pub enum Token<'a> {
     Whole(u64),
     /// An integer with a minus.
     Negative(i64),
+    /// A float.
+    Float(Float),
     /// A string or a key, which stands in the line; one with escapes there, elsewhere, unescaped.
     Text(&'a str),
     /// An array.

@@ -27,7 +27,7 @@ fn scalar_value(token: Token<'_>) -> Option<Value>
         Token::Bool(truth) => Some(Value::from(truth)),
         Token::Whole(number) => Some(Value::from(number)),
         Token::Negative(number) => Some(Value::from(number)),
-        Token::Text(_) | Token::Array(_) | Token::Object(_) => None,
+        Token::Float(_) | Token::Text(_) | Token::Array(_) | Token::Object(_) => None,
     }
 }
 

@@ -16,7 +16,7 @@ take_inside-returns-in-Some-clause-spelled g t c =
 pub take_inside-loop-next-init : goal.take_inside-loop-next-init
 take_inside-loop-next-init g t c =
     let pushed : c.keep.new.self.tokens.items ≡ c.args.self.now.tokens.items ++ kept (not (g.row.KEPT == 0)) (bracket c.args.object 0 ∷ []) = search rules in
-    ([], pushed, begins c.args.object c.args.text.text.now c.in_ok-depth.depth, omega arith)
+    ([], pushed, begins (not (g.row.FLOATS == 0)) c.args.object c.args.text.text.now c.in_ok-depth.depth, omega arith)
 
 pub take_inside-loop-next-preserved-in-Some-after_space : goal.take_inside-loop-next-preserved-in-Some-after_space
 take_inside-loop-next-preserved-in-Some-after_space g t c =
@@ -27,7 +27,7 @@ take_inside-loop-next-preserved-in-Some-after_space g t c =
     let front = c.skip_space-left.result.text.now in (
       i.0,
       i.1,
-      skipped c.args.object l.key c.args.text.text.now next front i.0 c.in_ok-depth.depth c.skip_space-left.ensures.spaced (skipped c.args.object l.key c.args.text.text.now l.left.text.now next i.0 c.in_ok-depth.depth space.ensures.spaced i.2),
+      skipped (not (g.row.FLOATS == 0)) c.args.object l.key c.args.text.text.now next front i.0 c.in_ok-depth.depth c.skip_space-left.ensures.spaced (skipped (not (g.row.FLOATS == 0)) c.args.object l.key c.args.text.text.now l.left.text.now next i.0 c.in_ok-depth.depth space.ensures.spaced i.2),
       omega (arith, i.3, space.ensures.shorter, c.skip_space-left.ensures.within),
     )
 
@@ -39,7 +39,7 @@ take_inside-loop-next-preserved-then-key g t c =
     let k = c.in_ok-rest.ensures.string c.if-key.true in (
       i.0 ++ k.0 ∷ [],
       k.1 ∙ ap (λ ts. ts ++ kept (not (g.row.KEPT == 0)) (k.0 ∷ [])) i.1 ∙ kept_more (not (g.row.KEPT == 0)) c.args.self.now.tokens.items i.0 (k.0 ∷ []) (bracket c.args.object 0),
-      next_key c.args.object l.key c.args.text.text.now l.left.text.now colon.0 c.in_ok-left.left.text.now i.0 k.0 c.in_ok-depth.depth c.if-key.true i.2 (string_before l.left.text.now c.in_ok-rest.rest.text.now colon.0 k.0 k.2 colon.1) colon.2,
+      next_key (not (g.row.FLOATS == 0)) c.args.object l.key c.args.text.text.now l.left.text.now colon.0 c.in_ok-left.left.text.now i.0 k.0 c.in_ok-depth.depth c.if-key.true i.2 (string_before l.left.text.now c.in_ok-rest.rest.text.now colon.0 k.0 k.2 colon.1) colon.2,
       omega (arith, i.3, c.in_ok-rest.ensures.shorter, c.in_ok-left.ensures.shorter),
     )
 

@@ -11,7 +11,7 @@ returns-in-Some g c = ([], [], items_end, empty false c.args.inside.text.now c.i
 pub loop-rest-init : goal.loop-rest-init
 loop-rest-init g c =
     let inside = c.args.inside.text.now in
-    ([], [], skipped false false inside inside c.skip_space-left.result.text.now [] 125 c.skip_space-left.ensures.spaced (begins false inside 125), λ ts. refl, refl)
+    ([], [], skipped false false false inside inside c.skip_space-left.result.text.now [] 125 c.skip_space-left.ensures.spaced (begins false false inside 125), λ ts. refl, refl)
 
 pub returns-then-not-comma : goal.returns-then-not-comma
 returns-then-not-comma g c =
@@ -54,7 +54,7 @@ loop-rest-preserved g c =
     let done = i.0 ++ (v.0 ∷ v.1) in (
       done,
       i.1 ++ value_of v.0 v.1 ∷ [],
-      skipped false false inside next c.skip_space-left-in-loop-rest.result.text.now done 125 c.skip_space-left-in-loop-rest.ensures.spaced
+      skipped false false false inside next c.skip_space-left-in-loop-rest.result.text.now done 125 c.skip_space-left-in-loop-rest.ensures.spaced
           (next_value false false inside c.loop-rest.left.text.now comma.0 next i.0 v.0 v.1 125 refl i.2 (value_before c.loop-rest.left.text.now rest comma.0 v.0 v.1 125 v.3 comma.1) is_comma),
       means_next i.0 i.1 v.0 v.1 v.3.closed i.3,
       visited_next g.T.Visitor.visits c.args.visitor.now i.1 (value_of v.0 v.1) c.loop-rest.visitor c.visit.new.self i.4 taken,

@@ -7,7 +7,7 @@ use Rattle.sentry_json.proofs.SoFar.{Before}
 use Rattle.sentry_json.proofs.tape.Tape.visit_items.Given as goal
 
 abbrev pub invariant-loop-rest : goal.invariant-loop-rest
-invariant-loop-rest g l = (done : List Token) × (items : List Data) × Before false false l.fn.inside.text.now l.left.text.now done 125 × Mean done items × VisitsAll g.T.Visitor.visits l.fn.visitor items l.visitor
+invariant-loop-rest g l = (done : List Token) × (items : List Data) × Before false false false l.fn.inside.text.now l.left.text.now done 125 × Mean done items × VisitsAll g.T.Visitor.visits l.fn.visitor items l.visitor
 
 abbrev pub decreases-loop-rest : goal.decreases-loop-rest
 decreases-loop-rest g l = length l.left.text.now

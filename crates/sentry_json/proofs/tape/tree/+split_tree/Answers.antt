@@ -27,7 +27,7 @@ split_items-loop-items-init t c =
     let inside = c.args.inside.text.now in
     let space = c.skip_space-left.ensures in
     let none : c.new-items.result.items ≡ [] = c.new-items.ensures.items in
-    ([], [], skipped false false inside inside c.skip_space-left.result.text.now [] c.in_ok-depth.depth space.spaced (begins false inside c.in_ok-depth.depth), λ ts. refl, ap items_view (sym none), space.within)
+    ([], [], skipped false false false inside inside c.skip_space-left.result.text.now [] c.in_ok-depth.depth space.spaced (begins false false inside c.in_ok-depth.depth), λ ts. refl, ap items_view (sym none), space.within)
 
 pub split_items-returns-then-not-comma-clause-spelled : goal.split_items-returns-then-not-comma-clause-spelled
 split_items-returns-then-not-comma-clause-spelled t c =
@@ -63,7 +63,7 @@ split_items-loop-items-preserved t c =
     let pushed : c.push.new.self.items ≡ c.loop-items.items.items ++ c.in_ok-item.item ∷ [] = search rules in (
       done,
       i.1 ++ value_of v.0 v.1 ∷ [],
-      skipped false false inside next space.result.text.now done depth space.ensures.spaced (next_value false false inside left comma.0 next i.0 v.0 v.1 depth refl i.2 (value_before left c.in_ok-item.rest.text.now comma.0 v.0 v.1 depth v.2 comma.1) is_comma),
+      skipped false false false inside next space.result.text.now done depth space.ensures.spaced (next_value false false inside left comma.0 next i.0 v.0 v.1 depth refl i.2 (value_before left c.in_ok-item.rest.text.now comma.0 v.0 v.1 depth v.2 comma.1) is_comma),
       means_next i.0 i.1 v.0 v.1 v.2.closed i.3,
       more_items (λ d. d) i.1 (value_of v.0 v.1) c.loop-items.items.items c.in_ok-item.item i.4 v.3 ∙ ap items_view (sym pushed),
       omega (arith, i.5, c.in_ok-item.ensures.shorter, c.in_ok-comma.ensures.shorter, space.ensures.within),
@@ -137,4 +137,4 @@ split_tree-returns-in-Some-split_whole-clause-spelled t c =
     let n = c.in-Some-split_whole in
     let s = n.ensures.spelled in
     let same : view c.from.result ≡ number (unsigned n.number) = search rules in
-    (token.Whole n.number, [], record { json = s.json; lexed = s.lexed; meant = s.meant; closed = s.closed; shallow = omega (arith, s.shallow) }, value_is (token.Whole n.number) [] ∙ sym same)
+    (token.Whole n.number, [], record { json = s.json; lexed = s.lexed; meant = s.meant; closed = s.closed; shallow = omega (arith, s.shallow); taken = s.taken }, value_is (token.Whole n.number) [] ∙ sym same)

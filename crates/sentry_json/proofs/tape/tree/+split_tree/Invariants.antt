@@ -20,7 +20,7 @@ decreases-split_members l = 2 * l.depth
 -- there are tokens for the items so far
 abbrev pub invariant-split_items-loop-items : goal.invariant-split_items-loop-items
 invariant-split_items-loop-items l =
-    (done : List Token) × (items : List Data) × Before false false l.fn.inside.text.now l.left.text.now done l.depth × Mean done items × (items_data (λ d. d) items ≡ items_view l.items.items) × (length l.left.text.now ≤ length l.fn.inside.text.now)
+    (done : List Token) × (items : List Data) × Before false false false l.fn.inside.text.now l.left.text.now done l.depth × Mean done items × (items_data (λ d. d) items ≡ items_view l.items.items) × (length l.left.text.now ≤ length l.fn.inside.text.now)
 
 abbrev pub decreases-split_items-loop-items : goal.decreases-split_items-loop-items
 decreases-split_items-loop-items l = length l.left.text.now

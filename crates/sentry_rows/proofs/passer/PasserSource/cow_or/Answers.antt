@@ -1,0 +1,6 @@
+use Rattle.std.proofs.Common.{refl}
+use Rattle.sentry_rows.proofs.Passing.{row_kept}
+use Rattle.sentry_rows.proofs.passer.PasserSource.cow_or.Goals as goal
+
+pub returns : goal.returns
+returns g c = row_kept g.N.Node.data_of _ _ _ _ _ _ _ _ c.pass_text_or-passed.ensures refl c.keep.ensures
