@@ -3,6 +3,7 @@ use Rattle.std.proofs.Common.{◌≡◌, ◌<◌, ◌^◌, ℕ, zero, suc, List,
 use Rattle.serde_json.specs.Data.{number, unsigned, string, object, no_members, member}
 use Rattle.serde_json.specs.Written.{compact_text}
 use Rattle.sentry_json.proofs.Pieces.{compact_clean}
+use Rattle.sentry_tables.specs.Passed.{count}
 use Rattle.sentry_tables.specs.Cell.{Cell, Cells, no_cells, cell}
 use Rattle.sentry_tables.specs.Kind.{Kind, must, list, no_rows, row}
 use Rattle.sentry_tables.specs.Norm.{norm, rows_norm, cells_of, each_cell}
@@ -15,7 +16,7 @@ use Rattle.sentry_framing.specs.ItemHeader.{place_of, Header, read_header}
 use Rattle.sentry_envelope.specs.Profile.{Form, attachment_form, opaque_form, json_form, container_form, FormIsLawful}
 use Rattle.sentry_items.specs.Containers.{container_kind}
 use Rattle.sentry_items.specs.Attached.{Attached, short_header, attached_norm, IsAttachedStored}
-use Rattle.sentry_envelope.specs.Envelope.{Content, attached, opaque, value, IsValue, attached_by, ContentShows, count, first_cell, item_count, payload_by, container_header, header_by, content_norm, stored_content, plain_content, readable_content, ContentMeets, stated_by}
+use Rattle.sentry_envelope.specs.Envelope.{Content, attached, opaque, value, IsValue, attached_by, ContentShows, first_cell, item_count, payload_by, container_header, header_by, content_norm, stored_content, plain_content, readable_content, ContentMeets, stated_by}
 use Rattle.sentry_items.proofs.Containers.{container_lawful}
 use Rattle.sentry_envelope.proofs.EnvelopeAttachments.{type_is_text, content_type_is_text, attached_norm_stored, attached_norm_again, attached_norm_written, attached_by_stored, type_back}
 use Rattle.sentry_envelope.proofs.EnvelopeWrittenHeaders.{header_said, short_read, attachment_read, container_read, AreTexts}

@@ -4,6 +4,7 @@ use Rattle.json.specs.Print.{quoted}
 use Rattle.serde_json.specs.Data.{Data, array, object, no_members, member}
 use Rattle.serde_json.specs.Written.{compact_text, items_text as array_text}
 use Rattle.sentry_json.specs.Line.{newline}
+use Rattle.sentry_tables.specs.Passed.{count}
 use Rattle.sentry_tables.specs.Cell.{Cell, sequence, fields, Cells, no_cells, cell}
 use Rattle.sentry_tables.specs.Kind.{Kind}
 use Rattle.sentry_tables.specs.Written.{tree, items_tree}
@@ -11,7 +12,7 @@ use Rattle.sentry_tables.specs.Meets.{IsStored}
 use Rattle.sentry_framing.specs.Framing.{Frame}
 use Rattle.sentry_envelope.specs.Profile.{Form, attachment_form, opaque_form, json_form, container_form, Profile}
 use Rattle.sentry_items.specs.Containers.{container_kind}
-use Rattle.sentry_envelope.specs.Envelope.{Content, value, Item, item, raw, count, item_count, payload_by, frame_by, frame_text, items_text, envelope_text, stored_content, ContentMeets, ItemsMeet, IsEnvelopeStored, stated_by, ItemsAreSized, IsEnvelopeSized}
+use Rattle.sentry_envelope.specs.Envelope.{Content, value, Item, item, raw, item_count, payload_by, frame_by, frame_text, items_text, envelope_text, stored_content, ContentMeets, ItemsMeet, IsEnvelopeStored, stated_by, ItemsAreSized, IsEnvelopeSized}
 use Rattle.sentry_envelope.specs.EnvelopeLaws.{ShortTextsAreSized}
 use Rattle.sentry_envelope.proofs.EnvelopeTypes.{type_met, meets_at, frame_is, stated_is}
 

@@ -25,6 +25,7 @@ pub mod FrameItems
 pub mod EnvelopeLaws
 pub mod OneEnvelope
 pub mod RawEnvelopes
+pub mod Rewriting
 pub mod EnvelopeFill
 pub mod EnvelopeForwarded
 pub mod EnvelopeSample

@@ -6,6 +6,7 @@ use Rattle.serde_json.specs.Data.{Data, Members}
 use Rattle.serde_json.specs.Written.{compact_text, has_float}
 use Rattle.sentry_json.proofs.Sound.{sound_without_float}
 use Rattle.sentry_json.specs.Line.{newline}
+use Rattle.sentry_tables.specs.Passed.{count}
 use Rattle.sentry_tables.specs.Cell.{Cell}
 use Rattle.sentry_tables.specs.Kind.{Kind}
 use Rattle.sentry_tables.specs.Written.{tree}
@@ -34,7 +35,7 @@ use Rattle.sentry_envelope.specs.ItemText.{value_text, AppendsValue}
 use Rattle.sentry_envelope.specs.HeaderFields.{header_kind, fill_id}
 use Rattle.sentry_envelope.specs.Profile.{json_form, container_form, ItemType, Profile, TypesAreLawful}
 use Rattle.sentry_envelope.specs.SentryProfile.{form_of, gives_of, item_types, profile}
-use Rattle.sentry_envelope.specs.Envelope.{Item, item, raw, value, count, container_header, frame_text, frame_of_item, items_text, envelope_text, stored_content, plain_content, ContentDemand, ContentMeetsAt, ItemsMeet}
+use Rattle.sentry_envelope.specs.Envelope.{Item, item, raw, value, container_header, frame_text, frame_of_item, items_text, envelope_text, stored_content, plain_content, ContentDemand, ContentMeetsAt, ItemsMeet}
 use Rattle.sentry_envelope.proofs.EnvelopeTypes.{IsAt, meets_at, frame_is, lawful_at}
 use Rattle.sentry_envelope.proofs.SentryProfile.{profile_lawful, type_at}
 
@@ -65,7 +66,7 @@ module _ (G : ContentDemand) (ts : List ItemType) where
 -- ---- one item
 
 -- what follows from what holds where something was written, holds there
-then_ok : {E : Type 0} (r : Result (Unit {0}) E) (P Q : Type 0) → (P → Q) → OnOk r P → OnOk r Q
+pub then_ok : {E : Type 0} (r : Result (Unit {0}) E) (P Q : Type 0) → (P → Q) → OnOk r P → OnOk r Q
 then_ok (Ok u) P Q f h = f h
 then_ok (Err e) P Q f h = tt
 
@@ -91,7 +92,7 @@ listed_whole word content_type K gives at H fill laws c stored plain =
     sound_without_float (tree (container_kind K) c) ((has_laws (container_kind K) (container_lawful K own.0)).written c (subst (λ X. X) (meets_at at stored_content (value c)) stored) (subst (λ X. X) (meets_at at plain_content (value c)) plain))
 
 -- a container has as many items as values
-count_listed : {A : Type 0} (f : A → Cell) (xs : List A) → count (cells f xs) ≡ length xs
+pub count_listed : {A : Type 0} (f : A → Cell) (xs : List A) → count (cells f xs) ≡ length xs
 count_listed f [] = refl
 count_listed f (x ∷ xs) = ap suc (count_listed f xs)
 

@@ -1,10 +1,11 @@
 -- Structured envelopes: what bytes spell one, its text and its normal form.
-use Rattle.std.specs.Prelude.{◌≡◌, ◌<◌, ◌≤◌, ◌^◌, ℕ, zero, suc, List, [], ◌∷◌, length, Option, Some, None, option_map, unwrap_or, ⊤}
+use Rattle.std.specs.Prelude.{◌≡◌, ◌<◌, ◌≤◌, ◌^◌, ℕ, zero, List, [], ◌∷◌, length, Option, Some, None, option_map, unwrap_or, ⊤}
 use Rattle.serde_json.specs.Data.{object, Members, depth}
 use Rattle.serde_json.specs.Written.{compact_text}
 use Rattle.sentry_tables.specs.Cell.{Cell, absent, Cells, no_cells, cell}
 use Rattle.sentry_tables.specs.Kind.{Kind}
 use Rattle.sentry_tables.specs.Norm.{norm, cells_of}
+use Rattle.sentry_tables.specs.Passed.{count}
 use Rattle.sentry_tables.specs.Written.{tree}
 use Rattle.sentry_tables.specs.Meets.{IsPlain, IsReadable, IsStored}
 use Rattle.sentry_tables.specs.Laws.{TextShows}
@@ -106,10 +107,6 @@ pub record Spells (P : Profile) (bytes : List ℕ) (now : Cell) (e : Envelope) :
   pub items : ItemsStand P now body e.items []
 
 -- ---- the text
-
-abbrev pub count : Cells → ℕ
-count no_cells = zero
-count (cell c cs) = suc (count cs)
 
 abbrev pub first_cell : Cells → Cell
 first_cell no_cells = absent

@@ -12,6 +12,7 @@ pub mod HeaderFields
 pub mod ItemAdded
 pub mod ItemText
 pub mod ItemsLeft
+pub mod NormalText
 pub mod OneEnvelope
 pub mod Profile
 pub mod SentryProfile

@@ -16,8 +16,9 @@ mod payload;
 mod plain;
 mod read;
 mod remake;
+mod rewrite;
 pub mod timed;
-mod write;
+pub mod write;
 
 pub use envelope::{AddRefused, Envelope};
 pub use error::EnvelopeWriteError;
@@ -25,5 +26,6 @@ pub use filter::{EnvelopeFilter, EnvelopeFilterCallbacks};
 pub use headers::EnvelopeHeaders;
 pub use items::{EnvelopeItemIter, IntoItems};
 pub use read::read_item;
+pub use rewrite::normal_text;
 pub use sentry_framing::{EnvelopeError, Frames, ItemFrame};
 pub use sentry_items::counted::{CountedReader, CountedWriter};

@@ -226,7 +226,7 @@ fn add_read<T: Member + Payload>(
 }
 
 // Returns the error of an envelope whose item's payload can't be read.
-fn payload_error(error: TreeError) -> EnvelopeError
+pub(crate) fn payload_error(error: TreeError) -> EnvelopeError
     ensures misfit { error ≡ TreeError.Misfit → result ≡ EnvelopeError.InvalidItemPayload }
     ensures memory { error ≡ TreeError.Memory → result ≡ EnvelopeError.OutOfMemory }
 {

@@ -142,7 +142,7 @@ fn add_recording(
 }
 
 // Makes an attachment. Its strings are moved out of `header`.
-fn attachment(
+pub(crate) fn attachment(
     alloc: Global,
     payload: &[u8],
     header: &mut ItemHeader,

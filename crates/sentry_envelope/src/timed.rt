@@ -1,17 +1,22 @@
 //! Reading of JSON lines that fills absent timestamps and ids.
 
-ghost use Rattle.std.specs.Prelude.{IfOk, IfSome};
+ghost use Rattle.std.specs.Prelude.{◌≡◌, IfOk, IfSome, codes};
+ghost use Rattle.sentry_tables.specs.Cell.{octets};
+ghost use Rattle.sentry_tables.specs.Passed.{PassesTextAt};
 ghost use Rattle.sentry_tables.specs.Reading.{ReadsTextAt, ShownAt, RefusedAt, TextShownAt};
 ghost use Rattle.sentry_moments.specs.Moments.{moment_cell};
+ghost use Rattle.sentry_envelope.specs.NormalText.{PassesValue};
+ghost use Rattle.sentry_envelope.specs.SentryProfile.{held_at};
 
 use bumpalo::Bump;
 use rand_core::Rng;
-use sentry_event::{EXTRA, ReadApart};
-use sentry_json::Node;
+use sentry_event::{EXTRA, Event, ReadApart, Transaction};
+use sentry_json::{Node, Parsed, Writer};
 use sentry_moments::Moment;
 use sentry_rows::FromTreeAt;
-use sentry_tables::{LineReader, ReadsNode, TreeError};
+use sentry_tables::{LineReader, ReadsNode, TreeError, read_tree};
 use std::alloc::{AllocError, Global};
+use uuid::Uuid;
 
 // Reads a node with the current time and a generator of ids.
 #[derive(Drop)]
@@ -88,6 +93,91 @@ pub(crate) fn read_apart_at<'a, T: ReadApart, R: Rng>(
         Some(value) => Ok(value),
         None => read_at(lines, line, now, ids),
     }
+}
+
+// Writes the value that a line shows as JSON text; `now` fills absent timestamps, `ids` absent ids.
+// What can be is written as it is read, and no value made of it.
+//
+// # Errors
+//
+// As of `read_at`; part of the text may have been written.
+#[tactic(auto, using(sentry_tables::proofs::Passing::line_passed_at))]
+pub(crate) fn pass_at<'a, T: FromTreeAt, R: Rng>(
+    lines: &mut LineReader<'a>,
+    line: &'a [u8],
+    now: Moment,
+    ids: &mut R,
+    out: &mut Writer,
+) -> Result<(), TreeError>
+    ensures { PassesTextAt (moment_cell now) T.kind line.now result out.old out.new }
+{
+    let alloc = lines.alloc();
+    match lines.parse(line)? {
+        Parsed::Root(root) => T::pass(alloc, &root, now, ids, out),
+        Parsed::Float => Err(TreeError::Misfit),
+        Parsed::Other => pass_as_tree_at::<T, R>(alloc, line, now, ids, out),
+    }
+}
+
+// The same of any line, which is read as a tree. Not inlined: few lines come here.
+#[cold]
+#[inline(never)]
+#[tactic(auto, using(sentry_tables::proofs::Passing::line_passed_at, sentry_tables::proofs::Passing::line_unread_at))]
+fn pass_as_tree_at<T: FromTreeAt, R: Rng>(
+    alloc: Global,
+    line: &[u8],
+    now: Moment,
+    ids: &mut R,
+    out: &mut Writer,
+) -> Result<(), TreeError>
+    ensures { PassesTextAt (moment_cell now) T.kind line.now result out.old out.new }
+{
+    let tree = read_tree(alloc, line)?;
+    T::pass(alloc, &&tree, now, ids, out)
+}
+
+// A type of values that give their envelope an event id.
+pub(crate) trait Main: ReadApart {
+    // Returns the id of the event or transaction.
+    fn id(&self) -> Uuid
+        ensures { octets result ≡
+            held_at (codes "event_id") Self.kind (Self.cell_of self.now) };
+}
+
+impl<'e> Main for Box<Event<'e>> {
+    #[tactic(auto, unfolding(sentry_event::specs::Events::event_fields))]
+    fn id(&self) -> Uuid {
+        self.as_ref().event_id
+    }
+}
+
+impl<'e> Main for Box<Transaction<'e>> {
+    #[tactic(auto, unfolding(sentry_event::specs::Transactions::transaction_fields))]
+    fn id(&self) -> Uuid {
+        self.as_ref().event_id
+    }
+}
+
+// As `pass_at`, and fills an absent id with that of the value: only then a value is made.
+#[tactic(auto, using(crate::proofs::Rewriting::passes_main))]
+pub(crate) fn pass_main<'a, T: Main, R: Rng>(
+    lines: &mut LineReader<'a>,
+    line: &'a [u8],
+    now: Moment,
+    ids: &mut R,
+    id: &mut Option<Uuid>,
+    out: &mut Writer,
+) -> Result<(), TreeError>
+    ensures { PassesValue (held_at (codes "event_id") T.kind) (moment_cell now) T.kind line.now
+        result id.old id.new out.old out.new }
+{
+    if id.is_some() {
+        return pass_at::<T, R>(lines, line, now, ids, out);
+    }
+    let value: T = read_apart_at(lines, line, now, ids)?;
+    value.write(out)?;
+    *id = Some(value.id());
+    Ok(())
 }
 
 /// Reads a value from a JSON line; `now` fills absent timestamps, `ids` absent ids.

@@ -49,7 +49,7 @@ pub(crate) fn write_envelope<'e>(
     Ok(text)
 }
 
-fn write_headers(headers: &EnvelopeHeaders, out: &mut Vec<u8>) -> Result<(), AllocError>
+pub(crate) fn write_headers(headers: &EnvelopeHeaders, out: &mut Vec<u8>) -> Result<(), AllocError>
     ensures { OnOk result (IsStoredAndPlain header_kind (headers_cell headers.now)
         → out.new.items ≡ out.old.items ++
         compact_text (tree header_kind (headers_cell headers.now))) }
@@ -138,7 +138,7 @@ fn write_value(
 
 // Ends the line of a header, and appends a payload with a line feed. The payload's bytes are moved
 // if they are many.
-fn take_frame(payload: &mut Vec<u8>, text: &mut Text<'_>) -> Result<(), AllocError>
+pub(crate) fn take_frame(payload: &mut Vec<u8>, text: &mut Text<'_>) -> Result<(), AllocError>
     ensures { OnOk result (bytes_of text.new ≡ bytes_of text.old ++
         with_line [] (with_line payload.old.items [])) }
 {
@@ -149,7 +149,7 @@ fn take_frame(payload: &mut Vec<u8>, text: &mut Text<'_>) -> Result<(), AllocErr
 }
 
 // The same; the payload is lent if it is large.
-fn end_frame<'e>(payload: &'e [u8], text: &mut Text<'e>) -> Result<(), AllocError>
+pub(crate) fn end_frame<'e>(payload: &'e [u8], text: &mut Text<'e>) -> Result<(), AllocError>
     ensures { OnOk result (bytes_of text.new ≡ bytes_of text.old ++
         with_line [] (with_line payload.now [])) }
 {

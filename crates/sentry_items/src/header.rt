@@ -2,7 +2,7 @@
 ghost use Rattle.std.specs.Prelude.{◌≡◌, ℕ, List, ◌++◌, OnOk, codes, decimal};
 ghost use Rattle.json.specs.Print.{escape};
 ghost use Rattle.sentry_items.specs.Attached.{attachment_header, short_header};
-ghost use Rattle.sentry_items.specs.Containers.{counted_header};
+ghost use Rattle.sentry_items.specs.Containers.{counted_header, counting_header};
 ghost use Rattle.sentry_items.specs.HeaderText.{header_text, types_text};
 ghost use Rattle.sentry_items.specs.View.{attachment_view};
 
@@ -44,9 +44,32 @@ pub fn write_container_header(
         header_text (counted_header container.now)) }
     ensures kept { (part : List ℕ) × (out.new.items ≡ out.old.items ++ part) }
 {
-    put_text(b"{\"content_type\":\"", container.content_type(), out)?;
-    put_number(b"\",\"item_count\":", container.len(), out)?;
-    put_text(b",\"type\":\"", container.ty(), out)?;
+    write_counted_header(
+        container.content_type(),
+        container.len(),
+        container.ty(),
+        out,
+    )
+}
+
+/// Appends the item header of a container: a media type, how many values it holds, and its type.
+///
+/// # Errors
+///
+/// `AllocError` if an allocation fails; a part of the header may have been appended.
+pub fn write_counted_header(
+    content_type: &str,
+    count: usize,
+    ty: &str,
+    out: &mut Vec<u8>,
+) -> Result<(), AllocError>
+    ensures ok { OnOk result (out.new.items ≡ out.old.items ++
+        header_text (counting_header ty.now content_type.now count)) }
+    ensures kept { (part : List ℕ) × (out.new.items ≡ out.old.items ++ part) }
+{
+    put_text(b"{\"content_type\":\"", content_type, out)?;
+    put_number(b"\",\"item_count\":", count, out)?;
+    put_text(b",\"type\":\"", ty, out)?;
     out.extend_from_slice(b"\"}")
 }
 
@@ -60,13 +83,31 @@ pub fn write_attachment_header(attachment: &Attachment, out: &mut Vec<u8>) -> Re
         header_text (attachment_header (codes "attachment") (attachment_view attachment.now))) }
     ensures kept { (part : List ℕ) × (out.new.items ≡ out.old.items ++ part) }
 {
+    write_attached_header(attachment, &attachment.buffer, out)
+}
+
+/// Appends the item header of an attachment with these contents, in place of its own.
+///
+/// # Errors
+///
+/// `AllocError` if an allocation fails; a part of the header may have been appended.
+pub fn write_attached_header(
+    attachment: &Attachment,
+    contents: &[u8],
+    out: &mut Vec<u8>,
+) -> Result<(), AllocError>
+    ensures ok { OnOk result (out.new.items ≡ out.old.items ++
+        header_text (attachment_header (codes "attachment")
+        (record (attachment_view attachment.now) { buffer = contents.now }))) }
+    ensures kept { (part : List ℕ) × (out.new.items ≡ out.old.items ++ part) }
+{
     put_types(
         attachment.written_type(),
         attachment.written_content_type(),
         out,
     )?;
     write_escaped(attachment.filename.as_bytes(), out)?;
-    put_number(b"\",\"length\":", attachment.buffer.len(), out)?;
+    put_number(b"\",\"length\":", contents.len(), out)?;
     out.extend_from_slice(b",\"type\":\"attachment\"}")
 }
 

@@ -81,6 +81,23 @@ impl<'e> Text<'e> {
         Ok(())
     }
 
+    /// Puts bytes before all others. `AllocError` if an allocation fails.
+    pub fn put_before(&mut self, mut front: Vec<u8>) -> Result<(), AllocError>
+        ensures { OnOk result (bytes_of self.new ≡ front.items ++ bytes_of self.old) }
+    {
+        if self.parts.is_empty() && self.end.len() < LARGE {
+            front.extend_from_slice(&self.end)?;
+            self.end = front;
+            return Ok(());
+        }
+        let part = Part {
+            own: front,
+            lent: &[],
+        };
+        self.parts.insert(0, part)?;
+        Ok(())
+    }
+
     /// Returns how many bytes there are; `None` for 2^64 or more.
     pub fn len(&self) -> Option<usize>
         ensures value { IfSome result (λ len. length (bytes_of self.now) ≡ len) }
