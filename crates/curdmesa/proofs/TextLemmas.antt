@@ -1,23 +1,14 @@
 -- Texts of envelopes that bytes spell.
-use Rattle.std.proofs.Common.{◌≡◌, ℕ, List, ◌∙◌}
+use Rattle.std.proofs.Common.{◌≡◌, ℕ, List}
 use Rattle.std.specs.Option.{IsSomeAnd}
 use Rattle.sentry_tables.specs.Cell.{Cell}
-use Rattle.sentry_envelope.specs.Envelope.{Envelope as Model, Spells, envelope_norm, envelope_text}
+use Rattle.sentry_envelope.specs.Envelope.{Spells}
 use Rattle.sentry_envelope.specs.EnvelopeView.{Held, items as held_items, bytes as held_bytes, header_of, held, structured, structured_by, text_by, text_of}
 use Rattle.sentry_envelope.specs.SentryProfile.{profile}
 use Rattle.sentry_envelope.specs.declared.envelope.Envelope.{Envelope}
 use Rattle.sentry_places.specs.Spliced.{AreInOrder, spliced}
 use Rattle.sentry_places.specs.declared.note.Note.{Note}
-use Rattle.curdmesa.specs.Texts.{IsMendedText, IsNormalText}
-
-pub normal_text : (bytes text : List ℕ) (now : Cell) (envelope : Envelope) → IsSomeAnd (structured envelope) (Spells profile bytes now)
-    → IsSomeAnd (structured envelope) (λ m. envelope_text profile m ≡ envelope_text profile (envelope_norm profile m)) → text ≡ text_of envelope → IsNormalText bytes now text
-normal_text bytes text now envelope spelled rewritten is = go (held envelope) spelled rewritten is
-  where
-    go : (h : Held) → IsSomeAnd (structured_by (header_of envelope) h) (Spells profile bytes now) → IsSomeAnd (structured_by (header_of envelope) h) (λ m. envelope_text profile m ≡ envelope_text profile (envelope_norm profile m))
-        → text ≡ text_by (header_of envelope) h → IsNormalText bytes now text
-    go (held_items is) spelled rewritten same = record { envelope = record { header = header_of envelope; items = is }; spells = spelled; text_is = same; normal = same ∙ rewritten }
-    go (held_bytes b) spelled rewritten same = absurd spelled
+use Rattle.curdmesa.specs.Texts.{IsMendedText}
 
 pub mended_text : (bytes text : List ℕ) (now : Cell) (envelope : Envelope) (notes : List Note) → AreInOrder 0 notes bytes → IsSomeAnd (structured envelope) (Spells profile (spliced 0 notes bytes) now) → text ≡ text_of envelope → IsMendedText bytes now text
 mended_text bytes text now envelope notes in_order spelled is = go (held envelope) spelled is

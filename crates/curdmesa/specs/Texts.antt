@@ -1,17 +1,10 @@
 -- Texts of envelopes that bytes spell.
 use Rattle.std.specs.Prelude.{◌≡◌, ℕ, List}
 use Rattle.sentry_tables.specs.Cell.{Cell}
-use Rattle.sentry_envelope.specs.Envelope.{Envelope, Spells, envelope_norm, envelope_text}
+use Rattle.sentry_envelope.specs.Envelope.{Envelope, Spells, envelope_text}
 use Rattle.sentry_envelope.specs.SentryProfile.{profile}
 use Rattle.sentry_places.specs.Spliced.{AreInOrder, spliced}
 use Rattle.sentry_places.specs.declared.note.Note.{Note}
-
--- the text of an envelope that the bytes spell at the moment, and of its normal form
-pub record IsNormalText (bytes : List ℕ) (now : Cell) (text : List ℕ) : Type 0 where
-  pub envelope : Envelope
-  pub spells : Spells profile bytes now envelope
-  pub text_is : text ≡ envelope_text profile envelope
-  pub normal : text ≡ envelope_text profile (envelope_norm profile envelope)
 
 -- the text of an envelope that the bytes spell at the moment, with what some notes put there
 pub record IsMendedText (bytes : List ℕ) (now : Cell) (text : List ℕ) : Type 0 where

@@ -168,7 +168,7 @@ fn normalize_envelope<'a>(rt: &HostRuntime, options: &Options<'a>) -> Result<u8,
     let mut ids = Pcg32::seed_from_u64(seed_at(time));
     match normalize::normal_form(rt.alloc(), &bytes, moment_after(time), &mut ids) {
         Ok(text) => {
-            print(rt, &text)?;
+            text.send_plain(&mut rt.stdout())?;
             Ok(0)
         }
         Err(error) => Err(Failure::refused(rt.alloc(), path, &bytes, &error)),

@@ -1,14 +1,14 @@
 //! The command `mend`.
 
-ghost use Rattle.std.specs.Prelude.{◌≢◌, IfErr, IfOk};
+ghost use Rattle.std.specs.Prelude.{◌≡◌, ◌≢◌, IfErr, IfOk};
 ghost use Rattle.sentry_moments.specs.Moments.{moment_cell};
+ghost use Rattle.sentry_envelope.specs.EnvelopeView.{text_of};
 ghost use Rattle.sentry_envelope.specs.SentryProfile.{profile};
 ghost use Rattle.sentry_mending.specs.Alone.{Fails};
 ghost use Rattle.curdmesa.specs.Texts.{IsMendedText};
 
-use crate::normalize::text_of;
 use rand_core::Rng;
-use sentry_framing::EnvelopeError;
+use sentry_envelope::{Envelope, EnvelopeError};
 use sentry_mending::{Fault, MendRules, MendedItem, Note, Place, Refusal, Repair, Repairs, mend};
 use sentry_moments::Moment;
 use sentry_show::faults::{where_text, why_text};
@@ -122,6 +122,13 @@ fn lines(alloc: Global, items: &[MendedItem]) -> Result<String, AllocError> {
         }
     }
     Ok(notes)
+}
+
+// Returns the text of an envelope that was parsed. It is plain, so only an allocation can fail.
+fn text_of(alloc: Global, envelope: &Envelope) -> Result<Vec<u8>, AllocError>
+    ensures { IfOk result (λ text. text.items ≡ text_of envelope.now) }
+{
+    envelope.to_vec(alloc).map_err(|_| AllocError)
 }
 
 /// Parses the items that read, repaired where need be, and returns their envelope's text. The moment

@@ -3,31 +3,28 @@ use Rattle.std.proofs.Common.{◌≡◌, ℕ, Bool, true, false, List, Some, ◌
 use Rattle.std.proofs.lemmas.Option.{same_Some}
 use Rattle.std.specs.Option.{IsSomeAnd}
 use Rattle.sentry_tables.specs.Cell.{Cell}
-use Rattle.sentry_envelope.specs.Envelope.{Envelope as Model, Spells, envelope_norm, envelope_text}
+use Rattle.sentry_envelope.specs.Envelope.{Envelope as Model, Spells, envelope_text}
 use Rattle.sentry_envelope.specs.EnvelopeView.{Held, empty, items as held_items, bytes as held_bytes, header_of, item_view, with_item, held, structured, structured_by, text_by, text_of}
+use Rattle.sentry_envelope.specs.NormalText.{IsNormalText}
 use Rattle.sentry_envelope.specs.SentryProfile.{profile}
 use Rattle.sentry_envelope.specs.declared.envelope.Envelope.{Envelope}
 use Rattle.sentry_items.specs.declared.item.EnvelopeItem.TheVariants as items
 use Rattle.sentry_ledger.specs.Held.{Quantities, items_held}
 use Rattle.sentry_reports.specs.declared.report.Report.{Report}
-use Rattle.sentry_c.specs.Envelopes.{IsNormalText, IsSpelled}
+use Rattle.sentry_c.specs.Envelopes.{IsSpelled}
 use Rattle.sentry_c.specs.Sums.{IsReport, IsReportIn, IsReportText}
 
-pub is_spelled : (bytes : List ℕ) (now : Cell) (envelope : Envelope) → IsSomeAnd (structured envelope) (Spells profile bytes now) → IsSpelled bytes now
-is_spelled bytes now envelope spelled = go (held envelope) spelled
+-- bytes that have a normal form are those of an envelope
+pub is_spelled : (bytes text : List ℕ) (now : Cell) → IsNormalText bytes now text → IsSpelled bytes now
+is_spelled bytes text now normal = (normal.envelope, normal.spells)
+
+-- bytes that were read are those of an envelope
+pub is_read : (bytes : List ℕ) (now : Cell) (envelope : Envelope) → IsSomeAnd (structured envelope) (Spells profile bytes now) → IsSpelled bytes now
+is_read bytes now envelope spelled = go (held envelope) spelled
   where
     go : (h : Held) → IsSomeAnd (structured_by (header_of envelope) h) (Spells profile bytes now) → IsSpelled bytes now
     go (held_items is) spelled = (_, spelled)
     go (held_bytes b) spelled = absurd spelled
-
-pub normal_form_is : (bytes text : List ℕ) (now : Cell) (envelope : Envelope) → IsSomeAnd (structured envelope) (Spells profile bytes now)
-    → IsSomeAnd (structured envelope) (λ m. envelope_text profile m ≡ envelope_text profile (envelope_norm profile m)) → text ≡ text_of envelope → IsNormalText bytes now text
-normal_form_is bytes text now envelope spelled rewritten is = go (held envelope) spelled rewritten is
-  where
-    go : (h : Held) → IsSomeAnd (structured_by (header_of envelope) h) (Spells profile bytes now) → IsSomeAnd (structured_by (header_of envelope) h) (λ m. envelope_text profile m ≡ envelope_text profile (envelope_norm profile m))
-        → text ≡ text_by (header_of envelope) h → IsNormalText bytes now text
-    go (held_items is) spelled rewritten same = record { envelope = record { header = header_of envelope; items = is }; spells = spelled; text_is = same; normal = same ∙ rewritten }
-    go (held_bytes b) spelled rewritten same = absurd spelled
 
 -- the text of a structured envelope is that of its model
 pub text_of_model : (envelope : Envelope) (m : Model) → structured envelope ≡ Some m → text_of envelope ≡ envelope_text profile m

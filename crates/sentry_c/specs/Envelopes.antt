@@ -2,7 +2,7 @@
 use Rattle.std.specs.Prelude.{◌≡◌, ℕ, Bool, List, [], ◌∷◌}
 use Rattle.sentry_tables.specs.Cell.{Cell}
 use Rattle.sentry_items.specs.declared.item.EnvelopeItem.{EnvelopeItem}
-use Rattle.sentry_envelope.specs.Envelope.{Envelope as Model, Spells, envelope_norm, envelope_text}
+use Rattle.sentry_envelope.specs.Envelope.{Envelope as Model, Spells, envelope_text}
 use Rattle.sentry_envelope.specs.EnvelopeView.{model}
 use Rattle.sentry_envelope.specs.Filter.{chosen, first_id_of, handed, header_left, kept}
 use Rattle.sentry_envelope.specs.HeaderFields.{put_id}
@@ -13,13 +13,6 @@ use Rattle.sentry_c.specs.Losses.{SumsItemLosses}
 -- some envelope is spelled by the bytes at the moment
 abbrev pub IsSpelled : List ℕ → Cell → Type 0
 IsSpelled bytes now = (envelope : Model) × Spells profile bytes now envelope
-
--- the text of an envelope that the bytes spell at the moment, and of its normal form
-pub record IsNormalText (bytes : List ℕ) (now : Cell) (text : List ℕ) : Type 0 where
-  pub envelope : Model
-  pub spells : Spells profile bytes now envelope
-  pub text_is : text ≡ envelope_text profile envelope
-  pub normal : text ≡ envelope_text profile (envelope_norm profile envelope)
 
 -- what is left, below this header with the id of the first event or transaction that is left
 abbrev pub left_model : Cell → List EnvelopeItem → Model

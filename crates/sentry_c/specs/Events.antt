@@ -4,10 +4,10 @@ use Rattle.json.specs.Print.{print}
 use Rattle.sentry_tables.specs.Cell.{Cell}
 use Rattle.sentry_framing.specs.declared.error.EnvelopeError.{EnvelopeError}
 use Rattle.sentry_envelope.specs.EnvelopeFault.{Fault}
+use Rattle.sentry_envelope.specs.NormalText.{IsNormalText}
 use Rattle.sentry_envelope.specs.SentryProfile.{profile}
 use Rattle.sentry_making.specs.Texts.{event_tokens}
 use Rattle.sentry_making.specs.declared.texts.TextMember.{TextMember}
-use Rattle.sentry_c.specs.Envelopes.{IsNormalText}
 use Rattle.sentry_c.specs.Making.{AreJoined, event_envelope, event_members, pair_of}
 use Rattle.sentry_c.specs.declared.pairs.CurdmesaPair.{CurdmesaPair}
 

@@ -7,22 +7,24 @@ ghost use Rattle.sentry_framing.specs.declared.error.EnvelopeError.TheVariants a
 ghost use Rattle.sentry_tables.specs.Cell.{moment};
 ghost use Rattle.sentry_moments.specs.Moments.{moment_cell};
 ghost use Rattle.sentry_moments.specs.Rfc3339.{IsMomentTime};
-ghost use Rattle.sentry_envelope.specs.Envelope.{Spells, envelope_norm, envelope_text};
+ghost use Rattle.sentry_envelope.specs.Envelope.{Spells};
 ghost use Rattle.sentry_envelope.specs.EnvelopeFault.{Fault};
 ghost use Rattle.sentry_envelope.specs.EnvelopeView.{structured, text_of};
+ghost use Rattle.sentry_envelope.specs.NormalText.{IsNormalText};
 ghost use Rattle.sentry_envelope.specs.SentryProfile.{profile};
 ghost use Rattle.sentry_ledger.specs.LossSums.{no_sums};
-ghost use Rattle.sentry_c.specs.Envelopes.{IsLeft, IsNormalText, IsSpelled, LeavesNothing};
+ghost use Rattle.sentry_c.specs.Envelopes.{IsLeft, IsSpelled, LeavesNothing};
 ghost use Rattle.sentry_c.specs.Output.{IsTooLong, Puts};
 ghost use Rattle.sentry_c.specs.Statuses.{refusal_status};
 
 use crate::filter::{KindFilter, are_kinds};
-use crate::output::deliver_envelope;
+use crate::output::{deliver_envelope, deliver_text};
 use crate::status::{
     INVALID_ARGUMENT, NO_MOMENT, NO_ROOM, NOTHING_LEFT, OK, status_of_envelope_error,
 };
 use rand_core::SeedableRng;
 use rand_pcg::Pcg32;
+use sentry_envelope::normal_text;
 use sentry_ledger::loss_sums::SUMS;
 use sentry_types::protocol::v7::{Envelope, EnvelopeError, Moment};
 use std::alloc::{AllocError, Global};
@@ -30,8 +32,6 @@ use std::alloc::{AllocError, Global};
 fn read(alloc: Global, bytes: &[u8], now: Moment, seed: u64) -> Result<Envelope, EnvelopeError>
     ensures spelled { IfOk result (λ e.
         IsSomeAnd (structured e) (Spells profile bytes.now (moment_cell now))) }
-    ensures rewritten { IfOk result (λ e. IsSomeAnd (structured e) (λ m.
-        envelope_text profile m ≡ envelope_text profile (envelope_norm profile m))) }
     ensures fault { IfErr result (λ x. x ≢ EnvelopeError.OutOfMemory → Fault profile bytes.now x) }
 {
     let mut ids = Pcg32::seed_from_u64(seed);
@@ -63,8 +63,9 @@ pub(crate) fn deliver_normal_form(
     ensures unchanged { result ≢ Ok true → out.new ≡ out.old }
     ensures untold { OnErr result (needed.new ≡ needed.old) }
 {
-    let envelope = read(alloc, bytes, now, seed)?;
-    Ok(deliver_envelope(alloc, &envelope, out, needed)?)
+    let mut ids = Pcg32::seed_from_u64(seed);
+    let text = normal_text(alloc, bytes, now, &mut ids)?;
+    Ok(deliver_text(alloc, &text, out, needed)?)
 }
 
 /// Parses an envelope and writes its normal form to `out`.
@@ -110,13 +111,21 @@ pub extern "C" fn curdmesa_envelope_normalize(
     }
 }
 
-#[tactic(auto, using(crate::proofs::Envelopes::is_spelled))]
+// The values of an envelope of fewer bytes are cheaper to make than its text.
+const SMALL: usize = 1 << 10;
+
+#[tactic(auto, using(crate::proofs::Envelopes::is_spelled, crate::proofs::Envelopes::is_read))]
 fn checked(alloc: Global, bytes: &[u8], now: Moment) -> Result<(), EnvelopeError>
     ensures spelled { OnOk result (IsSpelled bytes.now (moment_cell now)) }
     ensures fault { IfErr result (λ x. x ≢ EnvelopeError.OutOfMemory → Fault profile bytes.now x) }
 {
-    // The ids that are drawn are dropped.
-    read(alloc, bytes, now, 0)?;
+    // The ids that are drawn are dropped, with the envelope or its text.
+    if bytes.len() < SMALL {
+        read(alloc, bytes, now, 0)?;
+        return Ok(());
+    }
+    let mut ids = Pcg32::seed_from_u64(0);
+    normal_text(alloc, bytes, now, &mut ids)?;
     Ok(())
 }
 

@@ -1,10 +1,12 @@
 //! Texts that are written to the caller's memory.
 
 ghost use Rattle.std.specs.Prelude.{◌≡◌, ◌≢◌, ◌<◌, ◌≤◌, ◌++◌, Ok, IfSome, IsFalse, IsTrue, OnErr, length, drop, true, false};
+ghost use Rattle.sentry_items.specs.Texts.{bytes_of};
 ghost use Rattle.sentry_envelope.specs.EnvelopeView.{text_of};
 ghost use Rattle.sentry_forward.specs.View.{joined_parts};
 ghost use Rattle.sentry_c.specs.Output.{IsTooLong, Puts};
 
+use sentry_items::text::Text;
 use sentry_types::protocol::v7::Envelope;
 use std::alloc::{AllocError, Global};
 
@@ -67,13 +69,36 @@ pub fn deliver_parts(parts: &[&[u8]], len: usize, out: &mut [u8], needed: &mut u
     true
 }
 
+/// Writes a text as [`deliver`] does; its pieces aren't joined first.
+///
+/// # Errors
+///
+/// `AllocError` if an allocation fails; nothing was written.
+#[tactic(auto, using(crate::proofs::Pieces::pieces_are_parts))]
+pub fn deliver_text(
+    alloc: Global,
+    text: &Text<'_>,
+    out: &mut [u8],
+    needed: &mut u64,
+) -> Result<bool, AllocError>
+    ensures written { result ≡ Ok true →
+        Puts (λ bytes. bytes ≡ bytes_of text.now) out.old out.new needed.new }
+    ensures no_room { result ≡ Ok false →
+        IsTooLong (λ bytes. bytes ≡ bytes_of text.now) out.old needed.new }
+    ensures unchanged { result ≢ Ok true → out.new ≡ out.old }
+    ensures untold { OnErr result (needed.new ≡ needed.old) }
+{
+    let pieces = text.pieces(alloc)?;
+    let len = parts_len(&pieces).ok_or(AllocError)?;
+    Ok(deliver_parts(&pieces, len, out, needed))
+}
+
 /// Writes the text of an envelope as [`deliver`] does. What was parsed or made of a report is plain,
 /// so that only an allocation can fail.
 ///
 /// # Errors
 ///
 /// `AllocError` if an allocation fails; nothing was written.
-#[tactic(auto, using(crate::proofs::Pieces::pieces_are_parts))]
 pub fn deliver_envelope(
     alloc: Global,
     envelope: &Envelope,
@@ -90,7 +115,6 @@ pub fn deliver_envelope(
     let Ok(text) = envelope.text(alloc) else {
         return Err(AllocError);
     };
-    let pieces = text.pieces(alloc)?;
-    let len = parts_len(&pieces).ok_or(AllocError)?;
-    Ok(deliver_parts(&pieces, len, out, needed))
+    let there_was_room = deliver_text(alloc, &text, out, needed)?;
+    Ok(there_was_room)
 }

@@ -1,5 +1,5 @@
 -- What is left of an envelope, and what is lost, where a filter refuses kinds and sums losses.
-use Rattle.std.proofs.Common.{◌≡◌, ℕ, Bool, true, false, List, [], ◌∷◌, ◌++◌, length, map, ◌==◌, Option, Some, None, refl, ap, ◌∙◌}
+use Rattle.std.proofs.Common.{◌≡◌, ℕ, Bool, true, false, List, [], ◌∷◌, ◌++◌, length, map, Option, Some, None, refl, ap, ◌∙◌}
 use Rattle.std.specs.Option.{IsSomeAnd}
 use Rattle.sentry_tables.specs.Cell.{Cell}
 use Rattle.sentry_items.specs.Losses.{losses_of_items}
@@ -15,7 +15,7 @@ use Rattle.sentry_ledger.specs.LossSums.{no_sums, sum_at}
 use Rattle.sentry_ledger.proofs.SumLemmas.{sums_of_run}
 use Rattle.sentry_env.specs.Listed.{AnswersFor}
 use Rattle.sentry_env.specs.Losing.{AnswersByKind, AddsLosses}
-use Rattle.sentry_env.specs.Run.{IsDue, dues, kept_due, left_due}
+use Rattle.sentry_env.specs.Run.{TakesOut, dues, kept_due, left_due}
 use Rattle.sentry_program.specs.Table.{table_by, table_of}
 use Rattle.sentry_program.proofs.TableLemmas.{table_of_sums}
 use Rattle.sentry_env.specs.declared.ending.Outcome.TheVariants.{Written}
@@ -54,16 +54,15 @@ left_is (Items all) items header envelope (item ∷ rest) (Some left) table is l
     ap (λ (text : List ℕ). dues text table Written) (made_text header (item ∷ rest) left leaves)
 left_is (Raw bytes) items header envelope (item ∷ rest) left table is leaves = cc
 
-pub rest_is_due : (kinds : List ItemKind) (keep_headers : Bool) (envelope : Envelope) (items : List EnvelopeItem) (first last : LossFilter) (left : Option Envelope) (table : List ℕ) → (length kinds == 0) ≡ false
+pub rest_is_due : (kinds : List ItemKind) (keep_headers : Bool) (envelope : Envelope) (items : List EnvelopeItem) (first last : LossFilter) (left : Option Envelope) (table : List ℕ)
     → structured_in envelope.contents ≡ Some items → first.kinds.now ≡ kinds → first.sums.row ≡ no_sums → FiltersEnvelope (header_left keep_headers (header_of envelope)) AnswersByKind AddsLosses envelope first last left
-    → table ≡ table_by (sum_at last.sums) → IsDue kinds keep_headers (header_of envelope) items (left_due left table)
-rest_is_due [] keep_headers envelope items first last left table some has is none filtered shown = absurd (let e : true ≡ false = some in cc)
-rest_is_due (kind ∷ kinds) keep_headers envelope items first last left table some has is none filtered shown =
+    → table ≡ table_by (sum_at last.sums) → TakesOut kinds keep_headers (header_of envelope) items (left_due left table)
+rest_is_due kinds keep_headers envelope items first last left table has is none filtered shown =
     let header = header_left keep_headers (header_of envelope) in
     let filters = rw (asked_structured envelope.contents items has) at filtered.filters in
     record {
       answers = filters.answers;
-      by_kind = answers_by_kind (kind ∷ kinds) items filters.answers (map Hand (orphans (chosen items filters.answers))) first last filters.complete is filters.run;
+      by_kind = answers_by_kind kinds items filters.answers (map Hand (orphans (chosen items filters.answers))) first last filters.complete is filters.run;
       due_is =
           left_is envelope.contents items header envelope filtered.left left table has filtered.leaves
           ∙ ap (kept_due header filtered.left) (shown ∙ table_of_run items filters.answers first last none filters.run)

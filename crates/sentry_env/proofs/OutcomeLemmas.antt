@@ -12,16 +12,17 @@ use Rattle.sentry_items.specs.View.{ItemView, attachment, replay_recording, valu
 use Rattle.sentry_items.specs.declared.item.EnvelopeItem.{EnvelopeItem}
 use Rattle.sentry_items.specs.declared.item.EnvelopeItem.TheVariants as variants
 use Rattle.sentry_items.proofs.SameLosses.{same_losses}
-use Rattle.sentry_envelope.specs.Envelope.{Envelope as Model, Item, item, raw, attached, opaque, value, given_by, envelope_text}
+use Rattle.sentry_envelope.specs.Envelope.{Envelope as Model, Item, item, raw, attached, opaque, value, Spells, given_by, envelope_text}
 use Rattle.sentry_envelope.specs.EnvelopeView.{item_view, model, placed}
 use Rattle.sentry_envelope.specs.Filter.{Hand, asks, chosen, first_id_of, handed, header_left, id_in, id_of, is_main, is_orphan, item_of_hand, kept, orphans}
 use Rattle.sentry_envelope.specs.HeaderFields.{put_id}
+use Rattle.sentry_envelope.specs.OneEnvelope.{NothingDrawnIn}
 use Rattle.sentry_envelope.specs.SentryProfile.{item_types, profile}
 use Rattle.sentry_envelope.proofs.ConservationLemmas.{handed_of_hands}
 use Rattle.sentry_envelope.proofs.OneEnvelope.{one_envelope}
 use Rattle.sentry_envelope.proofs.SentryProfile.{profile_lawful}
 use Rattle.sentry_env.specs.Listed.{AnswersFor, IsOfKinds, kind_of_item}
-use Rattle.sentry_env.specs.Run.{Due, DueIsSettled, IsDue, dues, kept_due}
+use Rattle.sentry_env.specs.Run.{Due, DueIsSettled, IsDueBy, Settings, TakesOut, dues, kept_due}
 use Rattle.sentry_program.specs.Table.{table_of}
 use Rattle.sentry_env.specs.declared.ending.Outcome.TheVariants.{Written}
 use Rattle.sentry_framing.specs.declared.kind.ItemKind.{ItemKind}
@@ -198,23 +199,29 @@ due_alike header (i ∷ items) (j ∷ others) table same =
     ap (λ (h : Cell). dues (envelope_text profile (record { header = h; items = map item_view (i ∷ items) })) table Written) (ap (λ d. put_id d header) id)
     ∙ ap (λ (is : List Item). dues (envelope_text profile (record { header = put_id (first_id_of (j ∷ others)) header; items = is })) table Written) same
 
-same_due : (kinds : List ItemKind) (keep_headers : Bool) (header : Cell) (items others : List EnvelopeItem) (due due' : Due) → Alike items others → IsDue kinds keep_headers header items due → IsDue kinds keep_headers header others due' → due ≡ due'
-same_due [] keep_headers header items others due due' same is is' =
-    is ∙ ap (λ (views : List Item). dues (envelope_text profile (record { header = header; items = views })) [] Written) same ∙ sym is'
-same_due (kind ∷ kinds) keep_headers header items others due due' same is is' =
-    let answers = answers_alike (kind ∷ kinds) items others is.answers is'.answers same is.by_kind is'.by_kind in
+same_due : (kinds : List ItemKind) (keep_headers : Bool) (header : Cell) (items others : List EnvelopeItem) (due due' : Due) → Alike items others → TakesOut kinds keep_headers header items due → TakesOut kinds keep_headers header others due' → due ≡ due'
+same_due kinds keep_headers header items others due due' same is is' =
+    let answers = answers_alike kinds items others is.answers is'.answers same is.by_kind is'.by_kind in
     let left = kept_alike _ _ (chosen_alike items others is'.answers same) in
     let gone = handed_alike items others is'.answers same in
     is.due_is ∙ rw answers (ap (kept_due (header_left keep_headers header) _) (ap table_of (losses_alike _ _ gone)) ∙ due_alike (header_left keep_headers header) _ _ _ left) ∙ sym is'.due_is
 
 one_due : (kinds : List ItemKind) (keep_headers : Bool) (header header' : Cell) (items others : List EnvelopeItem) (due due' : Due) → model header items ≡ model header' others
-    → IsDue kinds keep_headers header items due → IsDue kinds keep_headers header' others due' → due ≡ due'
+    → TakesOut kinds keep_headers header items due → TakesOut kinds keep_headers header' others due' → due ≡ due'
 one_due kinds keep_headers header header' items others due due' same is is' =
     let header_is : header ≡ header' = ap (λ (m : Model). m.header) same in
     let items_are : map item_view items ≡ map item_view others = ap (λ (m : Model). m.items) same in
     same_due kinds keep_headers header items others due due' items_are is (rw header_is is')
 
+module _ (set : Settings) (bytes : List ℕ) (due due' : Due) (drawn : NothingDrawnIn profile bytes) where
+  one_model : (e f : Model) → Spells profile bytes set.now e → Spells profile bytes set.now f → e ≡ f
+  one_model e f spells spells' = one_envelope profile profile_lawful bytes set.now e f drawn spells spells'
+
+  settled : (kinds : List ItemKind) → IsDueBy kinds set due bytes → IsDueBy kinds set due' bytes → due ≡ due'
+  settled [] is is' =
+      is.due_is ∙ ap (λ (m : Model). dues (envelope_text profile m) [] Written) (one_model is.envelope is'.envelope is.spells is'.spells) ∙ sym is'.due_is
+  settled (kind ∷ kinds) is is' =
+      one_due set.kinds set.keep_headers is.header is'.header is.items is'.items due due' (one_model _ _ is.spells is'.spells) is.takes_out is'.takes_out
+
 pub due_is_settled : DueIsSettled
-due_is_settled set bytes due due' drawn is is' =
-    one_due set.kinds set.keep_headers is.header is'.header is.items is'.items due due'
-    (one_envelope profile profile_lawful bytes set.now (model is.header is.items) (model is'.header is'.items) drawn is.spells is'.spells) is.is_due is'.is_due
+due_is_settled set bytes due due' drawn is is' = settled set bytes due due' drawn set.kinds is is'

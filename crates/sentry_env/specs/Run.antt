@@ -3,7 +3,7 @@ use Rattle.std.specs.Prelude.{◌≡◌, ◌⊎◌, ℕ, ◌+◌, Bool, List, []
 use Rattle.sentry_tables.specs.Cell.{Cell}
 use Rattle.sentry_items.specs.Losses.{losses_of_items}
 use Rattle.sentry_items.specs.declared.item.EnvelopeItem.{EnvelopeItem}
-use Rattle.sentry_envelope.specs.Envelope.{Spells, envelope_text}
+use Rattle.sentry_envelope.specs.Envelope.{Envelope as Model, Spells, envelope_text}
 use Rattle.sentry_envelope.specs.EnvelopeFault.{Fault}
 use Rattle.sentry_envelope.specs.EnvelopeView.{IsUnwritable, model, text_of}
 use Rattle.sentry_envelope.specs.Filter.{chosen, kept, handed, first_id_of, header_left}
@@ -44,12 +44,6 @@ pub record TakesOut (kinds : List ItemKind) (keep_headers : Bool) (header : Cell
   pub by_kind : AnswersFor kinds items answers
   pub due_is : due ≡ kept_due (header_left keep_headers header) (kept (chosen items answers)) (table_of (losses_of_items (handed items answers)))
 
--- What is due for an envelope with this header and these items: without kinds its own text, and no
--- table.
-abbrev pub IsDue : List ItemKind → Bool → Cell → List EnvelopeItem → Due → Type 0
-IsDue [] keep_headers header items due = due ≡ dues (envelope_text profile (model header items)) [] Written
-IsDue (kind ∷ kinds) keep_headers header items due = TakesOut (kind ∷ kinds) keep_headers header items due
-
 -- ---- a run
 
 -- The kinds that a run takes out, whether it keeps the header, and the moment at which it reads.
@@ -61,12 +55,26 @@ pub record Settings : Type 0 where
 abbrev pub settings : List ItemKind → Bool → Cell → Settings
 settings kinds keep_headers now = record { kinds = kinds; keep_headers = keep_headers; now = now }
 
--- this is due for an envelope that the bytes spell
-pub record IsDueFor (set : Settings) (due : Due) (bytes : List ℕ) : Type 0 where
+-- without kinds, the text of an envelope that the bytes spell is due, and no table
+pub record IsWholeDue (now : Cell) (due : Due) (bytes : List ℕ) : Type 0 where
+  pub envelope : Model
+  pub spells : Spells profile bytes now envelope
+  pub due_is : due ≡ dues (envelope_text profile envelope) [] Written
+
+-- with kinds, this is due where they are taken out of an envelope that the bytes spell
+pub record IsRestDue (set : Settings) (due : Due) (bytes : List ℕ) : Type 0 where
   pub header : Cell
   pub items : List EnvelopeItem
   pub spells : Spells profile bytes set.now (model header items)
-  pub is_due : IsDue set.kinds set.keep_headers header items due
+  pub takes_out : TakesOut set.kinds set.keep_headers header items due
+
+abbrev pub IsDueBy : List ItemKind → Settings → Due → List ℕ → Type 0
+IsDueBy [] set due bytes = IsWholeDue set.now due bytes
+IsDueBy (kind ∷ kinds) set due bytes = IsRestDue set due bytes
+
+-- this is due for the bytes
+abbrev pub IsDueFor : Settings → Due → List ℕ → Type 0
+IsDueFor set due bytes = IsDueBy set.kinds set due bytes
 
 -- the input is read, and both writers get the whole of what is due for it
 pub record WritesAll (set : Settings) (old new : Streams) (outcome : Outcome) : Type 0 where

@@ -8,7 +8,7 @@ ghost use Rattle.sentry_envelope.specs.EnvelopeView.{header_of, structured};
 ghost use Rattle.sentry_envelope.specs.Filter.{structured_in};
 ghost use Rattle.sentry_envelope.specs.SentryProfile.{profile};
 ghost use Rattle.sentry_moments.specs.Moments.{moment_cell};
-ghost use Rattle.sentry_env.specs.Run.{IsDue, IsWritable, Runs, Sends, left_due, left_outcome, left_text, settings};
+ghost use Rattle.sentry_env.specs.Run.{IsWritable, Runs, Sends, TakesOut, left_due, left_outcome, left_text, settings};
 ghost use Rattle.sentry_env.specs.Streams.{streams, writer_stream};
 
 use crate::Kind;
@@ -16,6 +16,7 @@ use crate::ending::{Outcome, RunError};
 use crate::loss_filter::LossFilter;
 use crate::read_all::read_all;
 use rand_core::Rng;
+use sentry_envelope::normal_text;
 use sentry_items::counted::send;
 use sentry_types::protocol::v7::{
     CountedReader, CountedWriter, Envelope, EnvelopeWriteError, Moment,
@@ -30,7 +31,7 @@ struct Rewritten {
     losses: String,
 }
 
-// Removes items by type; without types the whole envelope is left.
+// Removes items by type.
 fn rewrite(
     alloc: Global,
     kinds: &[Kind],
@@ -40,16 +41,10 @@ fn rewrite(
     requires { IsSomeAnd (structured envelope) (IsEnvelopePlain profile) }
     ensures due { IfOk result (λ rewritten. (items : List EnvelopeItem) →
         structured_in envelope.contents ≡ Some items
-        → IsDue kinds.now keep_headers (header_of envelope) items
+        → TakesOut kinds.now keep_headers (header_of envelope) items
         (left_due rewritten.left (string_bytes rewritten.losses))) }
     ensures writable { IfOk result (λ rewritten. IsWritable rewritten.left) }
 {
-    if kinds.is_empty() {
-        return Ok(Rewritten {
-            left: Some(envelope),
-            losses: String::new(alloc),
-        });
-    }
     let mut filter = LossFilter::new(kinds);
     let Ok(left) = envelope.filter_with(alloc, &mut filter, keep_headers) else {
         return Err(AllocError);
@@ -120,6 +115,11 @@ pub fn run<R: Read, W: Write, T: Write, G: Rng>(
         (streams R.remaining W.contents T.contents reader.new out.new table.new) result }
 {
     let bytes = read_all(alloc, reader)?;
+    if kinds.is_empty() {
+        let text = normal_text(alloc, &bytes, now, ids)?;
+        text.send(out)?;
+        return Ok(Outcome::Written);
+    }
     let envelope = Envelope::from_slice(alloc, &bytes, now, ids)?;
     // The envelope borrows nothing: its text takes the place of the input.
     drop(bytes);

@@ -1,4 +1,3 @@
-use Rattle.std.proofs.Common.{rules}
 use Rattle.sentry_envelope.specs.EnvelopeView.{header_of}
 use Rattle.sentry_envelope.specs.Filter.{header_left}
 use Rattle.sentry_env.proofs.LossLemmas.{rest_is_due}
@@ -7,7 +6,7 @@ use Rattle.sentry_env.proofs.run.rewrite.Goals as goal
 
 pub returns-clause-due : goal.returns-clause-due
 returns-clause-due c items has =
-    rest_is_due c.args.kinds.now c.args.keep_headers c.args.envelope items c.new-filter.result c.filter_with.new.filter c.in-Ok.left _ (search rules) has c.new-filter.ensures.kinds c.new-filter.ensures.nothing_lost
+    rest_is_due c.args.kinds.now c.args.keep_headers c.args.envelope items c.new-filter.result c.filter_with.new.filter c.in-Ok.left _ has c.new-filter.ensures.kinds c.new-filter.ensures.nothing_lost
     c.in-Ok.ensures.filtered c.in_ok-losses.ensures
 
 pub returns-clause-writable : goal.returns-clause-writable
