@@ -3,7 +3,7 @@
 use crate::asked::said_of;
 use crate::built::{begun, of_built};
 use crate::envelopes::{
-    of_frames, read, said_containers, said_envelope, said_losses, said_raw, said_steady,
+    of_envelope, of_frames, of_rewritten, read, said_containers, said_losses, said_raw,
 };
 use crate::filters::{of_answers, of_filter};
 use crate::form::{of_apart, of_flat, of_tape};
@@ -67,8 +67,8 @@ pub fn of_bytes(alloc: Global, name: &str, bytes: &[u8]) -> Option<Result<Value,
         "flat" => of_flat(alloc, bytes),
         "apart" => of_apart(alloc, bytes),
         "raw" => said_of(alloc, begun(alloc, "raw", bytes), said_raw),
-        "envelope" => said_of(alloc, read(alloc, bytes), said_steady),
-        "rewritten" => said_of(alloc, read(alloc, bytes), said_envelope),
+        "envelope" => of_envelope(alloc, bytes),
+        "rewritten" => of_rewritten(alloc, bytes),
         "explain" => of_explain(alloc, bytes),
         "frames" => of_frames(alloc, bytes),
         "any_frames" => of_any_frames(alloc, bytes),

@@ -3,11 +3,13 @@
 use crate::asked::{holds, is_same, said_of};
 use crate::bytes::said_bytes;
 use crate::counting::Counting;
+use crate::form::agreed;
 use crate::said::{as_tree, list, maybe, refused, text};
+use rand_core::Rng;
 use rand_pcg::Pcg32;
 use sentry_types::protocol::v7::{
     CountedWriter, Envelope, EnvelopeError, EnvelopeItem, EnvelopeWriteError, Frames,
-    ItemContainer, ItemFrame, ItemLoss, LossSource, Moment, Value,
+    ItemContainer, ItemFrame, ItemLoss, LossSource, Moment, Value, normal_text,
 };
 use std::alloc::{AllocError, Global};
 
@@ -66,13 +68,45 @@ fn is_steady(alloc: Global, envelope: &Envelope) -> bool {
         )
 }
 
-/// What is written of an envelope, if its text can be read.
-pub fn said_steady(alloc: Global, envelope: &Envelope) -> Result<Value, AllocError> {
+// What is written of an envelope, if its text can be read.
+fn said_steady(alloc: Global, envelope: &Envelope) -> Result<Value, AllocError> {
     if is_steady(alloc, envelope) {
         said_envelope(alloc, envelope)
     } else {
         text(alloc, "not read back")
     }
+}
+
+// The text of the normal form that bytes spell at second 0, which is written while they are read, or
+// why there is none.
+fn said_normal<R: Rng>(alloc: Global, bytes: &[u8], ids: &mut R) -> Result<Value, AllocError> {
+    let now = Moment::new(0, 0).unwrap();
+    match normal_text(alloc, bytes, now, ids) {
+        Ok(text) => said_bytes(alloc, &text.into_vec()?),
+        Err(error) => refused(alloc, &error),
+    }
+}
+
+// What is told of the envelope that bytes spell at second 0, if that is the text of its normal form,
+// or the same error.
+fn beside_normal(alloc: Global, bytes: &[u8], told: Value) -> Result<Value, AllocError> {
+    agreed(
+        alloc,
+        told,
+        said_normal(alloc, bytes, &mut Pcg32::new(42, 54)),
+    )
+}
+
+/// What is written of the envelope that bytes spell at second 0, by its values and while it is read.
+pub fn of_rewritten(alloc: Global, bytes: &[u8]) -> Result<Value, AllocError> {
+    let told = said_of(alloc, read(alloc, bytes), said_envelope)?;
+    beside_normal(alloc, bytes, told)
+}
+
+/// The same, if the text can be read.
+pub fn of_envelope(alloc: Global, bytes: &[u8]) -> Result<Value, AllocError> {
+    let told = said_of(alloc, read(alloc, bytes), said_steady)?;
+    beside_normal(alloc, bytes, told)
 }
 
 /// What is written of the envelopes that texts spell at second 0, one after the other, with one
@@ -82,9 +116,10 @@ pub fn rewritten_in_turn(alloc: Global, texts: &[Value]) -> Result<Value, AllocE
     let mut told = Vec::new(alloc);
     for given in texts {
         let bytes = given.as_str().unwrap_or("").as_bytes();
+        let mut same = Counting(ids.0);
         let made = Envelope::from_slice(alloc, bytes, now, &mut ids);
-        let said = said_of(alloc, made, said_envelope);
-        told.push(said?)?;
+        let said = said_of(alloc, made, said_envelope)?;
+        told.push(agreed(alloc, said, said_normal(alloc, bytes, &mut same))?)?;
     }
     Ok(Value::from(told))
 }

@@ -3,7 +3,7 @@
 use crate::said::{debug, list, refused, text};
 use bumpalo::Bump;
 use rand_pcg::Pcg32;
-use sentry_json::{Scalar, Tape, look_up};
+use sentry_json::{Parsed, Scalar, Tape, look_up};
 use sentry_types::protocol::v7::value::Writer;
 use sentry_types::protocol::v7::{
     Codec, FromTree, FromTreeAt, Member, Moment, Node, Own, ReadCodec, ReadCodecAt, TreeError,
@@ -69,23 +69,23 @@ fn are_alike(alloc: Global, one: &Value, other: &Value) -> bool {
     }
 }
 
-// What the tree of values answers, if the tape answers the same.
-fn agreed(
+/// What one way answers, if the other answers the same.
+pub fn agreed(
     alloc: Global,
-    by_tree: Value,
-    by_tape: Result<Value, AllocError>,
+    one: Value,
+    other: Result<Value, AllocError>,
 ) -> Result<Value, AllocError> {
-    match by_tape {
-        Ok(by_tape) => {
-            if are_alike(alloc, &by_tree, &by_tape) {
-                drop(by_tape);
-                Ok(by_tree)
+    match other {
+        Ok(other) => {
+            if are_alike(alloc, &one, &other) {
+                drop(other);
+                Ok(one)
             } else {
-                list(alloc, [text(alloc, "by tape"), Ok(by_tape), Ok(by_tree)])
+                list(alloc, [text(alloc, "otherwise"), Ok(other), Ok(one)])
             }
         }
         Err(error) => {
-            drop(by_tree);
+            drop(one);
             Err(error)
         }
     }
@@ -96,7 +96,26 @@ pub fn by_tree<T: FromTree>(alloc: Global, line: &[u8]) -> Result<T, TreeError> 
     T::from_tree(alloc, &read_tree(alloc, line)?)
 }
 
-// What the tree of values answers, if the tape answers the same or the line has none.
+// What the tree of values answers, if that is a list of the text that was passed, or the same error.
+fn passed(
+    alloc: Global,
+    told: Value,
+    text_of: Vec<u8>,
+    passed: &Result<(), TreeError>,
+) -> Result<Value, AllocError> {
+    let same = match passed {
+        Ok(()) => told.to_string(alloc)?.as_bytes() == text_of.as_slice(),
+        Err(error) => are_alike(alloc, &told, &refused(alloc, error)?),
+    };
+    if same {
+        return Ok(told);
+    }
+    drop(told);
+    text(alloc, "passed otherwise")
+}
+
+// What the tree of values answers, if the tape answers the same or the line has none; and if it is
+// what is written while the tape is read.
 fn beside_tape<F: ReadCodec<T>, T: Drop>(
     alloc: Global,
     line: &[u8],
@@ -104,11 +123,17 @@ fn beside_tape<F: ReadCodec<T>, T: Drop>(
 ) -> Result<Value, AllocError> {
     let texts = Bump::new(alloc);
     let mut tape = Tape::new(alloc, &texts);
-    let by_tape = match tape.parse(line)? {
-        Some(root) => F::from_node(alloc, &root),
-        None => return Ok(told),
+    let root = match tape.parse(line)? {
+        Parsed::Root(root) => root,
+        Parsed::Float | Parsed::Other => return Ok(told),
     };
-    agreed(alloc, told, answered::<F, T>(alloc, &by_tape))
+    let by_tape = F::from_node(alloc, &root);
+    let told = agreed(alloc, told, answered::<F, T>(alloc, &by_tape))?;
+    let mut out = Writer::new(Vec::new(alloc));
+    out.begin_array()?;
+    let ended = F::pass(alloc, &root, &mut out);
+    out.end_array()?;
+    passed(alloc, told, out.into_inner(), &ended)
 }
 
 // As `beside_tape`, for a type with one form, where the line reader has to answer the same too.
@@ -179,11 +204,17 @@ fn beside_tape_at<F: ReadCodecAt<T>, T: Drop>(
 ) -> Result<Value, AllocError> {
     let texts = Bump::new(alloc);
     let mut tape = Tape::new(alloc, &texts);
-    let by_tape = match tape.parse(line)? {
-        Some(root) => F::from_node(alloc, &root, now(), &mut ids()),
-        None => return Ok(told),
+    let root = match tape.parse(line)? {
+        Parsed::Root(root) => root,
+        Parsed::Float | Parsed::Other => return Ok(told),
     };
-    agreed(alloc, told, answered::<F, T>(alloc, &by_tape))
+    let by_tape = F::from_node(alloc, &root, now(), &mut ids());
+    let told = agreed(alloc, told, answered::<F, T>(alloc, &by_tape))?;
+    let mut out = Writer::new(Vec::new(alloc));
+    out.begin_array()?;
+    let ended = F::pass(alloc, &root, now(), &mut ids(), &mut out);
+    out.end_array()?;
+    passed(alloc, told, out.into_inner(), &ended)
 }
 
 // The value that a line shows in a form at the moment of reading, as a tree of values.
@@ -266,16 +297,29 @@ pub fn debugged<T: Debug + Drop>(
     }
 }
 
-/// `true` if the tape takes a line and has the tree that `read_tree` gives, `two answers` if it has
-/// another; `by tree` if `read_tree` alone takes the line, else its error.
+// `float` if `read_tree` refuses a line too that the tape refuses for a float, else `two answers`.
+fn of_float(alloc: Global, line: &[u8]) -> Result<Value, AllocError> {
+    match read_tree(alloc, line) {
+        Err(TreeError::Misfit) => text(alloc, "float"),
+        _ => text(alloc, "two answers"),
+    }
+}
+
+/// `true` if the tape takes a line and has the tree that `read_tree` gives, `float` if both refuse
+/// it, the tape for a float, and `two answers` if they differ; `by tree` if `read_tree` alone takes
+/// the line, else its error.
 pub fn of_tape(alloc: Global, line: &[u8]) -> Result<Value, AllocError> {
     let texts = Bump::new(alloc);
     let mut tape = Tape::new(alloc, &texts);
-    let Some(root) = tape.parse(line)? else {
-        return match read_tree(alloc, line) {
-            Ok(_) => text(alloc, "by tree"),
-            Err(error) => refused(alloc, &error),
-        };
+    let root = match tape.parse(line)? {
+        Parsed::Root(root) => root,
+        Parsed::Float => return of_float(alloc, line),
+        Parsed::Other => {
+            return match read_tree(alloc, line) {
+                Ok(_) => text(alloc, "by tree"),
+                Err(error) => refused(alloc, &error),
+            };
+        }
     };
     match read_tree(alloc, line) {
         Ok(tree) if are_alike(alloc, &tree, &root.to_value(alloc)?) => Ok(Value::from(true)),
