@@ -6,7 +6,6 @@ pub mod Parts
 pub mod Envelopes
 pub mod Pieces
 pub mod HeaderRows
-pub mod Filtering
 pub mod Items
 pub mod Asking
 pub mod Refusals

@@ -9,7 +9,6 @@ pub mod Words
 pub mod Kinds
 pub mod Losses
 pub mod Left
-pub mod Filtering
 pub mod Envelopes
 pub mod Texts
 pub mod Sums

@@ -1,7 +1,5 @@
 -- Sums of losses in one row: one for each category and reason, or none.
-use Rattle.std.specs.Prelude.{◌≡◌, true, ℕ, List, length, map, slice_index, Option, Some}
-use Rattle.sentry_items.specs.Losses.{losses_of_items}
-use Rattle.sentry_items.specs.declared.item.EnvelopeItem.{EnvelopeItem}
+use Rattle.std.specs.Prelude.{◌≡◌, true, ℕ, List, map, Option, Some}
 use Rattle.sentry_forward.specs.View.{AreNamed, piece_of}
 use Rattle.sentry_forward.specs.AnyHeader.{any_header, any_reading, is_object_line}
 use Rattle.sentry_forward.specs.Forward.{ArePieces}
@@ -10,16 +8,11 @@ use Rattle.sentry_framing.specs.Framing.{Frame, IsLineAndBody}
 use Rattle.sentry_ledger.specs.FrameLosses.{AreLosses, AreLossesOfAll}
 use Rattle.sentry_ledger.specs.LossSums.{SumsLosses}
 use Rattle.sentry_ledger.specs.declared.loss_sums.LossSums.{LossSums}
-use Rattle.sentry_ledger.specs.declared.loss_sums.TheConstants.{SUMS}
-use Rattle.sentry_reports.specs.Sums.{place, shown}
-use Rattle.sentry_reports.specs.declared.category.Category.{Category}
 use Rattle.sentry_reports.specs.declared.item_loss.ItemLoss.{ItemLoss}
-use Rattle.sentry_reports.specs.declared.reason.Reason.{Reason}
 
--- each sum in the row is that of the losses of these items
-pub record SumsItemLosses (row : List ℕ) (items : List EnvelopeItem) : Type 0 where
-  pub long : length row ≡ SUMS
-  pub each : (category : Category) (reason : Option Reason) → slice_index row (place category reason) ≡ shown category reason (losses_of_items items)
+-- the row has the sums of these losses
+abbrev pub IsRowOfLosses : List ℕ → List ItemLoss → Type 0
+IsRowOfLosses row losses = SumsLosses (record { row = row }) losses
 
 -- these sums are those of the losses of frames
 abbrev pub SumsFrames : List AnyFrame → LossSums → Type 0

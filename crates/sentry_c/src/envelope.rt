@@ -1,6 +1,6 @@
 //! Parsing, normalizing and filtering envelopes.
 
-ghost use Rattle.std.specs.Prelude.{◌≡◌, ◌≢◌, ◌⊎◌, ◌^◌, ◌<◌, ◌≤◌, IfErr, IfOk, IsSomeAnd, MatchOption, None, Ok, OnErr, OnOk, Some, false, length, true};
+ghost use Rattle.std.specs.Prelude.{◌≡◌, ◌≢◌, ◌⊎◌, ◌^◌, ◌<◌, ◌≤◌, IfErr, IfOk, IsSomeAnd, None, Ok, OnErr, OnOk, Some, false, length, true};
 ghost use Rattle.sentry_framing.specs.ItemWords.{item_kinds};
 ghost use Rattle.sentry_framing.specs.declared.error.EnvelopeError.{EnvelopeError as Refusal};
 ghost use Rattle.sentry_framing.specs.declared.error.EnvelopeError.TheVariants as refusals;
@@ -12,20 +12,19 @@ ghost use Rattle.sentry_envelope.specs.EnvelopeFault.{Fault};
 ghost use Rattle.sentry_envelope.specs.EnvelopeView.{structured, text_of};
 ghost use Rattle.sentry_envelope.specs.NormalText.{IsNormalText};
 ghost use Rattle.sentry_envelope.specs.SentryProfile.{profile};
-ghost use Rattle.sentry_ledger.specs.LossSums.{no_sums};
 ghost use Rattle.sentry_c.specs.Envelopes.{IsLeft, IsSpelled, LeavesNothing};
 ghost use Rattle.sentry_c.specs.Output.{IsTooLong, Puts};
 ghost use Rattle.sentry_c.specs.Statuses.{refusal_status};
 
 use crate::filter::{KindFilter, are_kinds};
-use crate::output::{deliver_envelope, deliver_text};
+use crate::output::deliver_text;
 use crate::status::{
     INVALID_ARGUMENT, NO_MOMENT, NO_ROOM, NOTHING_LEFT, OK, status_of_envelope_error,
 };
 use rand_core::SeedableRng;
 use rand_pcg::Pcg32;
-use sentry_envelope::normal_text;
-use sentry_ledger::loss_sums::SUMS;
+use sentry_envelope::{filtered_text, normal_text};
+use sentry_ledger::loss_sums::{LossSums, SUMS};
 use sentry_types::protocol::v7::{Envelope, EnvelopeError, Moment};
 use std::alloc::{AllocError, Global};
 
@@ -161,62 +160,45 @@ pub extern "C" fn curdmesa_envelope_check(
     }
 }
 
-// Returns what is left of an envelope.
-fn read_left(
-    alloc: Global,
-    bytes: &[u8],
-    now: Moment,
-    seed: u64,
-    keep_headers: bool,
-    filter: &mut KindFilter,
-) -> Result<Option<Envelope>, EnvelopeError>
-    requires { filter.old.sums.row ≡ no_sums }
-    ensures left { IfOk result (λ left. MatchOption left
-        (LeavesNothing bytes.now (moment_cell now)
-        filter.old.kinds filter.old.keep keep_headers filter.new.sums.row)
-        (λ e. IsLeft bytes.now (moment_cell now)
-        filter.old.kinds filter.old.keep keep_headers filter.new.sums.row (text_of e))) }
-    ensures fault { IfErr result (λ x. x ≢ EnvelopeError.OutOfMemory → Fault profile bytes.now x) }
-{
-    let envelope = read(alloc, bytes, now, seed)?;
-    match envelope.filter_with(alloc, filter, keep_headers) {
-        Ok(left) => Ok(left),
-        Err(_) => Err(EnvelopeError::OutOfMemory),
-    }
-}
-
-// Writes what is left of an envelope to `out`, if anything is left and there is room. Returns whether
-// there was.
+// Writes what is left of an envelope to `out`, if anything is left and there is room, and sets
+// `losses` to the sums of what is lost. Returns whether there was room.
 fn deliver_left(
     alloc: Global,
     bytes: &[u8],
     now: Moment,
     seed: u64,
+    filter: &KindFilter,
     keep_headers: bool,
-    filter: &mut KindFilter,
     out: &mut [u8],
     needed: &mut u64,
+    losses: &mut [u64],
 ) -> Result<Option<bool>, EnvelopeError>
-    requires { filter.old.sums.row ≡ no_sums }
+    requires { length losses.old ≡ SUMS }
     ensures written { result ≡ Ok (Some true) →
         Puts (IsLeft bytes.now (moment_cell now)
-        filter.old.kinds filter.old.keep keep_headers filter.new.sums.row)
-        out.old out.new needed.new }
+        filter.now.kinds filter.now.keep keep_headers losses.new) out.old out.new needed.new }
     ensures no_room { result ≡ Ok (Some false) →
         IsTooLong (IsLeft bytes.now (moment_cell now)
-        filter.old.kinds filter.old.keep keep_headers filter.new.sums.row) out.old needed.new }
+        filter.now.kinds filter.now.keep keep_headers losses.new) out.old needed.new }
     ensures nothing { result ≡ Ok None →
         LeavesNothing bytes.now (moment_cell now)
-        filter.old.kinds filter.old.keep keep_headers filter.new.sums.row }
+        filter.now.kinds filter.now.keep keep_headers losses.new }
     ensures fault { IfErr result (λ x. x ≢ EnvelopeError.OutOfMemory → Fault profile bytes.now x) }
     ensures unchanged { result ≢ Ok (Some true) → out.new ≡ out.old }
+    ensures losses_unchanged { OnErr result (losses.new ≡ losses.old) }
     ensures untold { result ≢ Ok (Some true) → result ≢ Ok (Some false) →
         needed.new ≡ needed.old }
 {
-    match read_left(alloc, bytes, now, seed, keep_headers, filter)? {
-        Some(left) => Ok(Some(deliver_envelope(alloc, &left, out, needed)?)),
-        None => Ok(None),
-    }
+    let mut ids = Pcg32::seed_from_u64(seed);
+    let left = filtered_text(alloc, bytes, now, &mut ids, filter, keep_headers)?;
+    let sums = LossSums::of(&left.losses);
+    let Some(text) = &left.text else {
+        losses.copy_from_slice(sums.as_slice());
+        return Ok(None);
+    };
+    let there_was_room = deliver_text(alloc, text, out, needed)?;
+    losses.copy_from_slice(sums.as_slice());
+    Ok(Some(there_was_room))
 }
 
 /// Parses an envelope, removes items by their type, and writes what is left to `out`.
@@ -279,25 +261,22 @@ pub extern "C" fn curdmesa_envelope_filter(
     let Some(now) = Moment::new(now_secs, now_nanos) else {
         return NO_MOMENT;
     };
-    let mut filter = KindFilter::new(kinds, keep);
-    let left = deliver_left(
+    let filter = KindFilter { kinds, keep };
+    let delivered = deliver_left(
         alloc,
         bytes,
         now,
         seed,
+        &filter,
         keep_headers,
-        &mut filter,
         out,
         needed,
+        losses,
     );
-    let delivered = match left {
-        Ok(delivered) => delivered,
-        Err(error) => return status_of_envelope_error(&error),
-    };
-    losses.copy_from_slice(filter.sums());
     match delivered {
-        Some(true) => OK,
-        Some(false) => NO_ROOM,
-        None => NOTHING_LEFT,
+        Ok(Some(true)) => OK,
+        Ok(Some(false)) => NO_ROOM,
+        Ok(None) => NOTHING_LEFT,
+        Err(error) => status_of_envelope_error(&error),
     }
 }

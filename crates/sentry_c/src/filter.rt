@@ -2,12 +2,11 @@
 
 ghost use Rattle.std.specs.Prelude.{◌≡◌, ◌^◌, ◌<◌, ◌↔◌, IsTrue, length};
 ghost use Rattle.sentry_framing.specs.ItemWords.{item_kinds};
-ghost use Rattle.sentry_ledger.specs.LossSums.{no_sums};
-ghost use Rattle.sentry_c.specs.Kinds.{is_listed, kind_bit};
+ghost use Rattle.sentry_c.specs.Kinds.{kind_bit};
 
 use crate::frames::number_of;
-use sentry_ledger::loss_sums::LossSums;
-use sentry_types::protocol::v7::{EnvelopeFilter, EnvelopeItem, ItemKind};
+use sentry_envelope::KindChoice;
+use sentry_types::protocol::v7::ItemKind;
 
 // A bit for each item type.
 const ALL_KINDS: u32 = (1 << 11) - 1;
@@ -26,64 +25,21 @@ fn bit(kind: ItemKind) -> u32
     1 << number_of(kind)
 }
 
-fn is_listed(kinds: u32, item: &EnvelopeItem) -> bool
-    ensures { result ≡ is_listed kinds item.now }
-{
-    match item.kind() {
-        Some(kind) => kinds & bit(kind) != 0,
-        None => false,
-    }
-}
-
-/// A filter that keeps items of some types, or all others, and sums the losses of removed items.
+/// A choice of item types by their bits.
 #[derive(Drop)]
 pub struct KindFilter {
     pub(crate) kinds: u32,
+    /// Whether these types stay, or all others.
     pub(crate) keep: bool,
-    pub(crate) sums: LossSums,
 }
 
-impl KindFilter {
-    /// Creates a filter that keeps the items of these types with `keep`, and all others without.
-    pub fn new(kinds: u32, keep: bool) -> KindFilter
-        ensures kinds { result.kinds ≡ kinds }
-        ensures keep { result.keep ≡ keep }
-        ensures nothing_lost { result.sums.row ≡ no_sums }
-    {
-        KindFilter {
-            kinds,
-            keep,
-            sums: LossSums::new(),
-        }
-    }
+impl KindChoice for KindFilter {
+    ghost use Rattle.sentry_c.specs.Kinds.{is_wanted};
 
-    /// Returns the sums of what was lost with removed items.
-    pub fn sums(&self) -> &[u64]
-        ensures { result.now ≡ self.now.sums.row }
-    {
-        self.sums.as_slice()
-    }
-}
+    ghost stays = { λ choice kind. is_wanted choice.kinds choice.keep kind };
 
-impl EnvelopeFilter for KindFilter {
-    ghost use Rattle.sentry_c.specs.Filtering.{AddsLosses, AnswersByBits};
-
-    ghost can_filter = { λ _. Unit {0} };
-
-    ghost ask = { AnswersByBits };
-
-    ghost hand = { AddsLosses };
-
-    ghost ask_keeps = { λ first item answer next ready asked. tt };
-
-    ghost hand_keeps = { λ first item next ready given. tt };
-
-    fn filter(&mut self, item: &EnvelopeItem) -> bool {
-        let listed = is_listed(self.kinds, item);
+    fn stays(&self, kind: ItemKind) -> bool {
+        let listed = self.kinds & bit(kind) != 0;
         if self.keep { listed } else { !listed }
-    }
-
-    fn on_filtered(&mut self, item: EnvelopeItem) {
-        self.sums.add_item(&item);
     }
 }

@@ -5,7 +5,6 @@ ghost use Rattle.sentry_framing.specs.declared.error.EnvelopeError.{EnvelopeErro
 ghost use Rattle.sentry_framing.specs.declared.error.EnvelopeError.TheVariants as refusals;
 ghost use Rattle.sentry_forward.specs.AnyHeader.{any_header};
 ghost use Rattle.sentry_forward.specs.View.{IsRefused};
-ghost use Rattle.sentry_ledger.specs.LossSums.{SumsLosses};
 ghost use Rattle.sentry_c.specs.Losses.{IsRowOfEnvelope, IsRowOfFrame, SumsEnvelope, SumsFrame, SumsFrames};
 ghost use Rattle.sentry_c.specs.Statuses.{refusal_status};
 
@@ -14,21 +13,9 @@ use crate::status::{INVALID_ARGUMENT, OK, status_of_envelope_error};
 use sentry_forward::header::read_any_header;
 use sentry_ledger::loss_sums::{LossSums, SUMS};
 use sentry_ledger::lost_frames::losses_of_frames;
-use sentry_types::protocol::v7::client_report::{ItemLoss, frame_losses};
+use sentry_types::protocol::v7::client_report::frame_losses;
 use sentry_types::protocol::v7::{AnyFrame, EnvelopeError, ForwardError, ForwardRules};
 use std::alloc::{AllocError, Global};
-
-fn sums_of(losses: &[ItemLoss]) -> LossSums
-    ensures { SumsLosses result losses.now }
-{
-    let mut sums = LossSums::new();
-    let mut left = losses;
-    while let Some((loss, rest)) = left.split_first() {
-        sums.add(*loss);
-        left = rest;
-    }
-    sums
-}
 
 /// Returns the sums of the losses of frames.
 ///
@@ -39,7 +26,7 @@ pub fn sums_of_frames(alloc: Global, frames: &[AnyFrame<'_>]) -> Result<LossSums
     ensures { IfOk result (SumsFrames frames.now) }
 {
     let losses = losses_of_frames(alloc, frames)?;
-    Ok(sums_of(&losses))
+    Ok(LossSums::of(&losses))
 }
 
 /// Returns the sums of what is lost with all items of an envelope.
@@ -109,7 +96,7 @@ fn sums_of_item(alloc: Global, header: &[u8], payload: &[u8]) -> Result<LossSums
         payload_start: 0,
     };
     let losses = frame_losses(alloc, &frame)?;
-    Ok(sums_of(&losses))
+    Ok(LossSums::of(&losses))
 }
 
 /// Sets `losses` to the sums of what is lost with an item, in each category for no reason and for

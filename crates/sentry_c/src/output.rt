@@ -2,12 +2,10 @@
 
 ghost use Rattle.std.specs.Prelude.{◌≡◌, ◌≢◌, ◌<◌, ◌≤◌, ◌++◌, Ok, IfSome, IsFalse, IsTrue, OnErr, length, drop, true, false};
 ghost use Rattle.sentry_items.specs.Texts.{bytes_of};
-ghost use Rattle.sentry_envelope.specs.EnvelopeView.{text_of};
 ghost use Rattle.sentry_forward.specs.View.{joined_parts};
 ghost use Rattle.sentry_c.specs.Output.{IsTooLong, Puts};
 
 use sentry_items::text::Text;
-use sentry_types::protocol::v7::Envelope;
 use std::alloc::{AllocError, Global};
 
 /// Sets `needed` to the length of a text, and writes the text to the front of `out`. Returns
@@ -91,30 +89,4 @@ pub fn deliver_text(
     let pieces = text.pieces(alloc)?;
     let len = parts_len(&pieces).ok_or(AllocError)?;
     Ok(deliver_parts(&pieces, len, out, needed))
-}
-
-/// Writes the text of an envelope as [`deliver`] does. What was parsed or made of a report is plain,
-/// so that only an allocation can fail.
-///
-/// # Errors
-///
-/// `AllocError` if an allocation fails; nothing was written.
-pub fn deliver_envelope(
-    alloc: Global,
-    envelope: &Envelope,
-    out: &mut [u8],
-    needed: &mut u64,
-) -> Result<bool, AllocError>
-    ensures written { result ≡ Ok true →
-        Puts (λ text. text ≡ text_of envelope.now) out.old out.new needed.new }
-    ensures no_room { result ≡ Ok false →
-        IsTooLong (λ text. text ≡ text_of envelope.now) out.old needed.new }
-    ensures unchanged { result ≢ Ok true → out.new ≡ out.old }
-    ensures untold { OnErr result (needed.new ≡ needed.old) }
-{
-    let Ok(text) = envelope.text(alloc) else {
-        return Err(AllocError);
-    };
-    let there_was_room = deliver_text(alloc, &text, out, needed)?;
-    Ok(there_was_room)
 }

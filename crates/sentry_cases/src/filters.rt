@@ -2,9 +2,15 @@
 
 use crate::asked::taken;
 use crate::built::begun;
-use crate::envelopes::{read, said_envelope, said_loss};
-use crate::said::{as_tree, list};
-use sentry_types::protocol::v7::{Envelope, EnvelopeFilter, EnvelopeItem, LossSource, Value};
+use crate::bytes::said_bytes;
+use crate::envelopes::{read, said_envelope, said_loss, said_losses};
+use crate::form::are_alike;
+use crate::said::{as_tree, list, refused, text};
+use rand_pcg::Pcg32;
+use sentry_types::protocol::v7::filtered::{AllBut, FilteredText, filtered_text};
+use sentry_types::protocol::v7::{
+    Envelope, EnvelopeFilter, EnvelopeItem, ItemKind, LossSlice, LossSource, Moment, Value,
+};
 use std::alloc::{AllocError, Global};
 
 // Refuses items whose types are among some words, and notes what is lost with the items that go.
@@ -136,8 +142,96 @@ fn left_by_value(alloc: Global, envelope: Envelope, words: &str) -> Result<Value
     }
 }
 
-/// What is left of the envelope that bytes spell without the items of some kinds. The fields of its
-/// header stay if the first word is `-k`; the filter is handed over if it is `-v`.
+// The types that are named among some words.
+fn kinds_of(alloc: Global, words: &str) -> Result<Vec<ItemKind>, AllocError> {
+    let mut kinds = Vec::new(alloc);
+    for word in words.split(' ') {
+        if let Some(kind) = ItemKind::from_word(word) {
+            kinds.push(kind)?;
+        }
+    }
+    Ok(kinds)
+}
+
+// The text of what is left, or null, and the losses in order.
+fn said_text(alloc: Global, left: FilteredText<'_>) -> Result<Value, AllocError> {
+    let FilteredText { text, losses } = left;
+    let losses = said_losses(alloc, &LossSlice(&losses));
+    let text = match text {
+        Some(text) => said_bytes(alloc, &text.into_vec()?),
+        None => Ok(Value::Null),
+    };
+    list(alloc, [text, losses])
+}
+
+// What is left of the envelope that bytes spell, which is written while they are read.
+fn left_of_text(
+    alloc: Global,
+    bytes: &[u8],
+    keep_headers: bool,
+    words: &str,
+) -> Result<Value, AllocError> {
+    let now = Moment::new(0, 0).unwrap();
+    let kinds = kinds_of(alloc, words)?;
+    let choice = AllBut { kinds: &kinds };
+    match filtered_text(
+        alloc,
+        bytes,
+        now,
+        &mut Pcg32::new(42, 54),
+        &choice,
+        keep_headers,
+    ) {
+        Ok(left) => said_text(alloc, left),
+        Err(error) => refused(alloc, &error),
+    }
+}
+
+fn count_of(alloc: Global, values: &[Value], value: &Value) -> usize {
+    let mut count: usize = 0;
+    for other in values {
+        if are_alike(alloc, value, other) {
+            count = count.saturating_add(1);
+        }
+    }
+    count
+}
+
+// Whether two lists have the same values, in any order.
+fn have_same(alloc: Global, ones: &[Value], others: &[Value]) -> bool {
+    for one in ones {
+        if count_of(alloc, ones, one) != count_of(alloc, others, one) {
+            return false;
+        }
+    }
+    ones.len() == others.len()
+}
+
+// Whether two answers have the same text and the same losses, in any order: a filter is handed
+// attachments without an event last.
+fn are_same(alloc: Global, one: &Value, other: &Value) -> bool {
+    if let (Some(ones), Some(others)) = (one.as_array(), other.as_array())
+        && let ([left, losses], [text, lost]) = (ones.as_slice(), others.as_slice())
+        && let (Some(losses), Some(lost)) = (losses.as_array(), lost.as_array())
+    {
+        return are_alike(alloc, left, text) && have_same(alloc, losses, lost);
+    }
+    are_alike(alloc, one, other)
+}
+
+// What is told by values, if the text that is written without values tells the same.
+fn beside_text(alloc: Global, told: Value, other: Value) -> Result<Value, AllocError> {
+    if are_same(alloc, &told, &other) {
+        drop(other);
+        Ok(told)
+    } else {
+        list(alloc, [text(alloc, "otherwise"), Ok(other), Ok(told)])
+    }
+}
+
+/// What is left of the envelope that bytes spell without the items of some kinds, by its values and
+/// while it is read. The fields of its header stay if the first word is `-k`; the filter is handed
+/// over if it is `-v`.
 pub fn of_filter(alloc: Global, words: &str, bytes: &[u8]) -> Result<Value, AllocError> {
     if let Some(words) = words.strip_prefix("-v ") {
         return taken(
@@ -150,11 +244,13 @@ pub fn of_filter(alloc: Global, words: &str, bytes: &[u8]) -> Result<Value, Allo
         Some(words) => (true, words),
         None => (false, words),
     };
-    taken(
+    let told = taken(
         alloc,
         read(alloc, bytes),
         |alloc: Global, envelope: Envelope| { left_by(alloc, envelope, keep_headers, words) },
-    )
+    )?;
+    let other = left_of_text(alloc, bytes, keep_headers, words)?;
+    beside_text(alloc, told, other)
 }
 
 /// Answers by a list of `y` and `n`, and notes each call.

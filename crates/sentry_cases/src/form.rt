@@ -61,8 +61,8 @@ pub fn answered_by<T: Member, C: FnOnce(&T) -> Result<T, AllocError>>(
     }
 }
 
-// Whether two trees have one text.
-fn are_alike(alloc: Global, one: &Value, other: &Value) -> bool {
+/// Whether two trees have one text.
+pub fn are_alike(alloc: Global, one: &Value, other: &Value) -> bool {
     match (one.to_string(alloc), other.to_string(alloc)) {
         (Ok(one), Ok(other)) => one.as_str() == other.as_str(),
         _ => false,

@@ -3,25 +3,22 @@ use Rattle.std.proofs.Common.{◌≡◌, ◌≢◌, ℕ, true, false, List, [], 
 use Rattle.std.proofs.KnownBytes.{Appends-nil}
 use Rattle.std.proofs.lemmas.Bool.{eqb-true}
 use Rattle.std.specs.Io.KnownBytes.{Keeps}
-use Rattle.std.specs.Option.{IsSomeAnd}
-use Rattle.sentry_items.specs.declared.item.EnvelopeItem.{EnvelopeItem}
-use Rattle.sentry_envelope.specs.Envelope.{Spells}
 use Rattle.sentry_envelope.specs.EnvelopeFault.{Fault}
-use Rattle.sentry_envelope.specs.EnvelopeView.{header_of, structured}
-use Rattle.sentry_envelope.specs.Filter.{structured_in}
+use Rattle.sentry_envelope.specs.FilteredText.{IsTextOfLeft}
 use Rattle.sentry_envelope.specs.NormalText.{IsNormalText}
 use Rattle.sentry_envelope.specs.SentryProfile.{profile}
-use Rattle.sentry_envelope.specs.declared.envelope.Envelope.{Envelope}
 use Rattle.sentry_framing.specs.declared.error.EnvelopeError.{EnvelopeError}
 use Rattle.sentry_framing.specs.declared.kind.ItemKind.{ItemKind}
 use Rattle.sentry_framing.specs.declared.error.EnvelopeError.TheVariants as fault
+use Rattle.sentry_program.specs.Table.{table_of}
+use Rattle.sentry_reports.specs.declared.item_loss.ItemLoss.{ItemLoss}
 use Rattle.sentry_env.specs.Ending.{refusal_of}
-use Rattle.sentry_env.specs.Run.{Due, IsDueBy, IsDueFor, IsRestDue, IsWholeDue, Runs, Sends, Settings, TakesOut, WritesNothing, dues}
+use Rattle.sentry_envelope.specs.FilteredText.{is_none_of}
+use Rattle.sentry_env.specs.Run.{Due, IsDueBy, IsDueFor, IsRestDue, IsWholeDue, Runs, Sends, Settings, WritesNothing, dues, left_due}
 use Rattle.sentry_env.specs.Streams.{Breaks, Gets, GivesAll, Reads, Stays, Stream, Streams}
 use Rattle.sentry_env.specs.declared.ending.Outcome.TheVariants.{Written}
 use Rattle.sentry_env.specs.declared.ending.RunError.{RunError}
 use Rattle.sentry_env.specs.declared.ending.RunError.TheVariants as error
-use Rattle.sentry_env.proofs.LossLemmas.{has_items}
 
 keeps : (known : Option (List ℕ)) → Keeps known known
 keeps None = tt
@@ -57,13 +54,12 @@ reads_whole set {bytes = bytes} text none gives same normal =
     let whole : IsWholeDue set.now (dues text [] Written) bytes = record { envelope = normal.envelope; spells = rw same at normal.spells; due_is = ap (λ (t : List ℕ). dues t [] Written) normal.text_is } in
     record { bytes = bytes; gives = gives; meant = none_due set.kinds set (dues text [] Written) bytes none whole }
 
--- with kinds, what is due for the items of an envelope is due for the bytes that it was read from
-pub reads_due : (set : Settings) (due : Due) (envelope : Envelope) {old new : Stream} {bytes given : List ℕ} → (length set.kinds == 0) ≡ false → GivesAll old new bytes → given ≡ bytes → IsSomeAnd (structured envelope) (Spells profile given set.now)
-    → ((items : List EnvelopeItem) → structured_in envelope.contents ≡ Some items → TakesOut set.kinds set.keep_headers (header_of envelope) items due) → Reads old new (IsDueFor set due)
-reads_due set due envelope {bytes = bytes} some gives same spelled takes_out =
-    let has = has_items (Spells profile bytes set.now) envelope (rw same at spelled) in
-    let rest : IsRestDue set due bytes = record { header = header_of envelope; items = has.0; spells = has.2; takes_out = takes_out has.0 has.1 } in
-    record { bytes = bytes; gives = gives; meant = some_due set.kinds set due bytes some rest }
+-- with kinds, the text of what is left is due for the bytes, and the table of the losses
+pub reads_left : (set : Settings) {old new : Stream} {bytes given : List ℕ} (text : Option (List ℕ)) (losses : List ItemLoss) (table : List ℕ) → (length set.kinds == 0) ≡ false → GivesAll old new bytes → given ≡ bytes
+    → IsTextOfLeft (is_none_of set.kinds) set.keep_headers given set.now text losses → table ≡ table_of losses → Reads old new (IsDueFor set (left_due text table))
+reads_left set {bytes = bytes} text losses table some gives same left is =
+    let rest : IsRestDue set (left_due text table) bytes = record { text = text; losses = losses; left = rw same at left; due_is = ap (left_due text) is } in
+    record { bytes = bytes; gives = gives; meant = some_due set.kinds set (left_due text table) bytes some rest }
 
 -- the text that is due was not sent whole, one write failed, and nothing was written of the table
 pub broken : (set : Settings) (old : Streams) (out : Stream) (due : Due) {input : Stream} → Reads old.input input (IsDueFor set due) → Breaks old.out out due.out → Runs set old (record old { input = input; out = out }) (Err error.Write)

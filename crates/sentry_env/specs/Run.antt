@@ -1,20 +1,16 @@
 -- What is due for an envelope, and what a run reads and writes.
-use Rattle.std.specs.Prelude.{◌≡◌, ◌⊎◌, ℕ, ◌+◌, Bool, List, [], ◌∷◌, Option, Some, None, Result, Ok, Err, ⊤}
+use Rattle.std.specs.Prelude.{◌≡◌, ◌⊎◌, ℕ, ◌+◌, Bool, List, [], ◌∷◌, Option, Some, None, Result, Ok, Err}
 use Rattle.sentry_tables.specs.Cell.{Cell}
-use Rattle.sentry_items.specs.Losses.{losses_of_items}
-use Rattle.sentry_items.specs.declared.item.EnvelopeItem.{EnvelopeItem}
 use Rattle.sentry_envelope.specs.Envelope.{Envelope as Model, Spells, envelope_text}
 use Rattle.sentry_envelope.specs.EnvelopeFault.{Fault}
-use Rattle.sentry_envelope.specs.EnvelopeView.{IsUnwritable, model, text_of}
-use Rattle.sentry_envelope.specs.Filter.{chosen, kept, handed, first_id_of, header_left}
-use Rattle.sentry_envelope.specs.HeaderFields.{put_id}
+use Rattle.sentry_envelope.specs.FilteredText.{IsTextOfLeft}
 use Rattle.sentry_envelope.specs.OneEnvelope.{NothingDrawnIn}
 use Rattle.sentry_envelope.specs.SentryProfile.{profile}
-use Rattle.sentry_envelope.specs.declared.envelope.Envelope.{Envelope}
 use Rattle.sentry_framing.specs.declared.kind.ItemKind.{ItemKind}
-use Rattle.sentry_env.specs.Listed.{AnswersFor}
+use Rattle.sentry_envelope.specs.FilteredText.{is_none_of}
 use Rattle.sentry_env.specs.Streams.{Breaks, Gets, Reads, Stays, Stream, Streams}
 use Rattle.sentry_program.specs.Table.{table_of}
+use Rattle.sentry_reports.specs.declared.item_loss.ItemLoss.{ItemLoss}
 use Rattle.sentry_env.specs.declared.ending.Outcome.{Outcome}
 use Rattle.sentry_env.specs.declared.ending.Outcome.TheVariants.{Written, NothingLeft}
 use Rattle.sentry_env.specs.declared.ending.RunError.{RunError}
@@ -31,18 +27,18 @@ pub record Due : Type 0 where
 abbrev pub dues : List ℕ → List ℕ → Outcome → Due
 dues out table outcome = record { out = out; table = table; outcome = outcome }
 
--- what is due for kept items, with a table: their text, below this header with the id of the first
--- event or transaction among them; no text where no item is kept
-abbrev pub kept_due : Cell → List EnvelopeItem → List ℕ → Due
-kept_due header [] table = dues [] table NothingLeft
-kept_due header (item ∷ items) table = dues (envelope_text profile (model (put_id (first_id_of (item ∷ items)) header) (item ∷ items))) table Written
+-- the text of what is left; no text where nothing is
+abbrev pub left_text : Option (List ℕ) → List ℕ
+left_text None = []
+left_text (Some text) = text
 
--- The items of these kinds are taken out, and this is due for what is kept, with the table of what
--- is handed over.
-pub record TakesOut (kinds : List ItemKind) (keep_headers : Bool) (header : Cell) (items : List EnvelopeItem) (due : Due) : Type 0 where
-  pub answers : List Bool
-  pub by_kind : AnswersFor kinds items answers
-  pub due_is : due ≡ kept_due (header_left keep_headers header) (kept (chosen items answers)) (table_of (losses_of_items (handed items answers)))
+abbrev pub left_outcome : Option (List ℕ) → Outcome
+left_outcome None = NothingLeft
+left_outcome (Some text) = Written
+
+-- what is due for the text of what is left, if anything is, with a table
+abbrev pub left_due : Option (List ℕ) → List ℕ → Due
+left_due left table = dues (left_text left) table (left_outcome left)
 
 -- ---- a run
 
@@ -61,12 +57,13 @@ pub record IsWholeDue (now : Cell) (due : Due) (bytes : List ℕ) : Type 0 where
   pub spells : Spells profile bytes now envelope
   pub due_is : due ≡ dues (envelope_text profile envelope) [] Written
 
--- with kinds, this is due where they are taken out of an envelope that the bytes spell
+-- with kinds, the text of what is left of an envelope that the bytes spell is due where they are
+-- taken out, and the table of the losses
 pub record IsRestDue (set : Settings) (due : Due) (bytes : List ℕ) : Type 0 where
-  pub header : Cell
-  pub items : List EnvelopeItem
-  pub spells : Spells profile bytes set.now (model header items)
-  pub takes_out : TakesOut set.kinds set.keep_headers header items due
+  pub text : Option (List ℕ)
+  pub losses : List ItemLoss
+  pub left : IsTextOfLeft (is_none_of set.kinds) set.keep_headers bytes set.now text losses
+  pub due_is : due ≡ left_due text (table_of losses)
 
 abbrev pub IsDueBy : List ItemKind → Settings → Due → List ℕ → Type 0
 IsDueBy [] set due bytes = IsWholeDue set.now due bytes
@@ -107,24 +104,6 @@ abbrev pub DueIsSettled : Type 0
 DueIsSettled = (set : Settings) (bytes : List ℕ) (due due' : Due) → NothingDrawnIn profile bytes → IsDueFor set due bytes → IsDueFor set due' bytes → due ≡ due'
 
 -- ---- parts of a run
-
--- the text of what is left of an envelope: nothing where nothing is
-abbrev pub left_text : Option Envelope → List ℕ
-left_text None = []
-left_text (Some envelope) = text_of envelope
-
-abbrev pub left_outcome : Option Envelope → Outcome
-left_outcome None = NothingLeft
-left_outcome (Some envelope) = Written
-
--- what is due for what is left of an envelope, with a table
-abbrev pub left_due : Option Envelope → List ℕ → Due
-left_due left table = dues (left_text left) table (left_outcome left)
-
--- what is left can be written
-abbrev pub IsWritable : Option Envelope → Type 0
-IsWritable None = ⊤
-IsWritable (Some envelope) = IsUnwritable envelope → ⊥
 
 -- a text was sent or not, by the answer
 abbrev pub Sends : {A : Type 0} → Stream → Stream → List ℕ → Result A RunError → Type 0

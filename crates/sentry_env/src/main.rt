@@ -10,7 +10,6 @@
 mod args;
 mod ending;
 mod laws;
-mod loss_filter;
 mod read_all;
 mod run;
 

@@ -7,12 +7,9 @@ use Rattle.sentry_envelope.specs.declared.envelope.Envelope.{Envelope}
 use Rattle.sentry_envelope.specs.declared.headers.EnvelopeHeaders.{EnvelopeHeaders}
 use Rattle.sentry_envelope.specs.declared.envelope.Contents.{Contents}
 use Rattle.sentry_envelope.specs.declared.envelope.Contents.TheVariants as variants
-use Rattle.sentry_envelope.specs.Envelope.{envelope_text}
-use Rattle.sentry_envelope.specs.EnvelopeView.{items as held_items, held_in, header_of, item_view, model, text_by, text_of}
 use Rattle.sentry_envelope.specs.HeaderFields.{put_id, headers_cell}
-use Rattle.sentry_envelope.specs.SentryProfile.{profile}
 use Rattle.sentry_tables.specs.Cell.{Cell}
-use Rattle.sentry_envelope.specs.Filter.{Call, Ask, Hand, Run, id_of, asks, chosen, is_main, is_orphan, orphans, kept, Asks, Filters, FiltersEnvelope, first_id_of, structured_in, IsMadeOf, LeavesOf}
+use Rattle.sentry_envelope.specs.Filter.{Call, Ask, Hand, Run, id_of, asks, chosen, is_main, is_orphan, orphans, kept, Asks, Filters, FiltersEnvelope, first_id_of, IsMadeOf, LeavesOf}
 
 -- `Raw` gives no id, and is no orphan
 raw_orphans : orphans (item_variants.Raw ∷ []) ≡ []
@@ -29,15 +26,6 @@ made_leaves : (contents : Contents) (items : Vec EnvelopeItem Global) (header : 
 made_leaves contents items header envelope [] made is some of = absurd (some refl)
 made_leaves (variants.Items held) items header envelope (x ∷ xs) made is some of = of
 made_leaves (variants.Raw bytes) items header envelope (x ∷ xs) made is some of = absurd (cc)
-
-held_structured : (contents : Contents) (items : List EnvelopeItem) → structured_in contents ≡ Some items → held_in contents ≡ held_items (map item_view items)
-held_structured (variants.Items all) items is = let same : all.items ≡ items = cc in ap (λ (is : List EnvelopeItem). held_items (map item_view is)) same
-held_structured (variants.Raw bytes) items is = cc
-
--- the text of an envelope that is made of some items
-pub made_text : (header : Cell) (items : List EnvelopeItem) (made : Envelope) → IsMadeOf header items made → text_of made ≡ envelope_text profile (model (put_id (first_id_of items) header) items)
-made_text header items made of =
-    ap (text_by (header_of made)) (held_structured made.contents items of.items_are) ∙ ap (λ (h : Cell). text_by h (held_items (map item_view items))) of.header_is
 
 module _ {F : Type 0} (ask : F → EnvelopeItem → Bool → F → Type 0) (hand : F → EnvelopeItem → F → Type 0) where
   pub Run-append : (first : F) (calls : List Call) (next : F) (more : List Call) (last : F) → Run ask hand first calls next → Run ask hand next more last → Run ask hand first (calls ++ more) last

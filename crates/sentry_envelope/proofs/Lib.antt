@@ -25,6 +25,7 @@ pub mod FrameItems
 pub mod EnvelopeLaws
 pub mod OneEnvelope
 pub mod RawEnvelopes
+pub mod GivenIds
 pub mod Rewriting
 pub mod EnvelopeFill
 pub mod EnvelopeForwarded
@@ -32,6 +33,7 @@ pub mod EnvelopeSample
 pub mod ConservationLemmas
 pub mod LossLemmas
 pub mod FilterLemmas
+pub mod LeftItems
 pub mod Equal
 pub mod Accepted
 pub mod HeaderIds

@@ -73,7 +73,7 @@ or_or : (a b c : Cell) → or_else (or_else a b) c ≡ or_else a (or_else b c)
 or_or absent b c = refl
 or_or _ b c = refl
 
-first_of_more : (ts : List ItemType) (is : List Item) (i : Item) → first_id ts (is ++ i ∷ []) ≡ or_else (first_id ts is) (given_by ts i)
+pub first_of_more : (ts : List ItemType) (is : List Item) (i : Item) → first_id ts (is ++ i ∷ []) ≡ or_else (first_id ts is) (given_by ts i)
 first_of_more ts [] i = or_absent (given_by ts i)
 first_of_more ts (j ∷ is) i = ap (or_else (given_by ts j)) (first_of_more ts is i) ∙ sym (or_or (given_by ts j) (first_id ts is) (given_by ts i))
 
@@ -100,6 +100,10 @@ pub main_passed : (gives : Cell → Cell) (now : Cell) (K : Kind) (line : List �
 unfolding IsValuePassed
 main_passed gives now K line c None u old new none shown wrote is = (c, shown, wrote, is)
 main_passed gives now K line c (Some i) u old new none shown wrote is = absurd cc
+
+pub none_passed : (gives : Cell → Cell) (now : Cell) (K : Kind) (line : List ℕ) (id after : Option Uuid) (old new : Written) → is_some id ≡ false → IsValuePassed gives now K line None after old new → IsValuePassed gives now K line id after old new
+none_passed gives now K line None after old new none x = x
+none_passed gives now K line (Some i) after old new none x = absurd cc
 
 -- no number in the tree of a value that a line shows is held as a float
 module _ (now : Moment) (K : Kind) (laws : IsLawful K) (line : List ℕ) where
@@ -240,7 +244,7 @@ container_not_written frame k K kind fits (Err x) (inr (is, refused)) = inr (is,
 -- ---- items
 
 -- what is written, one item more
-items_more : (P : Profile) (is : List Item) (i : Item) → items_text P (is ++ i ∷ []) ≡ items_text P is ++ frame_text (frame_of_item P i) []
+pub items_more : (P : Profile) (is : List Item) (i : Item) → items_text P (is ++ i ∷ []) ≡ items_text P is ++ frame_text (frame_of_item P i) []
 items_more P [] i = refl
 items_more P (j ∷ is) i =
     let f = frame_of_item P j in

@@ -7,6 +7,7 @@ pub mod EnvelopeLosses
 pub mod EnvelopeMade
 pub mod EnvelopeView
 pub mod Filter
+pub mod FilteredText
 pub mod ForwardLaws
 pub mod HeaderFields
 pub mod ItemAdded

@@ -1,10 +1,15 @@
 -- The envelopes of Sentry: their header, and the types of their items.
-use Rattle.std.specs.Prelude.{ℕ, List, map, codes, bytes_eq, if◌then◌else◌}
+use Rattle.std.specs.Prelude.{ℕ, List, map, codes, bytes_eq, cond, if◌then◌else◌}
 use Rattle.sentry_tables.specs.Cell.{Cell, absent, fields, Cells, no_cells, cell}
-use Rattle.sentry_tables.specs.Kind.{Kind, table, Rows, no_rows, row}
+use Rattle.sentry_tables.specs.Kind.{Kind, table, Rule, draw, Rows, no_rows, row}
+use Rattle.sentry_tables.specs.Shows.{Shows}
+use Rattle.serde_json.specs.Data.{Data}
+use Rattle.sentry_identifiers.specs.Uuids.{simple_kind}
 use Rattle.sentry_framing.specs.ItemWords.{item_kinds, kind_word}
 use Rattle.sentry_framing.specs.declared.kind.ItemKind.{ItemKind}
 use Rattle.sentry_framing.specs.declared.kind.ItemKind.TheVariants as kinds
+use Rattle.sentry_event.specs.Events.{event_fields, event_kind}
+use Rattle.sentry_event.specs.Transactions.{transaction_fields, transaction_kind}
 use Rattle.sentry_records.specs.Logs.{log_kind}
 use Rattle.sentry_records.specs.Metrics.{metric_kind}
 use Rattle.sentry_items.specs.Containers.{log_content_type, metric_content_type}
@@ -24,6 +29,27 @@ cell_at key (row k r K rows) (cell c cs) = if bytes_eq key k then c else cell_at
 abbrev pub held_at : List ℕ → Kind → Cell → Cell
 held_at key (table rows other) (fields cs ms) = cell_at key rows cs
 held_at key _ _ = absent
+
+abbrev pub IsDrawnId : Rule → Kind → Type 0
+IsDrawnId (draw Drawn) K = (now : Cell) (d : Data) (c : Cell) → Shows K now d c → Shows simple_kind now d c
+IsDrawnId _ K = ⊥
+
+abbrev pub RowSaysId : List ℕ → Rows → Type 0
+RowSaysId key no_rows = ⊥
+RowSaysId key (row k r K rows) = cond (bytes_eq key k) (IsDrawnId r K) (RowSaysId key rows)
+
+-- the first row of this key is of ids, which are drawn where they are absent
+abbrev pub SaysId : List ℕ → Kind → Type 0
+SaysId key (table rows other) = RowSaysId key rows
+SaysId key _ = ⊥
+
+pub event_says_id : SaysId (codes "event_id") event_kind
+unfolding event_fields
+event_says_id = λ now d c shows. shows
+
+pub transaction_says_id : SaysId (codes "event_id") transaction_kind
+unfolding transaction_fields
+transaction_says_id = λ now d c shows. shows
 
 -- ---- types of items
 

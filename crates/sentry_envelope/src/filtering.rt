@@ -222,7 +222,7 @@ fn has_main(items: &[EnvelopeItem]) -> bool
 }
 
 // Replaces the event id; `keep_headers` tells whether the other headers stay.
-fn headers_of_rest(
+pub(crate) fn headers_of_rest(
     headers: EnvelopeHeaders,
     keep_headers: bool,
     event_id: Option<Uuid>,

@@ -88,7 +88,7 @@ pub(crate) fn read_items<'l, 'a: 'l, R: Rng>(
 // An item is large, and each stack slot that may hold one is cleared on entry to a function. Each
 // type of payload is therefore read, and its item appended, by a function of its own, and a small
 // item doesn't pay for the slots of the others.
-fn add_item<'a, R: Rng>(
+pub(crate) fn add_item<'a, R: Rng>(
     lines: &mut LineReader<'a>,
     frame: &ItemFrame<'a>,
     header: &mut ItemHeader,

@@ -47,7 +47,7 @@ use std::mem;
 use uuid::Uuid;
 
 // Room for a text before it is built.
-const ROOM: usize = 512;
+pub(crate) const ROOM: usize = 512;
 
 /// Parses an envelope, and returns the text of its normal form. Most of it is written as it is
 /// read, and no value is made of it.
@@ -95,7 +95,7 @@ pub fn normal_text<'a, R: Rng>(
 }
 
 // Returns the header line with its line feed.
-fn line_of(alloc: Global, headers: &EnvelopeHeaders) -> Result<Vec<u8>, AllocError>
+pub(crate) fn line_of(alloc: Global, headers: &EnvelopeHeaders) -> Result<Vec<u8>, AllocError>
     ensures { IfOk result (λ line. IsStoredAndPlain header_kind (headers_cell headers.now)
         → line.items ≡ with_line (compact_text (tree header_kind (headers_cell headers.now))) []) }
 {
@@ -131,7 +131,7 @@ fn write_items<'l, 'a: 'l, R: Rng>(
 
 // Appends the item of a frame. Strings are moved out of `header`; a JSON payload is built in the
 // buffer `payload`.
-fn write_frame<'l, 'a: 'l, R: Rng>(
+pub(crate) fn write_frame<'l, 'a: 'l, R: Rng>(
     lines: &mut LineReader<'l>,
     frame: &ItemFrame<'a>,
     header: &mut ItemHeader,

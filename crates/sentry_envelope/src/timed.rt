@@ -1,20 +1,21 @@
 //! Reading of JSON lines that fills absent timestamps and ids.
 
-ghost use Rattle.std.specs.Prelude.{◌≡◌, IfOk, IfSome, codes};
+ghost use Rattle.std.specs.Prelude.{◌≡◌, IfErr, IfOk, IfSome, None, Ok, Some, codes};
 ghost use Rattle.sentry_tables.specs.Cell.{octets};
 ghost use Rattle.sentry_tables.specs.Passed.{PassesTextAt};
-ghost use Rattle.sentry_tables.specs.Reading.{ReadsTextAt, ShownAt, RefusedAt, TextShownAt};
+ghost use Rattle.sentry_tables.specs.Reading.{Only, ReadsTextAt, ShownAt, RefusedAt, TextRefusedAt, TextShownAt};
 ghost use Rattle.sentry_moments.specs.Moments.{moment_cell};
-ghost use Rattle.sentry_envelope.specs.NormalText.{PassesValue};
-ghost use Rattle.sentry_envelope.specs.SentryProfile.{held_at};
+ghost use Rattle.sentry_envelope.specs.NormalText.{IsValuePassed, PassesValue};
+ghost use Rattle.sentry_envelope.specs.SentryProfile.{held_at, event_says_id, SaysId, transaction_says_id};
 
 use bumpalo::Bump;
 use rand_core::Rng;
 use sentry_event::{EXTRA, Event, ReadApart, Transaction};
+use sentry_identifiers::Simple;
 use sentry_json::{Node, Parsed, Writer};
 use sentry_moments::Moment;
 use sentry_rows::FromTreeAt;
-use sentry_tables::{LineReader, ReadsNode, TreeError, read_tree};
+use sentry_tables::{LineReader, ReadCodec, ReadsNode, TreeError, read_tree};
 use std::alloc::{AllocError, Global};
 use uuid::Uuid;
 
@@ -142,9 +143,14 @@ pub(crate) trait Main: ReadApart {
     fn id(&self) -> Uuid
         ensures { octets result ≡
             held_at (codes "event_id") Self.kind (Self.cell_of self.now) };
+
+    // the first row at the key `event_id` draws ids that are absent
+    ghost says_id: { SaysId (codes "event_id") Self.Member.kind };
 }
 
 impl<'e> Main for Box<Event<'e>> {
+    ghost says_id = { event_says_id };
+
     #[tactic(auto, unfolding(sentry_event::specs::Events::event_fields))]
     fn id(&self) -> Uuid {
         self.as_ref().event_id
@@ -152,14 +158,16 @@ impl<'e> Main for Box<Event<'e>> {
 }
 
 impl<'e> Main for Box<Transaction<'e>> {
+    ghost says_id = { transaction_says_id };
+
     #[tactic(auto, unfolding(sentry_event::specs::Transactions::transaction_fields))]
     fn id(&self) -> Uuid {
         self.as_ref().event_id
     }
 }
 
-// As `pass_at`, and fills an absent id with that of the value: only then a value is made.
-#[tactic(auto, using(crate::proofs::Rewriting::passes_main))]
+// As `pass_at`, and fills an absent id with that of the value.
+#[tactic(auto, using(crate::proofs::Rewriting::passes_main, crate::proofs::Rewriting::none_passed))]
 pub(crate) fn pass_main<'a, T: Main, R: Rng>(
     lines: &mut LineReader<'a>,
     line: &'a [u8],
@@ -174,10 +182,45 @@ pub(crate) fn pass_main<'a, T: Main, R: Rng>(
     if id.is_some() {
         return pass_at::<T, R>(lines, line, now, ids, out);
     }
+    if let Some(given) = pass_given::<T, R>(lines, line, now, ids, out)? {
+        *id = Some(given);
+        return Ok(());
+    }
     let value: T = read_apart_at(lines, line, now, ids)?;
     value.write(out)?;
     *id = Some(value.id());
     Ok(())
+}
+
+// Writes the event or transaction of a line that says its id, and returns the id; `None` if
+// nothing was written, since a value has to be made of the line.
+#[tactic(auto, using(crate::proofs::GivenIds::given_passed, crate::proofs::GivenIds::refused_line))]
+fn pass_given<'a, T: Main, R: Rng>(
+    lines: &mut LineReader<'a>,
+    line: &'a [u8],
+    now: Moment,
+    ids: &mut R,
+    out: &mut Writer,
+) -> Result<Option<Uuid>, TreeError>
+    ensures passed { IfOk result (λ given. IfSome given (λ id.
+        IsValuePassed (held_at (codes "event_id") T.kind) (moment_cell now) T.kind line.now
+        None (Some id) out.old out.new)) }
+    ensures none { result ≡ Ok None → out.new ≡ out.old }
+    ensures refused { IfErr result (λ e. Only e (TextRefusedAt (moment_cell now) T.kind line.now)) }
+{
+    let alloc = lines.alloc();
+    let Parsed::Root(root) = lines.parse(line)? else {
+        return Ok(None);
+    };
+    let Some(member) = root.get("event_id") else {
+        return Ok(None);
+    };
+    let read: Result<Uuid, TreeError> = Simple::from_node(alloc, &member);
+    let Ok(id) = read else {
+        return Ok(None);
+    };
+    T::pass(alloc, &root, now, ids, out)?;
+    Ok(Some(id))
 }
 
 /// Reads a value from a JSON line; `now` fills absent timestamps, `ids` absent ids.

@@ -1,18 +1,12 @@
--- The sums of losses that are added one by one, and those of a filter that adds what it is handed.
-use Rattle.std.proofs.Common.{arith, ◌≡◌, ℕ, ◌+◌, ◌-◌, ◌^◌, ◌<◌, ◌≤◌, ◌≢◌, min, Bool, true, false, List, [], ◌∷◌, length, fold, get_or, ◌==◌, ◌⊎◌, inl, inr, refl, ap, sym, ◌∙◌, Option, get_or-set_same, get_or-set_other}
-use Rattle.std.specs.List.{filter_map}
-use Rattle.std.proofs.lemmas.List.{length-set, length-replicate, get_or-replicate}
-use Rattle.std.proofs.lemmas.List.Sums.{fold-append}
+-- The sums of losses that are added one by one.
+use Rattle.std.proofs.Common.{arith, ◌≡◌, ℕ, ◌+◌, ◌-◌, ◌^◌, ◌<◌, ◌≤◌, ◌≢◌, min, Bool, true, false, List, [], ◌∷◌, length, fold, take, get_or, ◌==◌, ◌⊎◌, inl, inr, refl, ap, subst, sym, ◌∙◌, Option, get_or-set_same, get_or-set_other}
+use Rattle.std.proofs.lemmas.List.{length-set, length-replicate, get_or-replicate, take_all}
 use Rattle.std.proofs.lemmas.Bool.Decides.{eqb_tells}
-use Rattle.sentry_items.specs.Losses.{losses_of_item, losses_of_items}
-use Rattle.sentry_items.specs.declared.item.EnvelopeItem.{EnvelopeItem}
 use Rattle.sentry_reports.specs.Sums.{place, lost}
 use Rattle.sentry_reports.specs.declared.category.Category.{Category}
 use Rattle.sentry_reports.specs.declared.item_loss.ItemLoss.{ItemLoss}
 use Rattle.sentry_reports.specs.declared.reason.Reason.{Reason}
 use Rattle.sentry_reports.proofs.Sums.{share, place_below, share_here, share_elsewhere, lost-cons}
-use Rattle.sentry_envelope.specs.Filter.{Call, Ask, Hand, Run, calls, handed, item_of_hand}
-use Rattle.sentry_envelope.proofs.FilterLemmas.{Run-follows}
 use Rattle.sentry_ledger.specs.LossSums.{SumsLosses, add_loss, no_sums, sum_at}
 use Rattle.sentry_ledger.specs.declared.loss_sums.LossSums.{LossSums}
 use Rattle.sentry_ledger.specs.declared.loss_sums.TheConstants.{SUMS}
@@ -57,27 +51,8 @@ sums_losses sums losses none =
       each = λ c r. summed losses sums c r long (omega (arith, start c r)) ∙ omega (arith, start c r);
     }
 
--- ---- filters
-
--- the sums after a call
-abbrev after : LossSums → Call → LossSums
-after sums (Ask item answer) = sums
-after sums (Hand item) = fold add_loss sums (losses_of_item item)
-
-after_all : (made : List Call) (sums : LossSums) → fold after sums made ≡ fold add_loss sums (losses_of_items (filter_map item_of_hand made))
-after_all [] sums = refl
-after_all (Ask item answer ∷ made) sums = after_all made sums
-after_all (Hand item ∷ made) sums = after_all made (fold add_loss sums (losses_of_item item)) ∙ sym (fold-append add_loss sums (losses_of_item item) (losses_of_items (filter_map item_of_hand made)))
-
--- a filter with sums in it, which are unchanged by an ask, and to which each hand adds the losses
--- of its item
-module _ {F : Type 0} (ask : F → EnvelopeItem → Bool → F → Type 0) (hand : F → EnvelopeItem → F → Type 0) (sums_in : F → LossSums)
-    (on_ask : (first : F) (item : EnvelopeItem) (answer : Bool) (next : F) → ask first item answer next → sums_in next ≡ sums_in first)
-    (on_hand : (first : F) (item : EnvelopeItem) (next : F) → hand first item next → sums_in next ≡ fold add_loss (sums_in first) (losses_of_item item)) where
-  -- the sums after a run, from nothing, are those of what was handed over
-  pub sums_of_run : (items : List EnvelopeItem) (answers : List Bool) (first last : F) → (sums_in first).row ≡ no_sums → Run ask hand first (calls items answers) last
-      → SumsLosses (sums_in last) (losses_of_items (handed items answers))
-  sums_of_run items answers first last none run =
-      let all : sums_in last ≡ fold add_loss (sums_in first) (losses_of_items (handed items answers)) =
-      Run-follows ask hand sums_in after on_ask on_hand first (calls items answers) last run ∙ after_all (calls items answers) (sums_in first) in
-      rw all (sums_losses (sums_in first) (losses_of_items (handed items answers)) none)
+-- sums to which all losses were added, from nothing
+pub all_summed : (sums : LossSums) (losses : List ItemLoss) (n : ℕ) → length losses ≤ n → sums ≡ fold add_loss (record { row = no_sums }) (take n losses) → SumsLosses sums losses
+all_summed sums losses n all is =
+    let added : sums ≡ fold add_loss (record { row = no_sums }) losses = is ∙ ap (fold add_loss (record { row = no_sums })) (take_all n losses all) in
+    subst (λ (s : LossSums). SumsLosses s losses) (sym added) (sums_losses (record { row = no_sums }) losses refl)

@@ -1,11 +1,9 @@
 //! Sums of losses, by category and reason.
 
-ghost use Rattle.std.specs.Prelude.{◌≡◌, ◌<◌, fold};
-ghost use Rattle.sentry_items.specs.Losses.{losses_of_item};
+ghost use Rattle.std.specs.Prelude.{◌≡◌, ◌<◌};
 ghost use Rattle.sentry_reports.specs.Sums.{place};
-ghost use Rattle.sentry_ledger.specs.LossSums.{add_loss, no_sums, sum_at};
+ghost use Rattle.sentry_ledger.specs.LossSums.{SumsLosses, add_loss, no_sums, sum_at};
 
-use sentry_items::{EnvelopeItem, LossSource};
 use sentry_reports::{Category, ItemLoss, Reason};
 use sentry_words::IndexedEnum;
 
@@ -41,6 +39,17 @@ impl LossSums {
         LossSums { row: [0; SUMS] }
     }
 
+    /// Sums losses.
+    pub fn of(losses: &[ItemLoss]) -> LossSums
+        ensures { SumsLosses result losses.now }
+    {
+        let mut sums = LossSums::new();
+        for loss in losses {
+            sums.add(*loss);
+        }
+        sums
+    }
+
     /// Returns the quantity of a category that was lost for a reason, or without one.
     pub fn sum(&self, category: Category, reason: Option<Reason>) -> u64
         ensures { result ≡ sum_at self.now category reason }
@@ -61,15 +70,6 @@ impl LossSums {
     {
         let place = place(loss.category, loss.reason);
         self.row[place] = self.row[place].saturating_add(loss.quantity);
-    }
-
-    /// Adds the losses of an item.
-    pub fn add_item(&mut self, item: &EnvelopeItem)
-        ensures { self.new ≡ fold add_loss self.old (losses_of_item item.now) }
-    {
-        for loss in item.losses() {
-            self.add(loss);
-        }
     }
 }
 

@@ -7,15 +7,16 @@ ghost use Rattle.sentry_envelope.specs.EnvelopeView.{item_view};
 ghost use Rattle.sentry_envelope.specs.SentryProfile.{profile};
 ghost use Rattle.sentry_forward.specs.View.{any_frame, word_of};
 ghost use Rattle.sentry_tables.specs.Cell.{Cell};
-ghost use Rattle.sentry_items.specs.Losses.{losses_of_item, one_or_none};
+ghost use Rattle.sentry_items.specs.Losses.{one_or_none};
 ghost use Rattle.sentry_reports.specs.declared.item_loss.ItemLoss.{ItemLoss as ItemLosses};
 ghost use Rattle.sentry_ledger.specs.FrameLosses.{AreLossesOf, AreLossesOfAll, category_of_type, depends_on_payload, loss_by_type};
 
 use rand_pcg::Pcg32;
+use sentry_envelope::losses::push_losses;
 use sentry_envelope::{EnvelopeError, read_item};
 use sentry_forward::AnyFrame;
 use sentry_framing::ItemKind;
-use sentry_items::{EnvelopeItem, LossSource};
+use sentry_items::EnvelopeItem;
 use sentry_moments::Moment;
 use sentry_reports::{Category, ItemLoss};
 use std::alloc::{AllocError, Global};
@@ -107,16 +108,6 @@ fn read_typed(alloc: Global, frame: &AnyFrame<'_>) -> Result<Option<EnvelopeItem
     }
 }
 
-// Appends the losses of an item.
-fn push_item(losses: &mut Vec<ItemLoss>, item: &EnvelopeItem) -> Result<(), AllocError>
-    ensures { OnOk result (losses.new.items ≡ losses.old.items ++ losses_of_item item.now) }
-{
-    for loss in item.losses() {
-        losses.push(loss)?;
-    }
-    Ok(())
-}
-
 // Appends the loss that a frame has by its item type, if any.
 fn push_by_type(losses: &mut Vec<ItemLoss>, frame: &AnyFrame<'_>) -> Result<(), AllocError>
     ensures { OnOk result (losses.new.items ≡ losses.old.items
@@ -143,7 +134,7 @@ fn push_frame(
     }
     match read_typed(alloc, frame)? {
         Some(item) => {
-            let pushed = push_item(losses, &item);
+            let pushed = push_losses(&item, losses);
             drop(item);
             pushed?;
             Ok(())
@@ -158,7 +149,7 @@ fn push_frame(
 /// Returns the losses of a frame: what counts as lost if its item is not sent.
 ///
 /// If the frame reads as an item ([`read_item`]), its losses are those of the item
-/// ([`LossSource`]). Else they are the loss of its item type, without a reason: an attachment's
+/// ([`LossSource`](sentry_items::LossSource)). Else they are the loss of its item type, without a reason: an attachment's
 /// bytes, and 1 in any other category; none for a type without a category ([`category_of_type`]).
 /// This holds of frames whose `word` is that of their header, as of all that `AnyFrames` gives.
 ///

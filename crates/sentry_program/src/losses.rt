@@ -2,7 +2,7 @@
 
 ghost use Rattle.std.specs.Prelude.{◌≡◌, ◌++◌, IfOk, OnOk, Some, string_bytes};
 ghost use Rattle.std.specs.List.{flat_map};
-ghost use Rattle.sentry_ledger.specs.LossSums.{SumsLosses, sum_at};
+ghost use Rattle.sentry_ledger.specs.LossSums.{sum_at};
 ghost use Rattle.sentry_program.specs.Table.{line_of, lines_by, reason_text, table_by, table_of};
 
 use sentry_ledger::loss_sums::LossSums;
@@ -87,24 +87,11 @@ pub fn table(alloc: Global, sums: &LossSums) -> Result<String, AllocError>
     Ok(text)
 }
 
-// Sums losses by category and reason.
-fn sums_of(losses: &[ItemLoss]) -> LossSums
-    ensures { SumsLosses result losses.now }
-{
-    let mut sums = LossSums::new();
-    let mut left = losses;
-    while let Some((loss, rest)) = left.split_first() {
-        sums.add(*loss);
-        left = rest;
-    }
-    sums
-}
-
 /// Returns the table of the sums of these losses. `AllocError` if an allocation fails.
 #[tactic(auto, using(crate::proofs::TableLemmas::table_of_sums))]
 pub fn table_of(alloc: Global, losses: &[ItemLoss]) -> Result<String, AllocError>
     ensures { IfOk result (λ text. string_bytes text ≡ table_of losses.now) }
 {
-    let text = table(alloc, &sums_of(losses))?;
+    let text = table(alloc, &LossSums::of(losses))?;
     Ok(text)
 }

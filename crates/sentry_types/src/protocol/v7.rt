@@ -10,7 +10,7 @@ pub use sentry_envelope::timed::read_line_at;
 pub use sentry_envelope::{
     AddRefused, CountedReader, CountedWriter, Envelope, EnvelopeError, EnvelopeFilter,
     EnvelopeFilterCallbacks, EnvelopeHeaders, EnvelopeItemIter, EnvelopeWriteError, Frames,
-    IntoItems, ItemFrame, laws, normal_text, read_item,
+    IntoItems, ItemFrame, filtered, laws, normal_text, read_item,
 };
 pub use sentry_event::{AsFingerprint, Event, Span, Transaction};
 pub use sentry_forward::{
