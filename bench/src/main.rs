@@ -13,7 +13,8 @@ use std::process::ExitCode;
 const USAGE: &str = "usage: beside agree SEED COUNT
        beside agree FILE
        beside speed ROUNDS PATH..
-       beside speed --once ours|theirs read|both FILE COUNT
+       beside speed --once ours|theirs read|both|TYPE FILE COUNT
+       beside speed --filter ROUNDS PATH..
        beside speed --memory PATH..
        beside speed --frames ROUNDS PATH..";
 
@@ -40,6 +41,10 @@ fn run(words: &[&str]) -> Option<Result<bool, std::io::Error>> {
         ["speed", "--frames", rounds, paths @ ..] if !paths.is_empty() => {
             let rounds = number(rounds).filter(|rounds| *rounds > 0)?;
             Some(speed::frames(rounds, paths).map(|()| true))
+        }
+        ["speed", "--filter", rounds, paths @ ..] if !paths.is_empty() => {
+            let rounds = number(rounds).filter(|rounds| *rounds > 0)?;
+            Some(speed::filter(rounds, paths).map(|()| true))
         }
         ["speed", rounds, paths @ ..] if !paths.is_empty() => {
             let rounds = number(rounds).filter(|rounds| *rounds > 0)?;

@@ -1,7 +1,8 @@
 //! Times both over the same inputs, one after the other in each round.
 
 use crate::answers::{self, Answer, NOW, SEED};
-use sentry_types::protocol::v7::Envelope;
+use curdmesa::{ItemKind, Kinds};
+use sentry_types::protocol::v7::{Envelope, EnvelopeItem, ItemContainer};
 use std::borrow::Cow;
 use std::fs;
 use std::hint::black_box;
@@ -21,18 +22,23 @@ const MORE: usize = 64;
 pub enum Work {
     OursRead,
     OursBoth,
+    /// Reads, takes out the items of a type and writes what is left.
+    OursWithout(ItemKind),
     TheirsRead,
     TheirsBoth,
+    TheirsWithout(ItemKind),
 }
 
 impl Work {
-    /// Returns the work of two words.
+    /// Returns the work of two words; the second of a filter is the item type that is taken out.
     pub fn from_words(side: &str, part: &str) -> Option<Work> {
         match (side, part) {
             ("ours", "read") => Some(Work::OursRead),
             ("ours", "both") => Some(Work::OursBoth),
             ("theirs", "read") => Some(Work::TheirsRead),
             ("theirs", "both") => Some(Work::TheirsBoth),
+            ("ours", kind) => Some(Work::OursWithout(kind.parse().ok()?)),
+            ("theirs", kind) => Some(Work::TheirsWithout(kind.parse().ok()?)),
             _ => None,
         }
     }
@@ -42,17 +48,19 @@ impl Work {
         match self {
             Work::OursRead => ["ours", "read"],
             Work::OursBoth => ["ours", "both"],
+            Work::OursWithout(kind) => ["ours", kind.as_str()],
             Work::TheirsRead => ["theirs", "read"],
             Work::TheirsBoth => ["theirs", "both"],
+            Work::TheirsWithout(kind) => ["theirs", kind.as_str()],
         }
     }
 
     /// Returns a buffer for what is written of an input; the work may be done again with it.
     fn buffer(self, input: &Input) -> Vec<u8> {
         match self {
-            Work::OursRead | Work::TheirsRead => Vec::new(),
+            Work::OursRead | Work::OursWithout(_) | Work::TheirsRead => Vec::new(),
             Work::OursBoth => vec![0; input.room],
-            Work::TheirsBoth => Vec::with_capacity(input.room),
+            Work::TheirsBoth | Work::TheirsWithout(_) => Vec::with_capacity(input.room),
         }
     }
 
@@ -62,6 +70,7 @@ impl Work {
         match self {
             Work::OursRead => curdmesa::check(bytes, NOW).is_ok(),
             Work::OursBoth => black_box(&curdmesa::normalize_into(bytes, NOW, SEED, out)).is_ok(),
+            Work::OursWithout(kind) => ours_without(bytes, kind).is_some(),
             Work::TheirsRead => black_box(&Envelope::from_slice(bytes)).is_ok(),
             Work::TheirsBoth => {
                 out.clear();
@@ -70,6 +79,7 @@ impl Work {
                 black_box(&out);
                 accepted
             }
+            Work::TheirsWithout(kind) => theirs_without(bytes, kind, out).is_some(),
         }
     }
 
@@ -89,6 +99,41 @@ impl Work {
             times *= 2;
         }
         times
+    }
+}
+
+/// Takes the items of a type out of an envelope, and returns whether any is left; `None` if the
+/// envelope is refused.
+fn ours_without(bytes: &[u8], removed: ItemKind) -> Option<bool> {
+    let filtered = curdmesa::filter(bytes, NOW, SEED, Kinds::Remove(&[removed]), false);
+    Some(black_box(&filtered).as_ref().ok()?.envelope.is_some())
+}
+
+/// Does the same by the Rust crate, with a buffer for what is written.
+fn theirs_without(bytes: &[u8], removed: ItemKind, out: &mut Vec<u8>) -> Option<bool> {
+    out.clear();
+    let envelope = Envelope::from_slice(bytes).ok()?;
+    let left = envelope.filter(|item: &EnvelopeItem| kind(item) != Some(removed));
+    if let Some(left) = &left {
+        left.to_writer(&mut *out).ok()?;
+    }
+    black_box(&out);
+    Some(left.is_some())
+}
+
+/// Returns the type of an item of the Rust crate.
+fn kind(item: &EnvelopeItem) -> Option<ItemKind> {
+    match item {
+        EnvelopeItem::Event(_) => Some(ItemKind::Event),
+        EnvelopeItem::SessionUpdate(_) => Some(ItemKind::Session),
+        EnvelopeItem::SessionAggregates(_) => Some(ItemKind::Sessions),
+        EnvelopeItem::Transaction(_) => Some(ItemKind::Transaction),
+        EnvelopeItem::Attachment(_) => Some(ItemKind::Attachment),
+        EnvelopeItem::MonitorCheckIn(_) => Some(ItemKind::CheckIn),
+        EnvelopeItem::ItemContainer(ItemContainer::Logs(_)) => Some(ItemKind::Log),
+        EnvelopeItem::ItemContainer(ItemContainer::Metrics(_)) => Some(ItemKind::TraceMetric),
+        EnvelopeItem::ClientReport(_) => Some(ItemKind::ClientReport),
+        _ => None,
     }
 }
 
@@ -190,6 +235,7 @@ fn files(paths: &[&str]) -> Result<Vec<PathBuf>> {
             for entry in fs::read_dir(path)? {
                 inside.push(entry?.path());
             }
+            inside.retain(|path| path.is_file());
             inside.sort();
             files.extend(inside);
         } else {
@@ -220,6 +266,31 @@ pub fn run(rounds: u64, paths: &[&str]) -> Result<()> {
             both.text(),
             written(&read, &both)
         );
+    }
+    Ok(())
+}
+
+/// Prints a table of the inputs that both accept, of which a type is taken out that no item has, and
+/// the type of the first item. Panics if only one of the two leaves something.
+pub fn filter(rounds: u64, paths: &[&str]) -> Result<()> {
+    println!("| Input | Bytes | Ours, kept | Theirs | Ratio | Ours, taken | Theirs | Ratio |");
+    println!("|---|---|---|---|---|---|---|---|");
+    for file in files(paths)? {
+        let Some(input) = Input::read(&file)? else {
+            continue;
+        };
+        let bytes = &input.bytes;
+        let Some(Ok(first)) = curdmesa::frames(bytes).next() else {
+            continue;
+        };
+        // The Rust crate refuses user reports.
+        let [kept, taken] = [ItemKind::UserReport, first.kind].map(|kind| {
+            let left = theirs_without(bytes, kind, &mut Vec::new());
+            assert_eq!(ours_without(bytes, kind), left, "{}: {kind}", name(&file));
+            let (ours, theirs) = (Work::OursWithout(kind), Work::TheirsWithout(kind));
+            Pair::measure(ours, theirs, &input, rounds).text()
+        });
+        println!("| {} | {} | {kept} | {taken} |", name(&file), bytes.len());
     }
     Ok(())
 }
