@@ -187,41 +187,41 @@ fn left_of_text(
     }
 }
 
-fn count_of(alloc: Global, values: &[Value], value: &Value) -> usize {
+fn count_of(alloc: Global, values: &[Value], value: &Value) -> Result<usize, AllocError> {
     let mut count: usize = 0;
     for other in values {
-        if are_alike(alloc, value, other) {
+        if are_alike(alloc, value, other)? {
             count = count.saturating_add(1);
         }
     }
-    count
+    Ok(count)
 }
 
 // Whether two lists have the same values, in any order.
-fn have_same(alloc: Global, ones: &[Value], others: &[Value]) -> bool {
+fn have_same(alloc: Global, ones: &[Value], others: &[Value]) -> Result<bool, AllocError> {
     for one in ones {
-        if count_of(alloc, ones, one) != count_of(alloc, others, one) {
-            return false;
+        if count_of(alloc, ones, one)? != count_of(alloc, others, one)? {
+            return Ok(false);
         }
     }
-    ones.len() == others.len()
+    Ok(ones.len() == others.len())
 }
 
 // Whether two answers have the same text and the same losses, in any order: a filter is handed
 // attachments without an event last.
-fn are_same(alloc: Global, one: &Value, other: &Value) -> bool {
+fn are_same(alloc: Global, one: &Value, other: &Value) -> Result<bool, AllocError> {
     if let (Some(ones), Some(others)) = (one.as_array(), other.as_array())
         && let ([left, losses], [text, lost]) = (ones.as_slice(), others.as_slice())
         && let (Some(losses), Some(lost)) = (losses.as_array(), lost.as_array())
     {
-        return are_alike(alloc, left, text) && have_same(alloc, losses, lost);
+        return Ok(are_alike(alloc, left, text)? && have_same(alloc, losses, lost)?);
     }
     are_alike(alloc, one, other)
 }
 
 // What is told by values, if the text that is written without values tells the same.
 fn beside_text(alloc: Global, told: Value, other: Value) -> Result<Value, AllocError> {
-    if are_same(alloc, &told, &other) {
+    if are_same(alloc, &told, &other)? {
         drop(other);
         Ok(told)
     } else {

@@ -62,11 +62,10 @@ pub fn answered_by<T: Member, C: FnOnce(&T) -> Result<T, AllocError>>(
 }
 
 /// Whether two trees have one text.
-pub fn are_alike(alloc: Global, one: &Value, other: &Value) -> bool {
-    match (one.to_string(alloc), other.to_string(alloc)) {
-        (Ok(one), Ok(other)) => one.as_str() == other.as_str(),
-        _ => false,
-    }
+pub fn are_alike(alloc: Global, one: &Value, other: &Value) -> Result<bool, AllocError> {
+    let one = one.to_string(alloc)?;
+    let other = other.to_string(alloc)?;
+    Ok(one.as_str() == other.as_str())
 }
 
 /// What one way answers, if the other answers the same.
@@ -77,7 +76,7 @@ pub fn agreed(
 ) -> Result<Value, AllocError> {
     match other {
         Ok(other) => {
-            if are_alike(alloc, &one, &other) {
+            if are_alike(alloc, &one, &other)? {
                 drop(other);
                 Ok(one)
             } else {
@@ -105,7 +104,7 @@ fn passed(
 ) -> Result<Value, AllocError> {
     let same = match passed {
         Ok(()) => told.to_string(alloc)?.as_bytes() == text_of.as_slice(),
-        Err(error) => are_alike(alloc, &told, &refused(alloc, error)?),
+        Err(error) => are_alike(alloc, &told, &refused(alloc, error)?)?,
     };
     if same {
         return Ok(told);
@@ -322,7 +321,7 @@ pub fn of_tape(alloc: Global, line: &[u8]) -> Result<Value, AllocError> {
         }
     };
     match read_tree(alloc, line) {
-        Ok(tree) if are_alike(alloc, &tree, &root.to_value(alloc)?) => Ok(Value::from(true)),
+        Ok(tree) if are_alike(alloc, &tree, &root.to_value(alloc)?)? => Ok(Value::from(true)),
         _ => text(alloc, "two answers"),
     }
 }
