@@ -19,7 +19,7 @@ use Rattle.sentry_envelope.proofs.EnvelopeShown.{line_sorted, line_not_both, fra
 -- ---- one first fault
 
 module _ (P : Profile) where
-  no_frame_at_fault : (body : List ℕ) (x : EnvelopeError) (f : Frame) (rest : List ℕ) → IsFault (reads P) body x → IsFirstFrame (reads P) body f rest → ⊥
+  pub no_frame_at_fault : (body : List ℕ) (x : EnvelopeError) (f : Frame) (rest : List ℕ) → IsFault (reads P) body x → IsFirstFrame (reads P) body f rest → ⊥
   no_frame_at_fault body x f rest h g = let e : fault x ≡ frame f rest = same_outcome (reads P) body (fault x) (frame f rest) h g in cc
 
   same_framing_fault : (body : List ℕ) (x y : EnvelopeError) → IsFault (reads P) body x → IsFault (reads P) body y → x ≡ y

@@ -1,5 +1,6 @@
 -- One text for each normal form, and what is spelled is written as its normal form is.
-use Rattle.std.proofs.Common.{◌≡◌, ◌<◌, ◌^◌, ℕ, List, [], ◌∷◌, Some, refl, sym, ap, ap₂, ◌∙◌, subst}
+use Rattle.std.proofs.Common.{◌≡◌, ◌<◌, ◌^◌, ℕ, Bool, true, false, cond, List, [], ◌∷◌, filter, Some, refl, sym, ap, ap₂, ◌∙◌, subst}
+use Rattle.std.specs.Prelude.{⊤}
 use Rattle.serde_json.specs.Written.{compact_text}
 use Rattle.sentry_tables.specs.Cell.{Cell, absent}
 use Rattle.sentry_tables.specs.Norm.{norm}
@@ -15,6 +16,7 @@ use Rattle.sentry_envelope.specs.EnvelopeLaws.{IsFit, EnvelopesHaveOneForm, Enve
 use Rattle.sentry_envelope.proofs.EnvelopeTypes.{type_held, shows_at, meets_at, frame_is, norm_is, stated_is, lawful_at}
 use Rattle.sentry_envelope.proofs.EnvelopeWrittenHeaders.{AreTexts, header_texts}
 use Rattle.sentry_envelope.proofs.EnvelopeContents.{content_rewritten, stated_norm}
+use Rattle.sentry_envelope.proofs.EnvelopeFill.{IsWrittenAsNormal}
 use Rattle.sentry_envelope.proofs.EnvelopeIds.{ids_alike}
 use Rattle.sentry_envelope.proofs.EnvelopeBack.{back}
 use Rattle.sentry_envelope.proofs.EnvelopeNormal.{stable}
@@ -29,11 +31,40 @@ pub record AreItemsRewritten (P : Profile) (items : List Item) : Type 0 where
   pub sized : ItemsAreSized P.types items → ItemsAreSized P.types (items_norm P.types items)
 
 -- the same of the content of one item
-record IsRewrittenAt (P : Profile) (n : ℕ) (c : Content) : Type 0 where
-  stored : ContentMeetsAt stored_content P.types n c
-  plain : ContentMeetsAt plain_content P.types n c
-  alike : frame_at P.types n c ≡ frame_at P.types n (content_norm_at P.types n c)
-  stated : stated_at P.types n (content_norm_at P.types n c) ≡ stated_at P.types n c
+pub record IsRewrittenAt (P : Profile) (n : ℕ) (c : Content) : Type 0 where
+  pub stored : ContentMeetsAt stored_content P.types n c
+  pub plain : ContentMeetsAt plain_content P.types n c
+  pub alike : frame_at P.types n c ≡ frame_at P.types n (content_norm_at P.types n c)
+  pub stated : stated_at P.types n (content_norm_at P.types n c) ≡ stated_at P.types n c
+
+-- the same of each item
+abbrev pub IsEachRewritten : Profile → List Item → Type 0
+IsEachRewritten P [] = ⊤
+IsEachRewritten P (item n c ∷ items) = IsRewrittenAt P n c × IsEachRewritten P items
+IsEachRewritten P (raw ∷ items) = ⊥
+
+-- so also of those that are chosen
+one_chosen : (P : Profile) (wanted : Bool) (n : ℕ) (c : Content) (chosen : List Item) → IsRewrittenAt P n c → IsEachRewritten P chosen → IsEachRewritten P (cond wanted (item n c ∷ chosen) chosen)
+one_chosen P true n c chosen here others = (here, others)
+one_chosen P false n c chosen here others = others
+
+pub chosen_rewritten : (P : Profile) (p : Item → Bool) (items : List Item) → IsEachRewritten P items → IsEachRewritten P (filter p items)
+chosen_rewritten P p [] each = tt
+chosen_rewritten P p (item n c ∷ items) each = one_chosen P (p (item n c)) n c (filter p items) each.0 (chosen_rewritten P p items each.1)
+chosen_rewritten P p (raw ∷ items) each = absurd each
+
+pub are_rewritten : (P : Profile) (items : List Item) → IsEachRewritten P items → AreItemsRewritten P items
+are_rewritten P [] each = record { stored = tt; plain = tt; alike = refl; sized = λ h. tt }
+are_rewritten P (item n c ∷ items) each =
+    let here = each.0 in
+    let others = are_rewritten P items each.1 in
+    record {
+      stored = (here.stored, others.stored);
+      plain = (here.plain, others.plain);
+      alike = ap₂ frame_text here.alike others.alike;
+      sized = λ h. (subst (λ m. m < 2 ^ 64) (sym here.stated) h.0, others.sized h.1);
+    }
+are_rewritten P (raw ∷ items) each = absurd each
 
 module _ (P : Profile) (laws : ProfileLaws P) where
   item_rewritten : (n : ℕ) (c : Content) (h : Header) (payload : List ℕ) (now : Cell) → IsMoment now → AreTexts h → ContentShowsAt P.types n now h payload c → IsRewrittenAt P n c
@@ -49,18 +80,14 @@ module _ (P : Profile) (laws : ProfileLaws P) where
         stated = ap (stated_at P.types n) (norm_is at c) ∙ stated_is at (content_norm t.form c) ∙ stated_norm t.word t.form c here.stored here.alike ∙ sym (stated_is at c);
       }
 
+  pub each_rewritten : (now : Cell) → IsMoment now → (items : List Item) (body : List ℕ) → ItemsStand P now body items [] → IsEachRewritten P items
+  each_rewritten now moment [] body h = tt
+  each_rewritten now moment (item n c ∷ items) body (f, next, first, (h, read, kind, shown), more) =
+      (item_rewritten n c h f.payload now moment (header_texts (words P.types) f.header h read) shown, each_rewritten now moment items next more)
+  each_rewritten now moment (raw ∷ items) body (f, next, first, shown, more) = absurd shown
+
   pub items_rewritten : (now : Cell) → IsMoment now → (items : List Item) (body : List ℕ) → ItemsStand P now body items [] → AreItemsRewritten P items
-  items_rewritten now moment [] body h = record { stored = tt; plain = tt; alike = refl; sized = λ h. tt }
-  items_rewritten now moment (item n c ∷ items) body (f, next, first, (h, read, kind, shown), more) =
-      let here = item_rewritten n c h f.payload now moment (header_texts (words P.types) f.header h read) shown in
-      let others = items_rewritten now moment items next more in
-      record {
-        stored = (here.stored, others.stored);
-        plain = (here.plain, others.plain);
-        alike = ap₂ frame_text here.alike others.alike;
-        sized = λ h. (subst (λ m. m < 2 ^ 64) (sym here.stated) h.0, others.sized h.1);
-      }
-  items_rewritten now moment (raw ∷ items) body (f, next, first, shown, more) = absurd shown
+  items_rewritten now moment items body h = are_rewritten P items (each_rewritten now moment items body h)
 
   pub item_met : (now : Cell) → IsMoment now → (frame : Frame) (i : Item) → ItemShows P now frame i → ItemsMeet stored_content P.types (i ∷ []) × ItemsMeet plain_content P.types (i ∷ [])
   item_met now moment frame (item n c) (h, read, kind, shown) =
@@ -70,21 +97,24 @@ module _ (P : Profile) (laws : ProfileLaws P) where
 
   -- ---- envelopes
 
-  pub rewritten : EnvelopesAreRewritten P
+  -- an envelope whose header is one that is written as its normal form is, filled by the items' id
+  pub filled_rewritten : (e : Envelope) (h : Cell) → e.header ≡ P.fill (first_id P.types e.items) h → IsWrittenAsNormal P.header h → AreItemsRewritten P e.items
+      → IsEnvelopeStored P e × IsEnvelopePlain P e × (envelope_text P e ≡ envelope_text P (envelope_norm P e))
   unfolding envelope_text envelope_norm IsEnvelopeStored IsEnvelopePlain
-  rewritten bytes now e moment h =
-      let items = items_rewritten now moment e.items h.body h.items in
-      let (stored, plain, alike) = (has_laws P.header laws.header).text_rewritten h.line h.shown now moment h.line_shows in
+  filled_rewritten e h header (stored, plain, alike) items =
       let fills = (ids_alike P.header P.fill laws.unfilled P.types laws.types e.items items.stored items.plain).1 in
       let id : Cell = first_id P.types e.items in
-      let normal : P.fill id (norm P.header e.header) ≡ P.fill id (norm P.header h.shown) =
-      ap (λ x. P.fill id (norm P.header x)) h.header ∙ ap (P.fill id) (fills.fill_norm h.shown stored plain) ∙ fills.fill_twice (norm P.header h.shown) in
+      let normal : P.fill id (norm P.header e.header) ≡ P.fill id (norm P.header h) =
+      ap (λ x. P.fill id (norm P.header x)) header ∙ ap (P.fill id) (fills.fill_norm h stored plain) ∙ fills.fill_twice (norm P.header h) in
       let trees : tree P.header e.header ≡ tree P.header (P.fill id (norm P.header e.header)) =
-      ap (tree P.header) h.header ∙ fills.fill_tree h.shown stored plain alike ∙ ap (tree P.header) (sym normal) in (
-        (subst (IsStored P.header) (sym h.header) (fills.fill_stored h.shown stored), items.stored),
-        (subst (IsPlain P.header) (sym h.header) (fills.fill_plain h.shown plain), items.plain),
+      ap (tree P.header) header ∙ fills.fill_tree h stored plain alike ∙ ap (tree P.header) (sym normal) in (
+        (subst (IsStored P.header) (sym header) (fills.fill_stored h stored), items.stored),
+        (subst (IsPlain P.header) (sym header) (fills.fill_plain h plain), items.plain),
         ap₂ (λ d body. with_line (compact_text d) body) trees items.alike,
       )
+
+  pub rewritten : EnvelopesAreRewritten P
+  rewritten bytes now e moment h = filled_rewritten e h.shown h.header ((has_laws P.header laws.header).text_rewritten h.line h.shown now moment h.line_shows) (items_rewritten now moment e.items h.body h.items)
 
   -- envelopes whose normal forms have one text have one normal form
   alike : (a b : Envelope) → IsFit P a → IsFit P b → envelope_text P (envelope_norm P a) ≡ envelope_text P (envelope_norm P b) → envelope_norm P a ≡ envelope_norm P b

@@ -1,16 +1,15 @@
 -- Headers that can be written.
-use Rattle.std.proofs.Common.{◌≡◌, Result, Ok, Err, false, Option, Some, None, refl}
+use Rattle.std.proofs.Common.{◌≡◌, Result, Ok, Err, false, refl}
 use Rattle.std.specs.Prelude.{OnOk}
 use Rattle.serde_json.specs.Written.{has_float}
 use Rattle.sentry_json.proofs.Sound.{sound_without_float}
 use Rattle.sentry_tables.proofs.Laws.{has_laws}
-use Rattle.sentry_tables.specs.Cell.{Cell, fields, no_cells, cell}
+use Rattle.sentry_tables.specs.Cell.{Cell}
 use Rattle.sentry_tables.specs.Laws.{HasLaws}
-use Rattle.sentry_tables.specs.Meets.{IsPlain}
 use Rattle.sentry_tables.specs.Written.{tree}
-use Rattle.uuid.specs.declared.Uuid.{Uuid}
 use Rattle.sentry_envelope.specs.EnvelopeView.{IsStoredAndPlain, no_fields}
-use Rattle.sentry_envelope.specs.HeaderFields.{header_fields, header_kind, put_id}
+use Rattle.sentry_envelope.specs.HeaderFields.{header_fields, header_kind}
+use Rattle.sentry_envelope.proofs.EnvelopeFill.{IsWrittenAsNormal}
 use Rattle.sentry_envelope.proofs.SentryProfile.{header_lawful}
 
 pub header_laws : HasLaws header_kind
@@ -25,15 +24,7 @@ pub where_stored_and_plain : {E : Type 0} (r : Result (Unit {0}) E) (P Q R : Typ
 where_stored_and_plain (Ok u) P Q R f h = λ x. h (f x)
 where_stored_and_plain (Err e) P Q R f h = tt
 
--- a header without fields is plain, and one that is plain is so with another id
-pub no_fields_plain : IsPlain header_kind no_fields
+-- a header without fields is written as its normal form is
+pub no_fields_rewritten : IsWrittenAsNormal header_kind no_fields
 unfolding header_fields
-no_fields_plain = ((tt, (tt, (tt, (tt, (tt, tt))))), (tt, refl))
-
-pub put_plain : (id : Option Uuid) (h : Cell) → IsPlain header_kind h → IsPlain header_kind (put_id id h)
-unfolding header_fields
-put_plain None (fields (cell c (cell d cs)) other) p = ((p.0.0, (tt, p.0.1.1)), p.1)
-put_plain (Some i) (fields (cell c (cell d cs)) other) p = ((p.0.0, (tt, p.0.1.1)), p.1)
-put_plain id (fields (cell c no_cells) other) p = absurd p.0.1
-put_plain id (fields no_cells other) p = absurd p.0
-put_plain id _ p = absurd p
+no_fields_rewritten = (((tt, (tt, (tt, (tt, (tt, tt))))), refl), ((tt, (tt, (tt, (tt, (tt, tt))))), (tt, refl)), refl)

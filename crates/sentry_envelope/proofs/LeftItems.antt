@@ -1,5 +1,5 @@
 -- What is left of items that are written while they are read, and of a whole envelope.
-use Rattle.std.proofs.Common.{◌≡◌, ◌≢◌, ℕ, Bool, true, false, not, ◌&&◌, ◌||◌, cond, List, [], ◌∷◌, ◌++◌, map, filter, length, slice_get, Option, Some, None, refl, sym, ap, ap₂, ◌∙◌, subst, append_assoc, append-nil}
+use Rattle.std.proofs.Common.{◌≡◌, ◌≢◌, ℕ, Bool, true, false, not, ◌&&◌, ◌||◌, cond, List, [], ◌∷◌, ◌++◌, map, filter, slice_get, Option, Some, None, refl, sym, ap, ap₂, ◌∙◌, subst, append_assoc, append-nil, arith}
 use Rattle.std.proofs.lemmas.List.{map-append}
 use Rattle.std.proofs.lemmas.List.Elements.{filter-append}
 use Rattle.std.proofs.lemmas.List.Folds.{list_any-append}
@@ -7,8 +7,9 @@ use Rattle.std.specs.List.{list_any}
 use Rattle.serde_json.specs.Data.{Members}
 use Rattle.serde_json.specs.Written.{compact_text}
 use Rattle.sentry_json.specs.Line.{newline}
-use Rattle.sentry_tables.specs.Cell.{Cell, Cells, octets, fields, cell}
-use Rattle.sentry_tables.specs.Meets.{IsPlain}
+use Rattle.sentry_tables.specs.Cell.{Cell, Cells, absent, octets, fields, no_cells, cell}
+use Rattle.sentry_tables.specs.Lawful.{IsMoment}
+use Rattle.sentry_tables.specs.Fields.{rows_of}
 use Rattle.sentry_tables.specs.Reading.{TextShown}
 use Rattle.sentry_tables.specs.Written.{tree}
 use Rattle.sentry_framing.specs.Framing.{Frame, IsFault, IsFirstFrame, IsLineAndBody, with_line}
@@ -24,25 +25,27 @@ use Rattle.sentry_framing.proofs.Verdicts.{same_first}
 use Rattle.sentry_items.specs.Losses.{losses_of_item, losses_of_items}
 use Rattle.sentry_items.specs.Texts.{bytes_of}
 use Rattle.sentry_items.specs.declared.item.EnvelopeItem.{EnvelopeItem}
+use Rattle.sentry_reports.specs.declared.item_loss.ItemLoss.{ItemLoss}
 use Rattle.sentry_moments.specs.Moments.{moment_cell}
 use Rattle.sentry_moments.specs.declared.moment.Moment.{Moment}
 use Rattle.uuid.specs.declared.Uuid.{Uuid}
-use Rattle.sentry_envelope.specs.Envelope.{Envelope, IsEnvelopePlain, Item, item, raw, ItemShows, ItemsStand, Spells, envelope_text, first_id, frame_of_item, frame_text, given_by, items_text, or_else, reads}
+use Rattle.sentry_envelope.specs.Envelope.{Envelope, IsEnvelopePlain, IsEnvelopeStored, Item, item, raw, ItemShows, ItemsStand, Spells, envelope_norm, envelope_text, first_id, frame_of_item, frame_text, given_by, items_text, or_else, reads}
 use Rattle.sentry_envelope.specs.EnvelopeFault.{BodyIsAtFault, FrameIsRefused}
-use Rattle.sentry_envelope.specs.EnvelopeView.{item_view, no_fields}
+use Rattle.sentry_envelope.specs.EnvelopeView.{item_view}
 use Rattle.sentry_envelope.specs.Filter.{header_left, id_in}
-use Rattle.sentry_envelope.specs.FilteredText.{IsFiltered, IsHeaded, IsLeft, IsLeftText, IsLost, IsTextOfLeft, has_main, is_attachment_kind, is_left, is_main_kind, is_of, is_some_item, is_such, items_left, items_taken}
-use Rattle.sentry_envelope.specs.HeaderFields.{fill_id, given_id, header_fields, header_kind, headers_cell, id_cell, put_id}
+use Rattle.sentry_envelope.specs.FilteredText.{HasMain, IsBodyOf, IsFiltered, IsHeaded, IsLeft, IsLeftText, IsLost, IsTextOfLeft, has_main, is_attachment_kind, is_left, is_main_kind, is_of, is_some_item, is_such, items_left, items_taken}
+use Rattle.sentry_envelope.specs.HeaderFields.{fill_id, given_id, header_fields, header_in_order, header_kind, headers_cell, id_cell, put_id}
 use Rattle.sentry_envelope.specs.NormalText.{IsItemWritten}
 use Rattle.sentry_envelope.specs.SentryProfile.{item_types, profile}
 use Rattle.sentry_envelope.specs.declared.filtered.Left.{Left}
 use Rattle.sentry_envelope.specs.declared.headers.EnvelopeHeaders.{EnvelopeHeaders}
-use Rattle.sentry_envelope.proofs.EnvelopeAnswers.{some_remain}
+use Rattle.sentry_envelope.proofs.EnvelopeAnswers.{no_frame_at_fault, some_remain}
 use Rattle.sentry_envelope.proofs.EnvelopeReading.{items_snoc, body_fault, framing_is_first, payload_is_first}
-use Rattle.sentry_envelope.proofs.HeaderValues.{no_fields_plain, put_plain}
+use Rattle.sentry_envelope.proofs.EnvelopeFill.{IsWrittenAsNormal, clear_place, header_cleared}
+use Rattle.sentry_envelope.proofs.EnvelopeForms.{IsEachRewritten, are_rewritten, chosen_rewritten, each_rewritten, filled_rewritten}
+use Rattle.sentry_envelope.proofs.HeaderValues.{header_laws, no_fields_rewritten}
 use Rattle.sentry_envelope.proofs.Rewriting.{first_of_more, items_more}
 use Rattle.sentry_envelope.proofs.SentryProfile.{profile_lawful}
-use Rattle.sentry_envelope.proofs.WholeReads.{spelled_stored}
 
 -- ---- types of items
 
@@ -100,6 +103,28 @@ module _ (p : Item → Bool) (items : List Item) (i : Item) where
 any_more : (p : Item → Bool) (items : List Item) (i : Item) → list_any p (items ++ i ∷ []) ≡ (list_any p items || p i)
 any_more p items i = list_any-append p items (i ∷ []) ∙ ap (λ b. list_any p items || b) (or_false (p i))
 
+-- what was written and listed of the items so far, and what is among those that are left
+pub record SoFar : Type 0 where
+  pub text : List ℕ
+  pub id : Cell
+  pub losses : List ItemLoss
+  pub any : Bool
+  pub main : Bool
+  pub attached : Bool
+
+-- the same of items that stand first in a body; with `main`, attachments are left as others are
+pub record IsLeftSoFar (stays : ItemKind → Bool) (main : Bool) (now : Cell) (body rest : List ℕ) (left : SoFar) : Type 0 where
+  pub items : List Item
+  pub taken : List EnvelopeItem
+  pub stand : ItemsStand profile now body items rest
+  pub text_is : left.text ≡ items_text profile (filter (is_left stays main) items)
+  pub id_is : left.id ≡ first_id item_types (filter (is_left stays main) items)
+  pub taken_are : map item_view taken ≡ filter (λ i. not (is_left stays main i)) items
+  pub losses_are : left.losses ≡ losses_of_items taken
+  pub any : left.any ≡ list_any is_some_item (filter (is_left stays main) items)
+  pub main_is : left.main ≡ list_any (is_of is_main_kind) (filter (is_left stays main) items)
+  pub attached : left.attached ≡ list_any (is_of is_attachment_kind) (filter (is_left stays main) items)
+
 module _ (stays : ItemKind → Bool) (main : Bool) (now : Cell) (body : List ℕ) where
   abbrev Left_by : Item → Bool
   Left_by = is_left stays main
@@ -107,21 +132,21 @@ module _ (stays : ItemKind → Bool) (main : Bool) (now : Cell) (body : List ℕ
   abbrev Taken_by : Item → Bool
   Taken_by i = not (is_left stays main i)
 
-  pub none_read : (left : Left) → bytes_of left.text ≡ [] → left.id ≡ None → left.losses.items ≡ [] → left.any ≡ false → left.main ≡ false → left.attached ≡ false → IsLeft stays main now body body left
-  none_read left text id losses any mains attached = record {
+  pub none_read : (text : List ℕ) (losses : List ItemLoss) → text ≡ [] → losses ≡ [] → IsLeftSoFar stays main now body body (record { text = text; id = absent; losses = losses; any = false; main = false; attached = false })
+  none_read text losses text_is losses_are = record {
     items = [];
     taken = [];
     stand = refl;
-    text_is = text;
-    id_is = ap given_id id;
+    text_is = text_is;
+    id_is = refl;
     taken_are = refl;
-    losses_are = losses;
-    any = any;
-    main_is = mains;
-    attached = attached;
+    losses_are = losses_are;
+    any = refl;
+    main_is = refl;
+    attached = refl;
   }
 
-  module _ (rest : List ℕ) (left : Left) (so_far : IsLeft stays main now body rest left) where
+  module _ (rest : List ℕ) (left : SoFar) (so_far : IsLeftSoFar stays main now body rest left) where
     pub frame_fault : (x : EnvelopeError) → rest ≢ [] → IsFault (stated_length item_words) rest x → BodyIsAtFault profile body x
     unfolding profile
     frame_fault x remains fault = body_fault profile profile_lawful now body so_far.items rest x so_far.stand remains (framing_is_first profile rest x fault)
@@ -136,10 +161,10 @@ module _ (stays : ItemKind → Bool) (main : Bool) (now : Cell) (body : List ℕ
         told : (i : Item) → ItemShows profile now frame i → is_left stays main i ≡ ((main || not (is_attachment_kind h.kind)) && stays h.kind)
         told i shows = ap₂ (λ a b. (main || not a) && b) (type_shown is_attachment_kind now frame h read i shows) (type_shown stays now frame h read i shows)
 
-        pub item_left : ((main || not (is_attachment_kind h.kind)) && stays h.kind) ≡ true → (newer : Left) → IsItemWritten now frame left.id newer.id (bytes_of left.text) (bytes_of newer.text) → newer.losses.items ≡ left.losses.items → newer.any ≡ true
-            → newer.main ≡ (left.main || is_main_kind h.kind) → newer.attached ≡ (left.attached || is_attachment_kind h.kind) → IsLeft stays main now body next newer
+        pub item_left : ((main || not (is_attachment_kind h.kind)) && stays h.kind) ≡ true → (before after : Option Uuid) → left.id ≡ given_id before → (newer : SoFar) → IsItemWritten now frame before after left.text newer.text → newer.id ≡ given_id after
+            → newer.losses ≡ left.losses → newer.any ≡ true → newer.main ≡ (left.main || is_main_kind h.kind) → newer.attached ≡ (left.attached || is_attachment_kind h.kind) → IsLeftSoFar stays main now body next newer
         unfolding profile IsItemWritten
-        item_left stay newer (i, shows, sent, filled) losses any mains attached =
+        item_left stay before after id newer (i, shows, sent, filled) newer_id losses any mains attached =
             let yes : is_left stays main i ≡ true = told i shows ∙ stay in
             let more = one_left Left_by so_far.items i yes in
             record {
@@ -149,7 +174,7 @@ module _ (stays : ItemKind → Bool) (main : Bool) (now : Cell) (body : List ℕ
               text_is =
                   sent ∙ ap (λ s. s ++ frame_text (frame_of_item profile i) []) so_far.text_is ∙ sym (items_more profile (filter Left_by so_far.items) i)
                   ∙ ap (items_text profile) (sym more);
-              id_is = filled ∙ ap (λ c. or_else c (given_by item_types i)) so_far.id_is ∙ sym (first_of_more item_types (filter Left_by so_far.items) i) ∙ ap (first_id item_types) (sym more);
+              id_is = newer_id ∙ filled ∙ ap (λ c. or_else c (given_by item_types i)) (sym id ∙ so_far.id_is) ∙ sym (first_of_more item_types (filter Left_by so_far.items) i) ∙ ap (first_id item_types) (sym more);
               taken_are = so_far.taken_are ∙ sym (none_left Taken_by so_far.items i (unflip (is_left stays main i) yes));
               losses_are = losses ∙ so_far.losses_are;
               any = any ∙ sym (or_true (list_any is_some_item (filter Left_by so_far.items))) ∙ sym (any_more is_some_item (filter Left_by so_far.items) i) ∙ ap (list_any is_some_item) (sym more);
@@ -161,25 +186,25 @@ module _ (stays : ItemKind → Bool) (main : Bool) (now : Cell) (body : List ℕ
                   ∙ ap (list_any (is_of is_attachment_kind)) (sym more);
             }
 
-        pub item_taken : ((main || not (is_attachment_kind h.kind)) && stays h.kind) ≡ false → (newer : Left) → IsLost now frame left.losses.items newer.losses.items → bytes_of newer.text ≡ bytes_of left.text → newer.id ≡ left.id → newer.any ≡ left.any
-            → newer.main ≡ left.main → newer.attached ≡ left.attached → IsLeft stays main now body next newer
+        pub item_taken : ((main || not (is_attachment_kind h.kind)) && stays h.kind) ≡ false → (losses : List ItemLoss) → IsLost now frame left.losses losses
+            → IsLeftSoFar stays main now body next (record { text = left.text; id = left.id; losses = losses; any = left.any; main = left.main; attached = left.attached })
         unfolding profile IsLost
-        item_taken goes newer (i, shows, lost) text id any mains attached =
+        item_taken goes losses (i, shows, lost) =
             let no : is_left stays main (item_view i) ≡ false = told (item_view i) shows ∙ goes in
             let same = none_left Left_by so_far.items (item_view i) no in
             record {
               items = so_far.items ++ item_view i ∷ [];
               taken = so_far.taken ++ i ∷ [];
               stand = items_snoc profile now so_far.items body rest next frame (item_view i) so_far.stand first shows;
-              text_is = text ∙ so_far.text_is ∙ ap (items_text profile) (sym same);
-              id_is = ap given_id id ∙ so_far.id_is ∙ ap (first_id item_types) (sym same);
+              text_is = so_far.text_is ∙ ap (items_text profile) (sym same);
+              id_is = so_far.id_is ∙ ap (first_id item_types) (sym same);
               taken_are =
                   map-append item_view so_far.taken (i ∷ []) ∙ ap (λ l. l ++ item_view i ∷ []) so_far.taken_are
                   ∙ sym (one_left Taken_by so_far.items (item_view i) (flip (is_left stays main (item_view i)) no));
               losses_are = lost ∙ ap (λ l. l ++ losses_of_item i) so_far.losses_are ∙ sym (losses_more so_far.taken i);
-              any = any ∙ so_far.any ∙ ap (list_any is_some_item) (sym same);
-              main_is = mains ∙ so_far.main_is ∙ ap (list_any (is_of is_main_kind)) (sym same);
-              attached = attached ∙ so_far.attached ∙ ap (list_any (is_of is_attachment_kind)) (sym same);
+              any = so_far.any ∙ ap (list_any is_some_item) (sym same);
+              main_is = so_far.main_is ∙ ap (list_any (is_of is_main_kind)) (sym same);
+              attached = so_far.attached ∙ ap (list_any (is_of is_attachment_kind)) (sym same);
             }
 
 -- ---- whether an event or a transaction is left
@@ -206,9 +231,13 @@ module _ (i : Item) (us vs : List Item) (same : us ≡ vs) where
   taken_alike false true none = ap (λ l. i ∷ l) same
   taken_alike false false none = ap (λ l. i ∷ l) same
 
-  any_alike : (p : Item → Bool) (j : Item) (wanted : Bool) → p i ≡ p j → list_any p us ≡ list_any p vs → list_any p (cond wanted (i ∷ us) us) ≡ list_any p (cond wanted (j ∷ vs) vs)
-  any_alike p j true at others = ap₂ (λ a b. a || b) at others
-  any_alike p j false at others = others
+pub or_right : (a b : Bool) → b ≡ true → (a || b) ≡ true
+or_right true b is = refl
+or_right false b is = is
+
+not_so : (b : Bool) → (b ≡ true → false ≡ true) → b ≡ false
+not_so false h = refl
+not_so true h = let no : false ≡ true = h refl in cc
 
 module _ (stays : ItemKind → Bool) where
   -- without attachments among those whose types stay, items are left alike
@@ -220,53 +249,149 @@ module _ (stays : ItemKind → Bool) where
       let (left, taken) = none_attached items others in
       (left_alike i _ _ left (is_of stays i) (is_of is_attachment_kind i) first, taken_alike i _ _ taken (is_of stays i) (is_of is_attachment_kind i) first)
 
-  -- what was left is what is, where an event or a transaction was left or no attachment was
-  pub left_with_main : (items : List Item) (mains attached : Bool) → mains ≡ list_any (is_of is_main_kind) (filter (is_left stays true) items) → attached ≡ list_any (is_of is_attachment_kind) (filter (is_left stays true) items)
-      → (attached && not mains) ≡ false → (filter (is_left stays true) items ≡ items_left stays items) × (filter (λ i. not (is_left stays true i)) items ≡ items_taken stays items)
-  left_with_main items true attached has any so = (ap (λ b. filter (is_left stays b) items) has, ap (λ b. filter (λ i. not (is_left stays b i)) items) has)
-  left_with_main items false true has any so = cc
-  left_with_main items false false has any so =
-      let (left, taken) = none_attached items (sym any) in
-      (left ∙ ap (λ b. filter (is_left stays b) items) has, taken ∙ ap (λ b. filter (λ i. not (is_left stays b i)) items) has)
+  unattached : (now : Cell) (body rest : List ℕ) (left : SoFar) → IsLeftSoFar stays true now body rest left → left.attached ≡ false → IsLeftSoFar stays false now body rest left
+  unattached now body rest left read none =
+      let (same, taken) = none_attached read.items (sym read.attached ∙ none) in
+      record {
+        items = read.items;
+        taken = read.taken;
+        stand = read.stand;
+        text_is = read.text_is ∙ ap (items_text profile) same;
+        id_is = read.id_is ∙ ap (first_id item_types) same;
+        taken_are = read.taken_are ∙ taken;
+        losses_are = read.losses_are;
+        any = read.any ∙ ap (list_any is_some_item) same;
+        main_is = read.main_is ∙ ap (list_any (is_of is_main_kind)) same;
+        attached = read.attached ∙ ap (list_any (is_of is_attachment_kind)) same;
+      }
 
--- the types of the items in a body are settled
-module _ (now : Cell) where
-  same_type : (is : ItemKind → Bool) (frame : Frame) (i j : Item) → ItemShows profile now frame i → ItemShows profile now frame j → is_of is i ≡ is_of is j
-  same_type is frame raw j p q = absurd p
-  same_type is frame (item n c) raw p q = absurd q
-  same_type is frame (item n c) (item m x) (h, read, place, shows) (g, again, there, also) =
-      let same : g ≡ h = same_header _ g h again read in
-      ap (λ k. is_such is (slice_get item_kinds k)) (sym place ∙ ap (λ (y : Header). y.kind) (sym same) ∙ there)
+  -- while no attachment is left, whether they are may turn
+  pub turned : (main : Bool) (now : Cell) (body rest : List ℕ) (left : SoFar) → IsLeftSoFar stays main now body rest left → (next : Bool) → (left.attached ≡ true → next ≡ main) → (next ≡ true → main ≡ true) → IsLeftSoFar stays next now body rest left
+  turned true now body rest left read true same falls = read
+  turned false now body rest left read false same falls = read
+  turned false now body rest left read true same falls = let no : false ≡ true = falls refl in cc
+  turned true now body rest left read false same falls = unattached now body rest left read (not_so left.attached same)
 
-  same_main : (stays : ItemKind → Bool) (is js : List Item) (body : List ℕ) → ItemsStand profile now body is [] → ItemsStand profile now body js [] → has_main stays is ≡ has_main stays js
-  same_main stays [] [] body p q = refl
-  same_main stays [] (j ∷ js) body p (frame, next, first, shows, more) = absurd (some_remain profile body frame next first p)
-  same_main stays (i ∷ is) [] body (frame, next, first, shows, more) q = absurd (some_remain profile body frame next first q)
-  same_main stays (i ∷ is) (j ∷ js) body (frame, next, first, shows, more) (other, later, second, also, others) =
-      let (frames, bodies) = same_first (reads profile) body other frame later next second first in
-      let here : ItemShows profile now frame j = subst (λ f. ItemShows profile now f j) frames also in
-      let beyond = same_main stays is js next more (subst (λ b. ItemsStand profile now b js []) bodies others) in
-      any_both (is_of stays i) (is_of stays j) (same_type stays frame i j shows here) (same_type is_main_kind frame i j shows here) beyond
+  left_by : (items : List Item) (main : Bool) → main ≡ has_main stays items → (filter (is_left stays main) items ≡ items_left stays items) × (filter (λ i. not (is_left stays main i)) items ≡ items_taken stays items)
+  left_by items main has = (ap (λ b. filter (is_left stays b) items) has, ap (λ b. filter (λ i. not (is_left stays b i)) items) has)
+
+  -- of what was left so far: where attachments are, an event or a transaction is or will be, and
+  -- where they aren't, none is
+  pub record IsSettled (bytes : List ℕ) (beside : Bool) (left : SoFar) : Type 0 where
+    pub beside_others : beside ≡ true → left.attached ≡ true → left.main ≡ false → HasMain stays bytes true
+    pub alone : beside ≡ false → HasMain stays bytes false
+
+  pub nothing_asked : (bytes : List ℕ) (left : SoFar) → left.attached ≡ false → IsSettled bytes true left
+  nothing_asked bytes left none = record {
+    beside_others = λ b attached. let no : true ≡ false = sym attached ∙ none in cc;
+    alone = λ none. cc;
+  }
+
+  module _ (bytes : List ℕ) (beside next : Bool) (left : SoFar) (settled : IsSettled bytes beside left) (falls : next ≡ true → beside ≡ true) (fell : next ≡ false → beside ≡ true → HasMain stays bytes false) where
+    fell_or_was : (was : Bool) → beside ≡ was → next ≡ false → HasMain stays bytes false
+    fell_or_was true is none = fell none is
+    fell_or_was false is none = settled.alone is
+
+    pub still_settled : (newer : SoFar) → newer.main ≡ left.main → newer.attached ≡ left.attached → IsSettled bytes next newer
+    still_settled newer mains attached = record {
+      beside_others = λ is any none. settled.beside_others (falls is) (sym attached ∙ any) (sym mains ∙ none);
+      alone = fell_or_was beside refl;
+    }
+
+    module _ (k : ItemKind) (stay : stays k ≡ true) (asked : next ≡ true → (left.main || left.attached) ≡ false → is_attachment_kind k ≡ true → stays k ≡ true → HasMain stays bytes true) where
+      asked_or_was : (had : Bool) → left.attached ≡ had → next ≡ true → (left.attached || is_attachment_kind k) ≡ true → left.main ≡ false → HasMain stays bytes true
+      asked_or_was true is here any none = settled.beside_others (falls here) is none
+      asked_or_was false is here any none = asked here (ap₂ (λ a b. a || b) none is) (sym (ap (λ b. b || is_attachment_kind k) is) ∙ any) stay
+
+      pub more_settled : (newer : SoFar) → newer.main ≡ (left.main || is_main_kind k) → newer.attached ≡ (left.attached || is_attachment_kind k) → IsSettled bytes next newer
+      more_settled newer mains attached = record {
+        beside_others = λ is any none. asked_or_was left.attached refl is (sym attached ∙ any) (or_none left.main (is_main_kind k) (sym mains ∙ none)).0;
+        alone = fell_or_was beside refl;
+      }
+
+  -- what was left is what is
+  left_is : (bytes body : List ℕ) (now : Cell) (beside : Bool) (left : SoFar) (items : List Item) → IsBodyOf bytes body → ItemsStand profile now body items [] → IsSettled bytes beside left
+      → left.main ≡ list_any (is_of is_main_kind) (filter (is_left stays beside) items) → left.attached ≡ list_any (is_of is_attachment_kind) (filter (is_left stays beside) items)
+      → (filter (is_left stays beside) items ≡ items_left stays items) × (filter (λ i. not (is_left stays beside i)) items ≡ items_taken stays items)
+  left_is bytes body now false left items here stand settled main attached = left_by items false (sym (settled.alone refl body here now items stand))
+  left_is bytes body now true left items here stand settled main attached = by_found left.main left.attached refl refl
     where
-      any_both : (a b : Bool) → a ≡ b → is_of is_main_kind i ≡ is_of is_main_kind j → has_main stays is ≡ has_main stays js
-          → list_any (is_of is_main_kind) (cond a (i ∷ filter (is_of stays) is) (filter (is_of stays) is)) ≡ list_any (is_of is_main_kind) (cond b (j ∷ filter (is_of stays) js) (filter (is_of stays) js))
-      any_both true true same at others = ap₂ (λ a b. a || b) at others
-      any_both false false same at others = others
-      any_both true false same at others = cc
-      any_both false true same at others = cc
+      by_found : (mains attaches : Bool) → left.main ≡ mains → left.attached ≡ attaches → (filter (is_left stays true) items ≡ items_left stays items) × (filter (λ i. not (is_left stays true i)) items ≡ items_taken stays items)
+      by_found true attaches found any = left_by items true (sym found ∙ main)
+      by_found false true found any = left_by items true (sym (settled.beside_others refl any found body here now items stand))
+      by_found false false found any =
+          let (left, taken) = none_attached items (sym attached ∙ any) in
+          let (rest, others) = left_by items false (sym found ∙ main) in
+          (left ∙ rest, taken ∙ others)
 
-no_main : (attached mains : Bool) → (attached && not mains) ≡ true → mains ≡ false
-no_main attached false so = refl
-no_main true true so = cc
-no_main false true so = cc
+  pub all_left : (bytes body : List ℕ) (now : Cell) (beside : Bool) (so_far : SoFar) → IsBodyOf bytes body → IsLeftSoFar stays beside now body [] so_far → IsSettled bytes beside so_far
+      → (left : Left) → bytes_of left.text ≡ so_far.text → given_id left.id ≡ so_far.id → left.losses.items ≡ so_far.losses → left.any ≡ so_far.any → IsLeft stays now body left
+  all_left bytes body now beside so_far here read settled left text id losses any =
+      let (are, taken) = left_is bytes body now beside so_far read.items here read.stand settled read.main_is read.attached in
+      record {
+        items = read.items;
+        taken = read.taken;
+        stand = read.stand;
+        text_is = text ∙ read.text_is ∙ ap (items_text profile) are;
+        id_is = id ∙ read.id_is ∙ ap (first_id item_types) are;
+        taken_are = read.taken_are ∙ taken;
+        losses_are = losses ∙ read.losses_are;
+        any = any ∙ read.any ∙ ap (list_any is_some_item) are;
+      }
 
--- what was left without attachments is what is, where another reading of the body left no event and
--- no transaction
-pub left_without_main : (stays : ItemKind → Bool) (now : Cell) (body : List ℕ) (all items : List Item) (mains attached : Bool) → ItemsStand profile now body all [] → ItemsStand profile now body items [] → mains ≡ has_main stays all → (attached && not mains) ≡ true
-    → (filter (is_left stays false) items ≡ items_left stays items) × (filter (λ i. not (is_left stays false i)) items ≡ items_taken stays items)
-left_without_main stays now body all items mains attached stood stand has orphans =
-    let no : false ≡ has_main stays items = sym (no_main attached mains orphans) ∙ has ∙ same_main now stays all items body stood stand in
-    (ap (λ b. filter (is_left stays b) items) no, ap (λ b. filter (λ i. not (is_left stays b i)) items) no)
+-- ---- a look ahead
+
+module _ (stays : ItemKind → Bool) where
+  -- of items that stand in a body, those that stand in this rest of it decide
+  abbrev pub IsDecidedBy : List ℕ → List ℕ → Type 0
+  IsDecidedBy body rest = (now : Cell) (items : List Item) → ItemsStand profile now body items [] → (last : List Item) × ItemsStand profile now rest last [] × (has_main stays items ≡ has_main stays last)
+
+  pub all_decide : (body : List ℕ) → IsDecidedBy body body
+  all_decide body now items stand = (items, stand, refl)
+
+  module _ (rest : List ℕ) (frame : Frame) (next : List ℕ) (first : IsFirstFrame (stated_length item_words) rest frame next) (h : ItemHeader) (read : read_header item_words frame.header ≡ Some (header_view h)) where
+    -- the first of the items that stand is of the header's type
+    first_one : (now : Cell) (items : List Item) → ItemsStand profile now rest items []
+        → (i : Item) × (more : List Item) × (items ≡ i ∷ more) × (is_of is_main_kind i ≡ is_main_kind h.kind) × (is_of stays i ≡ stays h.kind) × ItemsStand profile now next more []
+    unfolding profile
+    first_one now [] stand = absurd (some_remain profile rest frame next first stand)
+    first_one now (i ∷ more) (other, later, second, shows, others) =
+        let (frames, bodies) = same_first (reads profile) rest other frame later next second first in
+        let here : ItemShows profile now frame i = subst (λ f. ItemShows profile now f i) frames shows in
+        (i, more, refl, type_shown is_main_kind now frame h read i here, type_shown stays now frame h read i here, subst (λ b. ItemsStand profile now b more []) bodies others)
+
+    found_one : (i : Item) (more : List Item) → is_of is_main_kind i ≡ true → is_of stays i ≡ true → has_main stays (i ∷ more) ≡ true
+    found_one i more main stay = ap (λ b. list_any (is_of is_main_kind) (cond b (i ∷ filter (is_of stays) more) (filter (is_of stays) more))) stay ∙ ap (λ b. b || has_main stays more) main
+
+    pub main_found : is_main_kind h.kind ≡ true → stays h.kind ≡ true → (now : Cell) (items : List Item) → ItemsStand profile now rest items [] → has_main stays items ≡ true
+    main_found main stay now items stand =
+        let (i, more, are, is_main, is_staying, others) = first_one now items stand in
+        ap (has_main stays) are ∙ found_one i more (is_main ∙ main) (is_staying ∙ stay)
+
+    passed_one : (i : Item) (more : List Item) (main stay : Bool) → is_of is_main_kind i ≡ main → is_of stays i ≡ stay → (main && stay) ≡ false → has_main stays (i ∷ more) ≡ has_main stays more
+    passed_one i more main false is_main is_staying none = ap (λ b. list_any (is_of is_main_kind) (cond b (i ∷ filter (is_of stays) more) (filter (is_of stays) more))) is_staying
+    passed_one i more false true is_main is_staying none =
+        ap (λ b. list_any (is_of is_main_kind) (cond b (i ∷ filter (is_of stays) more) (filter (is_of stays) more))) is_staying ∙ ap (λ b. b || has_main stays more) is_main
+    passed_one i more true true is_main is_staying none = cc
+
+    pub one_passed : (body : List ℕ) → IsDecidedBy body rest → (is_main_kind h.kind && stays h.kind) ≡ false → IsDecidedBy body next
+    one_passed body so_far none now items stand =
+        let (last, stands, same) = so_far now items stand in
+        let (i, more, are, is_main, is_staying, others) = first_one now last stands in
+        (more, others, same ∙ ap (has_main stays) are ∙ passed_one i more (is_main_kind h.kind) (stays h.kind) is_main is_staying none)
+
+  pub decided_by : (has : Bool) (body rest : List ℕ) → IsDecidedBy body rest → ((now : Cell) (items : List Item) → ItemsStand profile now rest items [] → has_main stays items ≡ has) → (now : Cell) (items : List Item) → ItemsStand profile now body items [] → has_main stays items ≡ has
+  decided_by has body rest so_far told now items stand = let (last, stands, same) = so_far now items stand in same ∙ told now last stands
+
+  -- at the end of the body none is left to decide, and where something is at fault, no items stand
+  pub none_at_end : (rest : List ℕ) → rest ≡ [] → (now : Cell) (items : List Item) → ItemsStand profile now rest items [] → has_main stays items ≡ false
+  none_at_end rest end now [] stand = refl
+  none_at_end rest end now (i ∷ more) (frame, next, first, shows, others) = absurd (some_remain profile rest frame next first end)
+
+  pub none_at_fault : (rest : List ℕ) (x : EnvelopeError) → rest ≢ [] → IsFault (stated_length item_words) rest x → (now : Cell) (items : List Item) → ItemsStand profile now rest items [] → has_main stays items ≡ false
+  unfolding profile
+  none_at_fault rest x remains fault now [] stand = absurd (remains stand)
+  none_at_fault rest x remains fault now (i ∷ more) (frame, next, first, shows, others) = absurd (no_frame_at_fault profile rest x frame next fault first)
 
 -- ---- an envelope
 
@@ -288,59 +413,95 @@ put_left : (keep_headers : Bool) (u : Option Uuid) (c : Cell) (h : EnvelopeHeade
 put_left true u c h = put_over u c h
 put_left false u c h = refl
 
-left_plain : (keep_headers : Bool) (h : Cell) → IsPlain header_kind h → IsPlain header_kind (header_left keep_headers h)
-left_plain true h plain = plain
-left_plain false h plain = no_fields_plain
+-- an id that is put fills a header without one
+put_fills : (u : Option Uuid) (h : Cell) → put_id u h ≡ fill_id (given_id u) (clear_place 1 h)
+put_fills None (fields (cell d (cell c cs)) other) = refl
+put_fills (Some v) (fields (cell d (cell c cs)) other) = refl
+put_fills None (fields (cell d no_cells) other) = refl
+put_fills (Some v) (fields (cell d no_cells) other) = refl
+put_fills None (fields no_cells other) = refl
+put_fills (Some v) (fields no_cells other) = refl
+put_fills None _ = refl
+put_fills (Some v) _ = refl
 
 nothing : (items : List Item) → list_any is_some_item items ≡ false → items ≡ []
 nothing [] none = refl
 nothing (i ∷ items) none = cc
 
 module _ (stays : ItemKind → Bool) (keep_headers : Bool) (bytes line body : List ℕ) (parts : IsLineAndBody bytes line body) (now : Moment) (h : EnvelopeHeaders) (shown : TextShown header_kind line (headers_cell h)) where
-  module _ (main : Bool) (left : Left) (read : IsLeft stays main (moment_cell now) body [] left) (left_are : filter (is_left stays main) read.items ≡ items_left stays read.items) (taken_are : filter (λ i. not (is_left stays main i)) read.items ≡ items_taken stays read.items) where
+  module _ (left : Left) (read : IsLeft stays (moment_cell now) body left) where
     abbrev all : Envelope
     all = record { header = fill_id (first_id item_types read.items) (headers_cell h); items = read.items }
 
+    abbrev below : Cell
+    below = header_left keep_headers (headers_cell h)
+
     abbrev put : Cell
-    put = put_id left.id (header_left keep_headers (headers_cell h))
+    put = put_id left.id below
+
+    moment : IsMoment (moment_cell now)
+    moment = (omega (arith, now.secs_in_range), now.nanos_in_range)
 
     spelled : Spells profile bytes (moment_cell now) all
     unfolding profile TextShown
     spelled = record { line = line; body = body; shown = headers_cell h; parts = parts; line_shows = shown (moment_cell now); header = refl; items = read.stand }
 
-    id_is : left.id ≡ id_in (first_id item_types (filter (is_left stays main) read.items))
+    id_is : left.id ≡ id_in (first_id item_types (items_left stays read.items))
     id_is = sym (id_back left.id) ∙ ap id_in read.id_is
 
-    filtered_as : (items : List Item) → filter (is_left stays main) read.items ≡ items → IsFiltered stays keep_headers bytes (moment_cell now) put items left.losses.items
+    filtered_as : (items : List Item) → items_left stays read.items ≡ items → IsFiltered stays keep_headers bytes (moment_cell now) put items left.losses.items
     filtered_as items are = record {
       whole = all;
       spells = spelled;
-      left_is = sym are ∙ left_are;
+      left_is = sym are;
       header_is =
           sym (put_left keep_headers left.id (first_id item_types read.items) h)
           ∙ ap (λ u. put_id u (header_left keep_headers all.header)) (id_is ∙ ap (λ l. id_in (first_id item_types l)) are);
       taken = read.taken;
-      taken_are = read.taken_are ∙ taken_are;
+      taken_are = read.taken_are;
       losses_are = read.losses_are;
     }
 
-    plain : IsPlain header_kind put
-    unfolding profile IsEnvelopePlain
-    plain = subst (IsPlain header_kind) (put_left keep_headers left.id (first_id item_types read.items) h) (put_plain left.id (header_left keep_headers all.header) (left_plain keep_headers all.header (spelled_stored bytes now all spelled).1.0))
+    -- the header is written as its normal form is, whether its fields stay or not, and also without
+    -- its id
+    header_rewritten : (keeps : Bool) → IsWrittenAsNormal header_kind (header_left keeps (headers_cell h))
+    unfolding TextShown
+    header_rewritten true = header_laws.text_rewritten line (headers_cell h) (moment_cell now) moment (shown (moment_cell now))
+    header_rewritten false = no_fields_rewritten
 
-    text_left : (text : List ℕ) (items : List Item) → filter (is_left stays main) read.items ≡ items → left.any ≡ true → text ≡ with_line (compact_text (tree header_kind put)) [] ++ bytes_of left.text → IsLeftText stays keep_headers bytes (moment_cell now) text left.losses.items
+    cleared : IsWrittenAsNormal header_kind (clear_place 1 below)
+    unfolding header_fields
+    cleared = header_cleared (rows_of header_fields) header_in_order 1 tt below (header_rewritten keep_headers)
+
+    abbrev left_as : List Item → Envelope
+    left_as items = record { header = put; items = items }
+
+    -- what is left is plain, and is written as its normal form is
+    rewritten : (items : List Item) → items_left stays read.items ≡ items → IsEnvelopeStored profile (left_as items) × IsEnvelopePlain profile (left_as items) × (envelope_text profile (left_as items) ≡ envelope_text profile (envelope_norm profile (left_as items)))
+    unfolding profile
+    rewritten items are =
+        let each = chosen_rewritten profile (is_left stays (has_main stays read.items)) read.items (each_rewritten profile profile_lawful (moment_cell now) moment read.items body read.stand) in
+        filled_rewritten profile profile_lawful (left_as items) (clear_place 1 below) (put_fills left.id below ∙ ap (λ c. fill_id c (clear_place 1 below)) (read.id_is ∙ ap (first_id item_types) are)) cleared (are_rewritten profile items (subst (IsEachRewritten profile) are each))
+
+    text_left : (text : List ℕ) (items : List Item) → items_left stays read.items ≡ items → left.any ≡ true → text ≡ with_line (compact_text (tree header_kind put)) [] ++ bytes_of left.text → IsLeftText stays keep_headers bytes (moment_cell now) text left.losses.items
     unfolding profile envelope_text
     text_left text [] are any is = let none : true ≡ false = sym any ∙ read.any ∙ ap (list_any is_some_item) are in cc
-    text_left text (first ∷ rest) are any is = record {
-      header = put;
-      first = first;
-      rest = rest;
-      filtered = filtered_as (first ∷ rest) are;
-      text_is =
-          is ∙ ap (λ s. with_line (compact_text (tree header_kind put)) [] ++ s) (read.text_is ∙ ap (items_text profile) are)
-          ∙ append_assoc (compact_text (tree header_kind put)) (newline ∷ []) (items_text profile (first ∷ rest));
-    }
+    text_left text (first ∷ rest) are any is =
+        let text_is : text ≡ envelope_text profile (left_as (first ∷ rest)) =
+        is ∙ ap (λ s. with_line (compact_text (tree header_kind put)) [] ++ s) (read.text_is ∙ ap (items_text profile) are)
+        ∙ append_assoc (compact_text (tree header_kind put)) (newline ∷ []) (items_text profile (first ∷ rest)) in
+        record {
+          header = put;
+          first = first;
+          rest = rest;
+          filtered = filtered_as (first ∷ rest) are;
+          text_is = text_is;
+          normal = text_is ∙ (rewritten (first ∷ rest) are).2;
+        }
 
     pub filtered : (text : Option (List ℕ)) → IsHeaded put left text → IsTextOfLeft stays keep_headers bytes (moment_cell now) text left.losses.items
-    filtered None none = (put, filtered_as [] (nothing (filter (is_left stays main) read.items) (sym read.any ∙ none)))
-    filtered (Some text) (any, is) = text_left text (filter (is_left stays main) read.items) refl any (is plain)
+    unfolding profile IsEnvelopePlain
+    filtered None none = (put, filtered_as [] (nothing (items_left stays read.items) (sym read.any ∙ none)))
+    filtered (Some text) (any, is) =
+        let items = items_left stays read.items in
+        text_left text items refl any (is (rewritten items refl).1.0)

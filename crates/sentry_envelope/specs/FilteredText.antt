@@ -6,7 +6,7 @@ use Rattle.serde_json.specs.Written.{compact_text}
 use Rattle.sentry_tables.specs.Cell.{Cell}
 use Rattle.sentry_tables.specs.Meets.{IsPlain}
 use Rattle.sentry_tables.specs.Written.{tree}
-use Rattle.sentry_framing.specs.Framing.{Frame, with_line}
+use Rattle.sentry_framing.specs.Framing.{Frame, IsLineAndBody, with_line}
 use Rattle.sentry_framing.specs.ItemWords.{item_kinds, kind_place}
 use Rattle.sentry_framing.specs.declared.kind.ItemKind.{ItemKind}
 use Rattle.sentry_framing.specs.declared.kind.ItemKind.TheVariants as kinds
@@ -14,7 +14,7 @@ use Rattle.sentry_items.specs.Losses.{losses_of_item, losses_of_items}
 use Rattle.sentry_items.specs.Texts.{bytes_of}
 use Rattle.sentry_items.specs.declared.item.EnvelopeItem.{EnvelopeItem}
 use Rattle.sentry_reports.specs.declared.item_loss.ItemLoss.{ItemLoss}
-use Rattle.sentry_envelope.specs.Envelope.{Envelope, Item, item, raw, ItemShows, ItemsStand, Spells, envelope_text, first_id, items_text}
+use Rattle.sentry_envelope.specs.Envelope.{Envelope, Item, item, raw, ItemShows, ItemsStand, Spells, envelope_norm, envelope_text, first_id, items_text}
 use Rattle.sentry_envelope.specs.EnvelopeView.{item_view}
 use Rattle.sentry_envelope.specs.Filter.{header_left, id_in}
 use Rattle.sentry_envelope.specs.HeaderFields.{given_id, header_kind, put_id}
@@ -82,13 +82,14 @@ pub record IsFiltered (stays : ItemKind → Bool) (keep_headers : Bool) (bytes :
   pub taken_are : map item_view taken ≡ items_taken stays whole.items
   pub losses_are : losses ≡ losses_of_items taken
 
--- the same, and this is the text of what is left, which is not nothing
+-- the same, and this is the text of what is left, which is not nothing, and of its normal form
 pub record IsLeftText (stays : ItemKind → Bool) (keep_headers : Bool) (bytes : List ℕ) (now : Cell) (text : List ℕ) (losses : List ItemLoss) : Type 0 where
   pub header : Cell
   pub first : Item
   pub rest : List Item
   pub filtered : IsFiltered stays keep_headers bytes now header (first ∷ rest) losses
   pub text_is : text ≡ envelope_text profile (record { header = header; items = first ∷ rest })
+  pub normal : text ≡ envelope_text profile (envelope_norm profile (record { header = header; items = first ∷ rest }))
 
 -- the same, and no item is left
 abbrev pub LeavesNothing : (ItemKind → Bool) → Bool → List ℕ → Cell → List ItemLoss → Type 0
@@ -104,19 +105,24 @@ IsTextOfLeft stays keep_headers bytes now (Some text) losses = IsLeftText stays 
 abbrev pub is_some_item : Item → Bool
 is_some_item i = true
 
--- Of items that stand first in a body, those that are left were written, and of the others the losses
--- were listed; with `main`, attachments are left as others are. What follows them in the body is `rest`.
-pub record IsLeft (stays : ItemKind → Bool) (main : Bool) (now : Cell) (body rest : List ℕ) (left : Left) : Type 0 where
+-- the body of an envelope
+abbrev pub IsBodyOf : List ℕ → List ℕ → Type 0
+IsBodyOf bytes body = (line : List ℕ) × IsLineAndBody bytes line body
+
+-- an event or a transaction is left of the items of an envelope, or none is, as this says
+abbrev pub HasMain : (ItemKind → Bool) → List ℕ → Bool → Type 0
+HasMain stays bytes has = (body : List ℕ) → IsBodyOf bytes body → (now : Cell) (items : List Item) → ItemsStand profile now body items [] → has_main stays items ≡ has
+
+-- of the items of a body those that are left were written, and of the others the losses were listed
+pub record IsLeft (stays : ItemKind → Bool) (now : Cell) (body : List ℕ) (left : Left) : Type 0 where
   pub items : List Item
   pub taken : List EnvelopeItem
-  pub stand : ItemsStand profile now body items rest
-  pub text_is : bytes_of left.text ≡ items_text profile (filter (is_left stays main) items)
-  pub id_is : given_id left.id ≡ first_id item_types (filter (is_left stays main) items)
-  pub taken_are : map item_view taken ≡ filter (λ i. not (is_left stays main i)) items
+  pub stand : ItemsStand profile now body items []
+  pub text_is : bytes_of left.text ≡ items_text profile (items_left stays items)
+  pub id_is : given_id left.id ≡ first_id item_types (items_left stays items)
+  pub taken_are : map item_view taken ≡ items_taken stays items
   pub losses_are : left.losses.items ≡ losses_of_items taken
-  pub any : left.any ≡ list_any is_some_item (filter (is_left stays main) items)
-  pub main_is : left.main ≡ list_any (is_of is_main_kind) (filter (is_left stays main) items)
-  pub attached : left.attached ≡ list_any (is_of is_attachment_kind) (filter (is_left stays main) items)
+  pub any : left.any ≡ list_any is_some_item (items_left stays items)
 
 -- the losses of an item that the frame shows were appended
 unfoldable pub IsLost : Cell → Frame → List ItemLoss → List ItemLoss → Type 0

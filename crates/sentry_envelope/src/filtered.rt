@@ -1,9 +1,9 @@
 //! Envelopes that are filtered by item types, and written while they are read.
 
-ghost use Rattle.std.specs.Prelude.{◌≡◌, ◌≢◌, ◌&&◌, ◌||◌, [], IfErr, IfOk, None, OnOk, Some, false, not, option_map};
+ghost use Rattle.std.specs.Prelude.{◌≡◌, ◌≢◌, ◌&&◌, ◌||◌, IfErr, IfOk, OnOk, Some, false, not, option_map, true};
 ghost use Rattle.sentry_envelope.specs.EnvelopeFault.{BodyIsAtFault, Fault};
 ghost use Rattle.sentry_envelope.specs.Filter.{header_left};
-ghost use Rattle.sentry_envelope.specs.FilteredText.{IsHeaded, IsLeft, IsLost, IsTextOfLeft, is_among, is_attachment_kind, is_main_kind};
+ghost use Rattle.sentry_envelope.specs.FilteredText.{HasMain, IsBodyOf, IsHeaded, IsLeft, IsLost, IsTextOfLeft, is_among, is_attachment_kind, is_main_kind};
 ghost use Rattle.sentry_envelope.specs.HeaderFields.{headers_cell, put_id};
 ghost use Rattle.sentry_envelope.specs.ItemAdded.{IsNotAdded};
 ghost use Rattle.sentry_envelope.specs.SentryProfile.{profile};
@@ -82,10 +82,8 @@ struct Left<'a> {
     // Id of the first event or transaction.
     id: Option<Uuid>,
     losses: Vec<ItemLoss>,
-    // Whether there is an item, an event or transaction, an attachment.
+    // Whether there is an item.
     any: bool,
-    main: bool,
-    attached: bool,
 }
 
 /// Parses an envelope, takes out the items of some types, and returns the text of what is left, in
@@ -120,26 +118,9 @@ pub fn filtered_text<'a, K: KindChoice, R: Rng>(
     let mut headers = EnvelopeHeaders::new();
     let line = frames.header_line();
     read_header_line(&mut lines, line, &mut headers)?;
-    let left = read_left(&mut lines, &mut frames, now, ids, choice, true)?;
-    if !left.has_orphans() {
-        let filtered = under_header(alloc, headers, keep_headers, left)?;
-        return Ok(filtered);
-    }
-    // All is read again, and no attachment is left.
-    drop(left);
-    let mut frames = Frames::new(bytes);
-    let left = read_left(&mut lines, &mut frames, now, ids, choice, false)?;
+    let left = read_left(&mut lines, bytes, &mut frames, now, ids, choice)?;
     let filtered = under_header(alloc, headers, keep_headers, left)?;
     Ok(filtered)
-}
-
-impl Left<'_> {
-    // Whether attachments are left without an event or transaction beside them.
-    fn has_orphans(&self) -> bool
-        ensures { result ≡ (self.now.attached && not self.now.main) }
-    {
-        self.attached && !self.main
-    }
 }
 
 // Writes the header line, if an item is left.
@@ -159,8 +140,6 @@ fn under_header<'a>(
         id,
         losses,
         any,
-        main: _,
-        attached: _,
     } = left;
     if !any {
         return Ok(FilteredText { text: None, losses });
@@ -176,18 +155,18 @@ fn under_header<'a>(
     })
 }
 
-// Reads the items of the frames that are left, and writes those whose types stay; attachments only
-// with `main`.
+// Reads the items of the frames of an envelope, and writes those that are left.
 fn read_left<'l, 'a: 'l, K: KindChoice, R: Rng>(
     lines: &mut LineReader<'l>,
+    bytes: &'a [u8],
     frames: &mut Frames<'a>,
     now: Moment,
     ids: &mut R,
     choice: &K,
-    main: bool,
 ) -> Result<Left<'a>, EnvelopeError>
+    requires { IsBodyOf bytes.now frames.old.rest }
     ensures ok { IfOk result
-        (IsLeft (K.stays choice.now) main (moment_cell now) frames.old.rest []) }
+        (IsLeft (K.stays choice.now) (moment_cell now) frames.old.rest) }
     ensures err { IfErr result (λ e. e ≢ EnvelopeError.OutOfMemory →
         BodyIsAtFault profile frames.old.rest e) }
 {
@@ -197,14 +176,17 @@ fn read_left<'l, 'a: 'l, K: KindChoice, R: Rng>(
     let mut id = None;
     let mut losses = Vec::new(alloc);
     let mut any = false;
-    let mut has_main = false;
+    let mut main = false;
     let mut attached = false;
+    // Whether attachments of a type that stays are left.
+    let mut beside = true;
     let mut header = ItemHeader::new();
     let mut payload = Vec::new(alloc);
     while let Some(answer) = next_item_into(frames, lines, &mut header) {
         let frame = answer?;
         let kind = header.kind;
-        if is_left(choice, main, kind) {
+        beside = look_ahead(lines, bytes, choice, kind, beside, main | attached)?;
+        if is_left(choice, beside, kind) {
             write_frame(
                 lines,
                 &frame,
@@ -216,7 +198,7 @@ fn read_left<'l, 'a: 'l, K: KindChoice, R: Rng>(
                 &mut text,
             )?;
             any = true;
-            has_main |= is_main(kind);
+            main |= is_main(kind);
             attached |= is_attachment(kind);
         } else {
             add_losses(lines, &frame, &mut header, now, ids, &mut losses)?;
@@ -227,16 +209,65 @@ fn read_left<'l, 'a: 'l, K: KindChoice, R: Rng>(
         id,
         losses,
         any,
-        main: has_main,
-        attached,
     })
 }
 
-// Whether an item of the type is left; an attachment only with `main`.
-fn is_left<K: KindChoice>(choice: &K, main: bool, kind: ItemKind) -> bool
-    ensures { result ≡ ((main || not (is_attachment_kind kind)) && K.stays choice.now kind) }
+// Whether attachments are left from this item on: for the first one that stays, without an event or
+// transaction before it, whether one is anywhere in the envelope.
+fn look_ahead<'l, 'a: 'l, K: KindChoice>(
+    lines: &mut LineReader<'l>,
+    bytes: &'a [u8],
+    choice: &K,
+    kind: ItemKind,
+    beside: bool,
+    settled: bool,
+) -> Result<bool, AllocError>
+    ensures settled { IfOk result (λ still. settled ≡ true → still ≡ beside) }
+    ensures falls { IfOk result (λ still. still ≡ true → beside ≡ true) }
+    ensures fell { IfOk result (λ still. still ≡ false → beside ≡ true →
+        HasMain (K.stays choice.now) bytes.now false) }
+    ensures asked { IfOk result (λ still. still ≡ true → settled ≡ false →
+        is_attachment_kind kind ≡ true → K.stays choice.now kind ≡ true →
+        HasMain (K.stays choice.now) bytes.now true) }
 {
-    (main || !is_attachment(kind)) && choice.stays(kind)
+    if settled || !is_attachment(kind) || !is_left(choice, beside, kind) {
+        return Ok(beside);
+    }
+    main_stays(lines, bytes, choice)
+}
+
+// Whether an event or a transaction that stays is in an envelope. What is at fault is found when it
+// is read.
+fn main_stays<'l, 'a: 'l, K: KindChoice>(
+    lines: &mut LineReader<'l>,
+    bytes: &'a [u8],
+    choice: &K,
+) -> Result<bool, AllocError>
+    ensures { IfOk result (HasMain (K.stays choice.now) bytes.now) }
+{
+    let mut frames = Frames::new(bytes);
+    let mut header = ItemHeader::new();
+    while let Some(answer) = next_item_into(&mut frames, lines, &mut header) {
+        match answer {
+            Ok(_) => {
+                if is_main(header.kind) && choice.stays(header.kind) {
+                    return Ok(true);
+                }
+            }
+            Err(error) => match error {
+                EnvelopeError::OutOfMemory => return Err(AllocError),
+                _ => return Ok(false),
+            },
+        }
+    }
+    Ok(false)
+}
+
+// Whether an item of the type is left; an attachment only with `beside`.
+fn is_left<K: KindChoice>(choice: &K, beside: bool, kind: ItemKind) -> bool
+    ensures { result ≡ ((beside || not (is_attachment_kind kind)) && K.stays choice.now kind) }
+{
+    (beside || !is_attachment(kind)) && choice.stays(kind)
 }
 
 fn is_main(kind: ItemKind) -> bool

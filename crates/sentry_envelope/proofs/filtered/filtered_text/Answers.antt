@@ -1,14 +1,12 @@
-use Rattle.std.proofs.Common.{rules, ◌≡◌, ◌&&◌, [], false, not, true, ap, sym, subst, inl, inr, option_map}
+use Rattle.std.proofs.Common.{ap, sym, subst, inl, inr, option_map}
 use Rattle.std.proofs.lemmas.Result.{err_from_is_err_and}
-use Rattle.sentry_framing.proofs.EnvelopeLine.{same_line}
 use Rattle.sentry_items.specs.Texts.{bytes_of}
-use Rattle.sentry_tables.specs.Reading.{TextShown}
 use Rattle.sentry_moments.specs.Moments.{moment_cell}
 use Rattle.sentry_envelope.specs.EnvelopeFault.{Fault}
-use Rattle.sentry_envelope.specs.FilteredText.{IsLeft, IsTextOfLeft}
-use Rattle.sentry_envelope.specs.HeaderFields.{header_kind, headers_cell}
+use Rattle.sentry_envelope.specs.FilteredText.{IsTextOfLeft}
+use Rattle.sentry_envelope.specs.HeaderFields.{headers_cell}
 use Rattle.sentry_envelope.specs.SentryProfile.{profile}
-use Rattle.sentry_envelope.proofs.LeftItems.{filtered, left_with_main, left_without_main}
+use Rattle.sentry_envelope.proofs.LeftItems.{filtered}
 use Rattle.sentry_envelope.proofs.WholeReads.{line_at_fault, body_at_fault}
 use Rattle.sentry_envelope.proofs.filtered.filtered_text.Goals as goal
 
@@ -29,38 +27,10 @@ returns-in_err-left-clause-fault g c =
     let shown = rw c.header_line-line.ensures at c.in_ok-read_header_line.ensures.ok in
     rw (p.1, p.2) (λ ne. body_at_fault c.args.bytes.now frames.header_line frames.rest c.new-frames.ensures (headers_cell c.read_header_line.new.headers) _ shown (c.in_err-left.ensures.err ne))
 
-pub returns-in_err-left-2-clause-fault : goal.returns-in_err-left-2-clause-fault
-returns-in_err-left-2-clause-fault g c =
-    let p = err_from_is_err_and c.from_residual-in_err-left-2.result c.from_residual-in_err-left-2.ensures.1 in
-    let frames = c.new-frames-2.result in
-    let lines = (same_line _ _ _ _ _ c.new-frames.ensures c.new-frames-2.ensures).0 in
-    let shown = rw c.header_line-line.ensures at c.in_ok-read_header_line.ensures.ok in
-    let again = subst (λ l. TextShown header_kind l (headers_cell c.read_header_line.new.headers)) lines shown in
-    rw (p.1, p.2) (λ ne. body_at_fault c.args.bytes.now frames.header_line frames.rest c.new-frames-2.ensures (headers_cell c.read_header_line.new.headers) _ again (c.in_err-left-2.ensures.err ne))
-
-pub returns-then-not-has_orphans-clause-left : goal.returns-then-not-has_orphans-clause-left
-returns-then-not-has_orphans-clause-left g c =
-    let frames = c.new-frames.result in
-    let stays = g.K.KindChoice.stays c.args.choice.now in
-    let shown = rw c.header_line-line.ensures at c.in_ok-read_header_line.ensures.ok in
-    let left = c.in_ok-left.left in
-    let read = c.in_ok-left.ensures.ok in
-    let so : (left.attached && not left.main) ≡ false = search rules in
-    let are = left_with_main stays read.items left.main left.attached read.main_is read.attached so in
-    let filtered_by = filtered stays c.args.keep_headers c.args.bytes.now frames.header_line frames.rest c.new-frames.ensures c.args.now c.read_header_line.new.headers shown true left read are.0 are.1 _ c.in_ok-filtered.ensures.text in
-    subst (λ l. IsTextOfLeft stays c.args.keep_headers c.args.bytes.now (moment_cell c.args.now) (option_map bytes_of c.in_ok-filtered.filtered.text) l) (sym (ap (λ v. v.items) c.in_ok-filtered.ensures.losses)) filtered_by
-
 pub returns-clause-left : goal.returns-clause-left
 returns-clause-left g c =
     let frames = c.new-frames.result in
     let stays = g.K.KindChoice.stays c.args.choice.now in
     let shown = rw c.header_line-line.ensures at c.in_ok-read_header_line.ensures.ok in
-    let first = c.in_ok-left.left in
-    let before = c.in_ok-left.ensures.ok in
-    let bodies = (same_line _ _ _ _ _ c.new-frames.ensures c.new-frames-2.ensures).1 in
-    let left = c.in_ok-left-2.left in
-    let read = subst (λ b. IsLeft stays false (moment_cell c.args.now) b [] left) (sym bodies) c.in_ok-left-2.ensures.ok in
-    let so : (first.attached && not first.main) ≡ true = search rules in
-    let are = left_without_main stays (moment_cell c.args.now) frames.rest before.items read.items first.main first.attached before.stand read.stand before.main_is so in
-    let filtered_by = filtered stays c.args.keep_headers c.args.bytes.now frames.header_line frames.rest c.new-frames.ensures c.args.now c.read_header_line.new.headers shown false left read are.0 are.1 _ c.in_ok-filtered-2.ensures.text in
-    subst (λ l. IsTextOfLeft stays c.args.keep_headers c.args.bytes.now (moment_cell c.args.now) (option_map bytes_of c.in_ok-filtered-2.filtered.text) l) (sym (ap (λ v. v.items) c.in_ok-filtered-2.ensures.losses)) filtered_by
+    let filtered_by = filtered stays c.args.keep_headers c.args.bytes.now frames.header_line frames.rest c.new-frames.ensures c.args.now c.read_header_line.new.headers shown c.in_ok-left.left c.in_ok-left.ensures.ok _ c.in_ok-filtered.ensures.text in
+    subst (λ l. IsTextOfLeft stays c.args.keep_headers c.args.bytes.now (moment_cell c.args.now) (option_map bytes_of c.in_ok-filtered.filtered.text) l) (sym (ap (λ v. v.items) c.in_ok-filtered.ensures.losses)) filtered_by
