@@ -100,9 +100,9 @@ fn passed(
     alloc: Global,
     told: Value,
     text_of: Vec<u8>,
-    passed: &Result<(), TreeError>,
+    ended: &Result<(), TreeError>,
 ) -> Result<Value, AllocError> {
-    let same = match passed {
+    let same = match ended {
         Ok(()) => told.to_string(alloc)?.as_bytes() == text_of.as_slice(),
         Err(error) => are_alike(alloc, &told, &refused(alloc, error)?)?,
     };

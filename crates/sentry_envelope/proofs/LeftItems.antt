@@ -500,8 +500,9 @@ module _ (stays : ItemKind → Bool) (keep_headers : Bool) (bytes line body : Li
         }
 
     pub filtered : (text : Option (List ℕ)) → IsHeaded put left text → IsTextOfLeft stays keep_headers bytes (moment_cell now) text left.losses.items
-    unfolding profile IsEnvelopePlain
+    unfolding profile IsEnvelopePlain IsEnvelopeStored
     filtered None none = (put, filtered_as [] (nothing (items_left stays read.items) (sym read.any ∙ none)))
     filtered (Some text) (any, is) =
         let items = items_left stays read.items in
-        text_left text items refl any (is (rewritten items refl).1.0)
+        let own = rewritten items refl in
+        text_left text items refl any (is (own.0.0, own.1.0))

@@ -4,7 +4,6 @@ use Rattle.std.specs.Prelude.{◌≡◌, ℕ, Bool, true, false, not, ◌&&◌, 
 use Rattle.std.specs.List.{list_any}
 use Rattle.serde_json.specs.Written.{compact_text}
 use Rattle.sentry_tables.specs.Cell.{Cell}
-use Rattle.sentry_tables.specs.Meets.{IsPlain}
 use Rattle.sentry_tables.specs.Written.{tree}
 use Rattle.sentry_framing.specs.Framing.{Frame, IsLineAndBody, with_line}
 use Rattle.sentry_framing.specs.ItemWords.{item_kinds, kind_place}
@@ -15,7 +14,7 @@ use Rattle.sentry_items.specs.Texts.{bytes_of}
 use Rattle.sentry_items.specs.declared.item.EnvelopeItem.{EnvelopeItem}
 use Rattle.sentry_reports.specs.declared.item_loss.ItemLoss.{ItemLoss}
 use Rattle.sentry_envelope.specs.Envelope.{Envelope, Item, item, raw, ItemShows, ItemsStand, Spells, envelope_norm, envelope_text, first_id, items_text}
-use Rattle.sentry_envelope.specs.EnvelopeView.{item_view}
+use Rattle.sentry_envelope.specs.EnvelopeView.{IsStoredAndPlain, item_view}
 use Rattle.sentry_envelope.specs.Filter.{header_left, id_in}
 use Rattle.sentry_envelope.specs.HeaderFields.{given_id, header_kind, put_id}
 use Rattle.sentry_envelope.specs.SentryProfile.{item_types, profile}
@@ -131,4 +130,4 @@ IsLost now frame old new = (i : EnvelopeItem) × ItemShows profile now frame (it
 -- the text of what is left below this header, if anything is
 abbrev pub IsHeaded : Cell → Left → Option (List ℕ) → Type 0
 IsHeaded header left None = left.any ≡ false
-IsHeaded header left (Some text) = (left.any ≡ true) × (IsPlain header_kind header → text ≡ with_line (compact_text (tree header_kind header)) [] ++ bytes_of left.text)
+IsHeaded header left (Some text) = (left.any ≡ true) × (IsStoredAndPlain header_kind header → text ≡ with_line (compact_text (tree header_kind header)) [] ++ bytes_of left.text)

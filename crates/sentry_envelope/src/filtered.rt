@@ -145,8 +145,6 @@ fn under_header<'a>(
         return Ok(FilteredText { text: None, losses });
     }
     let headers = headers_of_rest(headers, keep_headers, id);
-    // It is; asked for what is known of a header that is plain.
-    let _is_plain = headers.is_plain();
     let front = line_of(alloc, &headers)?;
     text.put_before(front)?;
     Ok(FilteredText {
